@@ -1,5 +1,5 @@
 -- A word written as its fields, from the highest bit down, each with its number of bits.
-use Rattle.std.specs.Prelude.{ℕ, ℤ, pos, negsuc, ◌+◌, ◌-◌, ◌*◌, ◌^◌, Bool, true, false, List, [], ◌∷◌}
+use Rattle.std.specs.Prelude.{ℕ, ℤ, pos, negsuc, ◌+◌, ◌-◌, ◌*◌, ◌/◌, ◌%◌, ◌^◌, Bool, true, false, List, [], ◌∷◌}
 use Rattle.b3_base.specs.declared.word.Width.{Width}
 use Rattle.b3_base.specs.declared.word.Width.TheVariants.{W32, W64}
 
@@ -11,6 +11,10 @@ joined high (field ∷ fields) = joined (high * 2 ^ field.1 + field.0) fields
 -- a word by its fields: (value, number of bits)
 abbrev pub word_of_fields : List (ℕ × ℕ) → ℕ
 word_of_fields fields = joined 0 fields
+
+-- bits high to low of a word, as a number: word<high:low>
+abbrev pub field : ℕ → ℕ → ℕ → ℕ
+field word high low = word / 2 ^ low % 2 ^ (high + 1 - low)
 
 -- one bit
 abbrev pub bit : Bool → ℕ

@@ -1,5 +1,5 @@
 -- The ranges of an instruction's fields.
-use Rattle.std.specs.Prelude.{◌≡◌, ◌≢◌, ℕ, ℤ, pos, negsuc, ◌≤ℤ◌, ◌-◌, ◌^◌, ◌<◌, ◌≤◌, Bool, true, false}
+use Rattle.std.specs.Prelude.{◌≢◌, ℕ, pos, negsuc, ◌≤ℤ◌, ◌^◌, ◌<◌, ◌≤◌}
 use Rattle.std.specs.Bool.{OnTrue}
 use Rattle.b3_base.specs.declared.word.Width.{Width}
 use Rattle.b3_base.specs.declared.word.Width.TheVariants.{W32, W64}

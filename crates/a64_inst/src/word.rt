@@ -1,6 +1,7 @@
 //! The word of each instruction.
 
-ghost use Rattle.std.specs.Prelude.{◌≡◌, ◌+◌, ◌*◌, ◌<◌, ◌≤◌, ◌≤ℤ◌, ◌^◌, pos, negsuc};
+ghost use Rattle.std.specs.Prelude.{◌≡◌, ◌+◌, ◌*◌, ◌<◌, ◌≤◌, ◌≤ℤ◌, ◌^◌, pos, negsuc, Some};
+ghost use Rattle.a64_inst.specs.Decode.{decode};
 ghost use Rattle.a64_inst.specs.Fields.{bit, sf, signed7};
 ghost use Rattle.a64_inst.specs.WellFormed.{IsWellFormed};
 ghost use Rattle.a64_inst.specs.Word.{access_opc, access_size, branch_opc, move_opc, pair_index, word};
@@ -8,8 +9,17 @@ ghost use Rattle.a64_inst.specs.Word.{access_opc, access_size, branch_opc, move_
 use crate::inst::{AccessKind, BranchKind, Inst, MoveOp};
 use b3_base::Width;
 
-/// The word of a well-formed instruction (DDI 0487, C6.2). It takes no memory.
+/// The word of a well-formed instruction (DDI 0487, C6.2), from which `decode` gives it back. It
+/// takes no memory.
 pub fn encode(inst: &Inst) -> u32
+    requires { IsWellFormed inst.now }
+    ensures value { result ≡ word inst.now }
+    ensures inverse { decode result ≡ Some inst.now }
+{
+    word_of(inst)
+}
+
+fn word_of(inst: &Inst) -> u32
     requires { IsWellFormed inst.now }
     ensures { result ≡ word inst.now }
 {

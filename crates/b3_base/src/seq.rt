@@ -1,6 +1,6 @@
 //! One list type for the whole project. Contracts see a `Seq` as the list of its items.
 
-ghost use Rattle.std.specs.Prelude.{◌≡◌, ◌<◌, [], ◌∷◌, ◌++◌, length, List, slice_get, slice_set, Some, OnOk, OnErr, IfOk, IsTrue, ◌↔◌};
+ghost use Rattle.std.specs.Prelude.{◌≡◌, ◌<◌, [], ◌∷◌, ◌++◌, length, List, slice_get, slice_set, Some, OnOk, OnErr, IfOk, IsTrue, ◌↔◌, All, ◌^◌};
 
 use std::alloc::{AllocError, AllocFailed, Global};
 use std::marker::Model;
@@ -132,5 +132,36 @@ impl Seq<u8> {
         Ok(Seq {
             items: Vec::from_slice(alloc, text.as_bytes())?,
         })
+    }
+}
+
+impl Seq<u64> {
+    /// Tells that each word is below 2^64. It takes no memory.
+    pub fn ranged(&self)
+        ensures { All (λ word. word < 2 ^ 64) self.now }
+    {
+        words_ranged(self.items.as_slice());
+    }
+}
+
+/// Tells that each word is below 2^64.
+pub(crate) fn words_ranged(words: &[u64])
+    ensures { All (λ word. word < 2 ^ 64) words.now }
+{}
+
+#[cfg(test)]
+mod tests {
+    use super::*;
+    use std::test::Fail;
+
+    #[test]
+    fn grows_and_copies(rt: HostRuntime) -> Result<(), Fail> {
+        let mut name = Name::from_text(rt.alloc(), "fro")?;
+        name.push(b'c')?;
+        let copy = name.copy(rt.alloc())?;
+        name.extend(b"ks")?;
+        assert_eq!(rt; copy.as_slice(), b"froc".as_slice());
+        assert_eq!(rt; name.as_slice(), b"frocks".as_slice());
+        Ok(())
     }
 }

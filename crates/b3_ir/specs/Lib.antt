@@ -1,3 +1,4 @@
 pub mod Fits
 pub mod Procedure
 pub mod Lending
+pub mod Names

@@ -1,0 +1,5 @@
+pub mod Accesses
+pub mod Cuts
+pub mod Found
+pub mod Inverse
+pub mod Rows

@@ -1,0 +1,4 @@
+pub mod Memory
+pub mod Ranged
+pub mod Run
+pub mod Observed

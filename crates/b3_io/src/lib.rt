@@ -1,0 +1,21 @@
+//! Sources and sinks: where bytes come from and where they go, in memory or outside the process,
+//! with each failure counted.
+#![tactic(auto)]
+
+mod fault_count;
+mod sink;
+mod slice_source;
+mod source;
+mod std_streams;
+#[cfg(test)]
+mod tests;
+mod transfer;
+mod vec_sink;
+
+use fault_count::FaultCount;
+pub use sink::Sink;
+pub use slice_source::SliceSource;
+pub use source::{Failed, Source};
+pub use std_streams::{StdSink, StdSource};
+pub use transfer::{ReadAll, WriteFault, read_all, write_all};
+pub use vec_sink::VecSink;
