@@ -1,8 +1,8 @@
 -- Words in memory: how large they are, and accesses of two words.
-use Rattle.std.proofs.Common.{◌≡◌, ℕ, zero, suc, ◌+◌, ◌*◌, ◌%◌, ◌^◌, ◌<◌, ◌≤◌, Bool, true, false, ◌&&◌, Option, Some, None, is_some, IfSome, refl, sym, subst, ap, ◌∙◌, arith, lit<, add-zero, add-suc, pow-add}
+use Rattle.std.proofs.Common.{◌≡◌, ℕ, zero, suc, ◌+◌, ◌*◌, ◌^◌, ◌<◌, ◌≤◌, Bool, true, false, ◌&&◌, Option, Some, None, is_some, IfSome, refl, sym, subst, ap, ◌∙◌, arith, lit<, add-zero, add-suc, pow-add}
 use Rattle.std.proofs.Math.Nat.{mul-le-mul_right}
 use Rattle.b3_base.specs.Memory.{byte_address, with_byte_above, is_mapped, read_word, write_word, AreBytes}
-use Rattle.b3_base.proofs.MemoryLaws.{is_mapped_at, is_mapped_all, write_word_keeps, is_some-read_word}
+use Rattle.b3_base.proofs.MemoryLaws.{is_mapped_at, is_mapped_all, write_word_keeps}
 
 above-small : (n : ℕ) (low byte : Option ℕ) → IfSome low (λ w. w < 2 ^ (8 * n)) → IfSome byte (λ b. b < 256) → IfSome (with_byte_above n low byte) (λ w. w < 2 ^ (8 * suc n))
 above-small n None byte p q = tt

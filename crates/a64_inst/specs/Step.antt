@@ -1,6 +1,6 @@
 -- What one instruction does to the registers, the flags, pc and memory (DDI 0487, C6.2), where
 -- registers and memory are functions.
-use Rattle.std.specs.Prelude.{ℕ, ℤ, pos, negsuc, ◌+◌, ◌-◌, ◌*◌, ◌/◌, ◌%◌, ◌^◌, ◌+ℤ◌, ◌*ℤ◌, Bool, true, false, not, ◌&&◌, nat_eq, nat_lt, nat_le, if◌then◌else◌, Option, Some, None, slice_index}
+use Rattle.std.specs.Prelude.{ℕ, ℤ, pos, negsuc, ◌+◌, ◌-◌, ◌*◌, ◌/◌, ◌%◌, ◌^◌, ◌+ℤ◌, ◌*ℤ◌, Bool, not, nat_eq, nat_lt, nat_le, if◌then◌else◌, Option, Some, None, slice_index}
 use Rattle.std.specs.Int.{cast_signed, cast_unsigned, w32, w64}
 use Rattle.b3_base.specs.Memory.{byte_address, is_mapped, read_word, write_word}
 use Rattle.b3_base.specs.declared.word.Width.{Width}
@@ -8,7 +8,7 @@ use Rattle.b3_base.specs.declared.word.Width.TheVariants.{W32, W64}
 use Rattle.a64_inst.specs.Fields.{bit, bits}
 use Rattle.a64_inst.specs.Word.{access_size, access_opc}
 use Rattle.a64_inst.specs.declared.inst.AccessKind.{AccessKind}
-use Rattle.a64_inst.specs.declared.inst.AccessKind.TheVariants.{Strb, Ldrb, Ldrsb, Strh, Ldrh, Ldrsh, StrW, LdrW, StrX, LdrX}
+use Rattle.a64_inst.specs.declared.inst.AccessKind.TheVariants.{Ldrsb, Ldrsh}
 use Rattle.a64_inst.specs.declared.inst.BranchKind.{BranchKind}
 use Rattle.a64_inst.specs.declared.inst.BranchKind.TheVariants.{Br, Blr, Ret}
 use Rattle.a64_inst.specs.declared.inst.Inst.{Inst}

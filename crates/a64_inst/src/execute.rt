@@ -347,3 +347,6 @@ fn load_pair(state: &mut State, memory: &mut Memory, rt: u8, rt2: u8, units: i32
         _ => Outcome::Fault { address },
     }
 }
+
+#[cfg(test)]
+mod tests;

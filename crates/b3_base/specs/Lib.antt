@@ -1,4 +1,3 @@
 pub mod Memory
 pub mod Ranged
 pub mod Run
-pub mod Observed
