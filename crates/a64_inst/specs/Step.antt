@@ -1,6 +1,6 @@
 -- What one instruction does to the registers, the flags, pc and memory (DDI 0487, C6.2), where
 -- registers and memory are functions.
-use Rattle.std.specs.Prelude.{ℕ, ℤ, pos, negsuc, ◌+◌, ◌-◌, ◌*◌, ◌/◌, ◌%◌, ◌^◌, ◌+ℤ◌, ◌*ℤ◌, Bool, not, nat_eq, nat_lt, nat_le, if◌then◌else◌, Option, Some, None, slice_index}
+use Rattle.std.specs.Prelude.{ℕ, ℤ, pos, negsuc, ◌+◌, ◌-◌, ◌*◌, ◌/◌, ◌%◌, ◌^◌, ◌<◌, ◌+ℤ◌, ◌*ℤ◌, Bool, not, nat_eq, nat_lt, nat_le, if◌then◌else◌, Option, Some, None, slice_index}
 use Rattle.std.specs.Int.{cast_signed, cast_unsigned, w32, w64}
 use Rattle.b3_base.specs.Memory.{byte_address, is_mapped, read_word, write_word}
 use Rattle.b3_base.specs.declared.word.Width.{Width}
@@ -26,6 +26,12 @@ pub record Registers : Type 0 where
   pub sp : ℕ
   pub pc : ℕ
   pub flags : Flags
+
+-- each register, SP and pc is a word of 64 bits
+pub record AreWords (s : Registers) : Type 0 where
+  pub x : (r : ℕ) → s.x r < 2 ^ 64
+  pub sp : s.sp < 2 ^ 64
+  pub pc : s.pc < 2 ^ 64
 
 -- memory: the byte at each address, and none where the address isn't mapped
 abbrev pub Bytes : Type 0

@@ -1,10 +1,10 @@
 //! One step of a processor.
 
-ghost use Rattle.std.specs.Prelude.{◌≡◌, ◌≢◌, ℕ, ◌≤◌, ◌<◌, ◌+◌, ◌-◌, ◌*◌, ◌%◌, ◌^◌, ◌≤ℤ◌, pos, negsuc, ◌⊎◌, if◌then◌else◌, true};
+ghost use Rattle.std.specs.Prelude.{◌≡◌, ◌≤◌, ◌<◌, ◌*◌, ◌^◌, ◌≤ℤ◌, pos, negsuc, ◌⊎◌, if◌then◌else◌, true};
 ghost use Rattle.std.specs.Bool.{OnTrue, OnFalse};
 ghost use Rattle.std.specs.FinMap as map;
 ghost use Rattle.b3_base.specs.Memory.{byte_address, is_mapped, write_word};
-ghost use Rattle.a64_inst.specs.Fields.{bit, bits};
+ghost use Rattle.a64_inst.specs.Fields.{bits};
 ghost use Rattle.a64_inst.specs.Step as spec;
 ghost use Rattle.a64_inst.specs.Step.{registers_of, step_of};
 ghost use Rattle.a64_inst.specs.WellFormed.{IsWellFormed, last_half};

@@ -30,6 +30,18 @@ pub struct State {
     pub flags: Flags,
 }
 
+impl State {
+    ghost use Rattle.a64_inst.specs.Step.{registers_of, AreWords};
+
+    /// Tells that each register, SP and pc is a word of 64 bits.
+    pub fn ranged(&self)
+        ensures { AreWords (registers_of self.now) }
+    {
+        let _places = (self.sp, self.pc);
+        let _first = self.x[0];
+    }
+}
+
 /// How a step ended.
 #[derive(Clone, Copy, Debug, PartialEq, Eq)]
 pub enum Outcome {

@@ -3,6 +3,8 @@
 
 mod opcode;
 mod procedure;
+#[cfg(test)]
+mod tests;
 mod value;
 
 pub use opcode::{Kind, Opcode, Ty};
