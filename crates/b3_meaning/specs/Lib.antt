@@ -1,0 +1,4 @@
+pub mod Access
+pub mod Observed
+pub mod Opcodes
+pub mod Run

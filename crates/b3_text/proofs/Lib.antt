@@ -1,0 +1,9 @@
+pub mod LineLemmas
+pub mod NameLemmas
+pub mod CutLemmas
+pub mod DigitLemmas
+pub mod FormLemmas
+pub mod ValueLemmas
+pub mod BlockLemmas
+pub mod TextLemmas
+pub mod OneLemmas

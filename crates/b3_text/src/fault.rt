@@ -1,0 +1,25 @@
+//! Why a text is refused.
+
+use b3_base::NoMemory;
+
+/// Why a text is refused.
+#[derive(Clone, Copy, Debug, PartialEq, Eq)]
+pub enum TextFault {
+    /// The bytes are no text of a procedure of one block; `line` is the bad line, counted from 1:
+    /// the least line that doesn't fit its place, or one more than the number of lines where the
+    /// text ends too early.
+    NotBuilt { line: u32 },
+    /// An allocation was refused.
+    NoMemory,
+}
+
+impl From<NoMemory> for TextFault {
+    ghost use Rattle.std.specs.Prelude.{◌≡◌};
+    ghost use Rattle.b3_text.specs.declared.fault.TextFault.TheVariants.{NoMemory as no_memory};
+
+    ghost from_gives = { λ _ fault. fault ≡ no_memory };
+
+    fn from(_refusal: NoMemory) -> TextFault {
+        TextFault::NoMemory
+    }
+}

@@ -1,0 +1,4 @@
+pub mod Good
+pub mod Sections
+pub mod Elf
+pub mod Size
