@@ -1,0 +1,5 @@
+pub mod CodeLists
+pub mod WellFormedCode
+pub mod Words
+pub mod GoodObject
+pub mod Endings

@@ -1,0 +1,19 @@
+use Rattle.std.proofs.Common.{refl}
+use Rattle.b3c_core.specs.Tool.{Call}
+use Rattle.b3c_core.proofs.Endings.{ended_after}
+use Rattle.b3c_core.proofs.tool.run_command.Goals as goal
+
+pub returns-in-Ok-clause-ended : goal.returns-in-Ok-clause-ended
+returns-in-Ok-clause-ended g c =
+    let call : Call = record {
+      words = c.args.words.now;
+      left = g.S.Source.left c.args.input.now;
+      left' = g.S.Source.left c.read_all.new.source;
+      input_faults = g.S.Source.faults c.args.input.now;
+      input_faults' = g.S.Source.faults c.read_all.new.source;
+      held = g.K.Sink.held c.args.out.now;
+      held' = g.K.Sink.held c.compile_to.new.out;
+      output_faults = g.K.Sink.faults c.args.out.now;
+      output_faults' = g.K.Sink.faults c.compile_to.new.out;
+    } in
+    ended_after call c.compile_to.result c.in-Ok.bytes (record { all = c.in-Ok.ensures.all; end = c.in-Ok.ensures.end }) (c.compile_to.ensures.compiled call refl refl refl refl)

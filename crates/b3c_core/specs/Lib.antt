@@ -1,0 +1,4 @@
+pub mod Code
+pub mod Tool
+pub mod Object
+pub mod Compiled

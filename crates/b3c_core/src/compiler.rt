@@ -1,0 +1,57 @@
+//! From the bytes of a text to the bytes of an object.
+
+ghost use Rattle.std.specs.Prelude.{◌≡◌, ◌-◌, ◌^◌, ◌<◌, length, IfOk, IfErr};
+ghost use Rattle.elf_obj.specs.Elf.{Holds};
+ghost use Rattle.b3_text.specs.OneBlock.{IsOneBlock};
+ghost use Rattle.b3c_core.specs.Compiled.{IsCause, IsCompiled};
+ghost use Rattle.b3c_core.specs.Object.{object_of};
+
+use crate::object::procedure_object;
+use b3_base::{Bytes, NoMemory};
+use b3_ir::Proc;
+use b3_text::TextFault;
+use std::alloc::Global;
+
+/// Why a text is not compiled.
+#[derive(Clone, Copy, Debug, PartialEq, Eq)]
+pub enum Fault {
+    /// The bytes are no text that is built; `line` is their bad line, counted from 1.
+    NotBuilt { line: u32 },
+    /// Want of memory.
+    NoMemory,
+}
+
+impl From<NoMemory> for Fault {
+    ghost use Rattle.std.specs.Prelude.{◌≡◌};
+    ghost use Rattle.b3c_core.specs.declared.compiler.Fault.TheVariants.{NoMemory as no_memory};
+
+    ghost from_gives = { λ _ fault. fault ≡ no_memory };
+
+    fn from(_refusal: NoMemory) -> Fault {
+        Fault::NoMemory
+    }
+}
+
+/// The bytes of the object of the text. It is refused where the bytes are no text that is built,
+/// and for want of memory.
+pub fn compile(alloc: Global, bytes: &[u8]) -> Result<Bytes, Fault>
+    requires { length bytes.now < 2 ^ 32 - 1 }
+    ensures object { IfOk result (IsCompiled bytes.now) }
+    ensures cause { IfErr result (IsCause bytes.now) }
+{
+    let module = match b3_text::read(alloc, bytes) {
+        Ok(module) => module,
+        Err(TextFault::NotBuilt { line }) => return Err(Fault::NotBuilt { line }),
+        Err(TextFault::NoMemory) => return Err(Fault::NoMemory),
+    };
+    Ok(procedure_file(alloc, module.proc(0))?)
+}
+
+/// The file of the object of a procedure of one block. It is refused for want of memory alone.
+fn procedure_file(alloc: Global, p: &Proc) -> Result<Bytes, NoMemory>
+    requires { IsOneBlock p.now }
+    ensures { IfOk result (λ file. Holds file (object_of p.now)) }
+{
+    let object = procedure_object(alloc, p)?;
+    elf_obj::write(alloc, &object)
+}

@@ -1,0 +1,105 @@
+//! How a call of the tool ends: its status, and its line on the error stream.
+
+ghost use Rattle.std.specs.Prelude.{◌≡◌, ◌++◌, ◌+◌, ◌≤◌, length, take, codes};
+ghost use Rattle.std.specs.Fmt.{decimal};
+ghost use Rattle.b3c_core.specs.Tool.{status_of, line_of, TakesLine};
+
+use b3_base::NoMemory;
+use b3_io::{Sink, WriteFault, write_all};
+use itoa::Buffer;
+
+/// How a call of the tool ends.
+#[derive(Clone, Copy, Debug, PartialEq, Eq)]
+pub enum Ending {
+    /// The command's output was written whole.
+    Written,
+    /// The words match no command.
+    Usage,
+    /// A read of the input failed.
+    ReadFault,
+    /// A write of the output failed.
+    WriteFault,
+    /// The input has more bytes than a text may have.
+    TooLong,
+    /// A form of the text, on this line, is not built yet.
+    NotBuilt { line: u32 },
+    /// Want of memory.
+    NoMemory,
+}
+
+impl From<NoMemory> for Ending {
+    ghost use Rattle.std.specs.Prelude.{◌≡◌};
+    ghost use Rattle.b3c_core.specs.declared.ending.Ending.TheVariants.{NoMemory as no_memory};
+
+    ghost from_gives = { λ _ ending. ending ≡ no_memory };
+
+    fn from(_refusal: NoMemory) -> Ending {
+        Ending::NoMemory
+    }
+}
+
+impl Ending {
+    /// The exit status.
+    pub fn status(self) -> u8
+        ensures { result ≡ status_of self }
+    {
+        match self {
+            Ending::Written => 0,
+            Ending::Usage => 2,
+            Ending::ReadFault => 3,
+            Ending::WriteFault => 4,
+            Ending::TooLong => 7,
+            Ending::NoMemory => 9,
+            Ending::NotBuilt { .. } => 10,
+        }
+    }
+
+    /// Writes the line of this ending. It takes no memory, and stops at a write that fails.
+    pub fn report<E: Sink>(self, err: &mut E)
+        ensures { TakesLine (line_of self) (E.held err.old) (E.held err.new) (E.faults err.old) (E.faults err.new) }
+    {
+        match self {
+            Ending::Written => write_line(err, b""),
+            Ending::Usage => write_line(err, b"b3c: usage\n"),
+            Ending::ReadFault => write_line(err, b"b3c: input: read fault\n"),
+            Ending::WriteFault => write_line(err, b"b3c: write fault\n"),
+            Ending::TooLong => write_line(err, b"b3c: input: limit bytes\n"),
+            Ending::NoMemory => write_line(err, b"b3c: out of memory\n"),
+            Ending::NotBuilt { line } => report_line(err, line),
+        }
+    }
+}
+
+/// Writes one line, or a prefix of it where a write fails.
+fn write_line<E: Sink>(err: &mut E, line: &[u8])
+    ensures { TakesLine line.now (E.held err.old) (E.held err.new) (E.faults err.old) (E.faults err.new) }
+{
+    match write_all(err, line) {
+        Ok(()) => {}
+        Err(WriteFault) => {}
+    }
+}
+
+/// Writes the line that names a line of the text.
+fn report_line<E: Sink>(err: &mut E, line: u32)
+    ensures { TakesLine (codes "b3c: line " ++ decimal line ++ codes ": not built\n") (E.held err.old) (E.held err.new) (E.faults err.old) (E.faults err.new) }
+{
+    let mut buffer = Buffer::new();
+    let digits = buffer.format(line).as_bytes();
+    let mut text = [0; 40];
+    let end = put(&mut text, 0, b"b3c: line ");
+    let end = put(&mut text, end, digits);
+    let end = put(&mut text, end, b": not built\n");
+    write_line(err, &text[..end]);
+}
+
+/// Puts `piece` at `at` and gives the place after it.
+fn put(text: &mut [u8], at: usize, piece: &[u8]) -> usize
+    requires { at + length piece.now ≤ length text.old }
+    ensures end { result ≡ at + length piece.now }
+    ensures text { take result text.new ≡ take at text.old ++ piece.now }
+{
+    let end = at + piece.len();
+    text[at..end].copy_from_slice(piece);
+    end
+}
