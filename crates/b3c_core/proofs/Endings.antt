@@ -1,15 +1,13 @@
 -- What has come about at an ending, put together and taken apart.
-use Rattle.std.proofs.Common.{◌≡◌, ◌≢◌, ℕ, ◌+◌, ◌<◌, ◌≤◌, ◌⊎◌, inl, inr, List, [], ◌∷◌, ◌++◌, length, Option, Some, None, refl, sym, ap, ◌∙◌, subst, arith, length-append}
-use Rattle.std.specs.Prelude.{IfSome}
-use Rattle.std.specs.Io.KnownBytes.{Consumes}
+use Rattle.std.proofs.Common.{◌≡◌, ℕ, ◌<◌, ◌≤◌, ◌⊎◌, inl, inr, List, length, Option, Some, None, refl, sym, ap, ◌∙◌, subst, arith, length-append}
 use Rattle.b3_io.specs.Faults.{Rose}
 use Rattle.b3_io.specs.Taken.{Takes}
 use Rattle.b3_ir.specs.Procedure.{Procedure}
 use Rattle.b3_text.specs.Texts.{Spells}
 use Rattle.b3c_core.specs.declared.ending.Ending.{Ending}
 use Rattle.b3c_core.specs.declared.ending.Ending.TheVariants.{Written, Usage, ReadFault, WriteFault, TooLong, NotBuilt, NoMemory}
-use Rattle.b3c_core.specs.Compiled.{ReadsWhole, IsRefused}
-use Rattle.b3c_core.specs.Tool.{Call, HasCompiled, HasRead, HasEnded, compile_words, status_of, text_limit}
+use Rattle.b3c_core.specs.Compiled.{ReadsWhole}
+use Rattle.b3c_core.specs.Tool.{Call, HasCompiled, HasEnded, compile_words, status_of, text_limit}
 
 -- an ending that follows once the input was read
 pub ended_after : (call : Call) (ending : Ending) (text : List ℕ) → ReadsWhole call.left call.left' text → HasCompiled text call ending → HasEnded call ending

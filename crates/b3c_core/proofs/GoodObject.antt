@@ -1,5 +1,5 @@
 -- The object of a procedure of one block is good.
-use Rattle.std.proofs.Common.{◌≡◌, ◌≢◌, ℕ, zero, suc, ◌+◌, ◌-◌, ◌*◌, ◌/◌, ◌%◌, ◌^◌, ◌<◌, ◌≤◌, List, [], ◌∷◌, ◌++◌, length, map, refl, sym, ap, ◌∙◌, subst, arith, rules, length-append}
+use Rattle.std.proofs.Common.{◌≡◌, ◌≢◌, ℕ, zero, suc, ◌+◌, ◌^◌, ◌<◌, ◌≤◌, List, [], ◌∷◌, length, refl, sym, ap, ◌∙◌, subst, arith}
 use Rattle.std.specs.Prelude.{All, AllPairs, Some, slice_get}
 use Rattle.b3_text.specs.Texts.{Spells}
 use Rattle.elf_obj.specs.Elf.{Holds}
@@ -9,11 +9,10 @@ use Rattle.std.proofs.lemmas.List.{length-map}
 use Rattle.b3_ir.specs.Procedure.{Procedure, values_of}
 use Rattle.b3_ir.specs.Names.{IsName}
 use Rattle.b3_text.specs.OneBlock.{IsOneBlock}
-use Rattle.exit_table.specs.declared.tables.FrameRow.{FrameRow}
-use Rattle.exit_table.specs.Good.{IsGoodFrame, IsGoodTables, AreDisjoint}
-use Rattle.elf_obj.specs.Good.{IsGood, names_of, sizes_of}
+use Rattle.exit_table.specs.Good.{IsGoodFrame}
+use Rattle.elf_obj.specs.Good.{IsGood}
 use Rattle.a64_inst.specs.Word.{word}
-use Rattle.b3c_core.specs.Code.{prologue, values_code, places_of, places_bytes, frame_bytes, code_of}
+use Rattle.b3c_core.specs.Code.{values_code, places_of, code_of}
 use Rattle.b3c_core.specs.Object.{words_of, frame_of, object_of}
 use Rattle.b3c_core.proofs.WellFormedCode.{code_short}
 

@@ -1,9 +1,7 @@
 -- Each instruction of the code of a procedure has its fields in range.
-use Rattle.std.proofs.Common.{◌≡◌, ℕ, zero, suc, pos, negsuc, ◌+◌, ◌-◌, ◌*◌, ◌/◌, ◌%◌, ◌^◌, ◌<◌, ◌≤◌, ◌≤ℤ◌, Bool, true, false, List, [], ◌∷◌, ◌++◌, length, refl, sym, subst, arith, rules, lit≤, length-append}
+use Rattle.std.proofs.Common.{◌≡◌, ℕ, zero, suc, ◌+◌, ◌*◌, ◌^◌, ◌<◌, ◌≤◌, List, [], ◌∷◌, ◌++◌, length, refl, sym, subst, arith, rules, lit≤, length-append}
 use Rattle.std.specs.Prelude.{All, Some, slice_get}
 use Rattle.std.specs.List.{AllByRecursion}
-use Rattle.std.proofs.lemmas.List.Elements.{All-append, All-nil}
-use Rattle.std.proofs.lemmas.Option.{slice_get_within}
 use Rattle.b3_ir.specs.Procedure.{Procedure, values_of}
 use Rattle.b3_ir.specs.declared.opcode.Opcode.{Opcode}
 use Rattle.b3_ir.specs.declared.opcode.Opcode.TheVariants.{Const64, ArgumentReg, Add, Return}
@@ -11,12 +9,12 @@ use Rattle.b3_ir.specs.declared.opcode.Ty.{Ty}
 use Rattle.b3_ir.specs.declared.value.Body.{Body}
 use Rattle.b3_ir.specs.declared.value.Body.TheVariants.{Constant, Argument}
 use Rattle.b3_ir.specs.declared.value.Value.{Value}
-use Rattle.b3_text.specs.OneBlock.{IsFormOf, IsValueAt, IsBlock, IsOneBlock}
+use Rattle.b3_text.specs.OneBlock.{IsFormOf, IsValueAt, IsOneBlock}
 use Rattle.a64_inst.specs.declared.inst.Inst.{Inst}
 use Rattle.a64_inst.specs.declared.inst.MoveOp.{MoveOp}
 use Rattle.a64_inst.specs.declared.inst.MoveOp.TheVariants.{Movz, Movk}
 use Rattle.a64_inst.specs.WellFormed.{IsWellFormed}
-use Rattle.b3c_core.specs.Code.{places_bytes, store_to, load_from, adjust, prologue, epilogue, half_word, move_half, constant_code, sum_code, code_for, value_code, values_code, places_of, code_of}
+use Rattle.b3c_core.specs.Code.{store_to, load_from, prologue, epilogue, move_half, constant_code, sum_code, code_for, value_code, values_code, places_of, code_of}
 
 -- each instruction of a list
 abbrev Fine : List Inst → Type 0

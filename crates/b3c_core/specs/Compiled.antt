@@ -1,5 +1,5 @@
 -- What compile promises of its answer, and what the tool promises of its ends.
-use Rattle.std.specs.Prelude.{◌≡◌, ◌≢◌, ℕ, ◌<◌, ◌≤◌, ◌⊎◌, List, [], ◌∷◌, length, take, Option, Some, IfSome}
+use Rattle.std.specs.Prelude.{◌≡◌, ℕ, ◌<◌, List, [], ◌∷◌, length, take, Option, Some, IfSome}
 use Rattle.std.specs.Io.KnownBytes.{Appends}
 use Rattle.b3_io.specs.Faults.{Rose}
 use Rattle.b3_ir.specs.Procedure.{Procedure}

@@ -1,5 +1,5 @@
 -- The object of a procedure of one block.
-use Rattle.std.specs.Prelude.{◌≡◌, ℕ, ◌*◌, List, [], ◌∷◌, length, map}
+use Rattle.std.specs.Prelude.{ℕ, ◌*◌, List, [], ◌∷◌, length, map}
 use Rattle.b3_ir.specs.Procedure.{Procedure}
 use Rattle.stackmap.specs.declared.site.Returns.TheVariants.{W64}
 use Rattle.exit_table.specs.declared.tables.FrameRow.{FrameRow}

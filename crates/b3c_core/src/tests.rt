@@ -37,11 +37,13 @@ fn an_object_is_written(rt: HostRuntime) -> Result<(), Fail> {
     );
     assert_eq!(rt; status, 0);
     assert_eq!(rt; err.bytes(), b"".as_slice());
-    assert_eq!(rt; out.bytes().get(18..20), Some(b"\xb7\x00".as_slice()));
-    // stp x29, x30, [sp, #-16]!; mov x29, sp; sub sp, sp, #32
+    // e_machine 183; then stp x29, x30, [sp, #-16]!; mov x29, sp; sub sp, sp, #32
+    let machine = out.bytes().get(18..20).ok_or("too short")?;
+    assert_eq!(rt; machine, b"\xb7\x00".as_slice());
+    let prologue = out.bytes().get(64..76).ok_or("too short")?;
     assert_eq!(rt;
-        out.bytes().get(64..76),
-        Some(b"\xfd\x7b\xbf\xa9\xfd\x03\x00\x91\xff\x83\x00\xd1".as_slice())
+        prologue,
+        b"\xfd\x7b\xbf\xa9\xfd\x03\x00\x91\xff\x83\x00\xd1".as_slice()
     );
     Ok(())
 }

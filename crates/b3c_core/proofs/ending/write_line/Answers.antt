@@ -1,5 +1,4 @@
-use Rattle.std.proofs.Common.{length, sym, subst, arith, List, ℕ}
-use Rattle.std.specs.Io.KnownBytes.{Appends}
+use Rattle.std.proofs.Common.{length, arith}
 use Rattle.std.proofs.Math.Seq.{take-length}
 use Rattle.b3c_core.proofs.ending.write_line.Goals as goal
 

@@ -1,4 +1,4 @@
-use Rattle.std.proofs.Common.{◌≡◌, ap, ◌∙◌, sym, List, ℕ, [], ◌∷◌, get_or}
+use Rattle.std.proofs.Common.{◌≡◌, ap, ◌∙◌, sym, [], ◌∷◌, get_or}
 use Rattle.b3c_core.proofs.Words.{one_word}
 use Rattle.b3c_core.proofs.tool.is_compile.Goals as goal
 

@@ -1,0 +1,4 @@
+pub mod Merging
+pub mod Counting
+pub mod Sets
+pub mod RowSets

@@ -1,0 +1,6 @@
+pub mod Chains
+pub mod Layout
+pub mod Lends
+pub mod ChunkLends
+pub mod NodeLends
+pub mod NodesLends
