@@ -13,7 +13,8 @@ use Rattle.exit_table.specs.Good.{IsGoodFrame}
 use Rattle.elf_obj.specs.Good.{IsGood}
 use Rattle.a64_inst.specs.Word.{word}
 use Rattle.b3c_core.specs.Code.{values_code, places_of, code_of}
-use Rattle.b3c_core.specs.Object.{words_of, frame_of, object_of}
+use Rattle.b3c_core.specs.Object.{words_of, frame_of, object_of, symbol_of}
+use Rattle.b3c_core.proofs.Agreement.{agrees}
 use Rattle.b3c_core.proofs.WellFormedCode.{code_short}
 
 -- a list of one item
@@ -72,8 +73,13 @@ pub file_is_compiled : (text file : List ℕ) (p : Procedure) → Spells text p 
 file_is_compiled text file p spells holds = record {
   procedure = p;
   object = object_of p;
+  symbol = symbol_of p;
+  frame = frame_of p;
   spells = spells;
   holds = holds;
   good = object_good p spells.procedure;
-  names = refl;
+  symbols = refl;
+  frames = refl;
+  name = refl;
+  agrees = agrees p spells.procedure;
 }

@@ -97,6 +97,12 @@ values_short k (v ∷ vs) each =
     let both : length (value_code k v ++ values_code (k + 1) vs) ≡ length (value_code k v) + length (values_code (k + 1) vs) = length-append (value_code k v) (values_code (k + 1) vs) in
     omega arith
 
+-- the code has three instructions, and at most five a value
+pub code_length : (p : Procedure) → IsOneBlock p → length (code_of p) ≤ 3 + 5 * length (values_of p 0)
+code_length p one =
+    let each : (i : ℕ) (v : Value) → slice_get (values_of p 0) i ≡ Some v → IsValueAt (0 + i) v = λ i v e. subst (λ n. IsValueAt n v) (omega arith) (one.block.values i v e) in
+    omega (arith, values_short 0 (values_of p 0) each)
+
 pub code_short : (p : Procedure) → IsOneBlock p → length (code_of p) < 2 ^ 12
 code_short p one =
     let each : (i : ℕ) (v : Value) → slice_get (values_of p 0) i ≡ Some v → IsValueAt (0 + i) v = λ i v e. subst (λ n. IsValueAt n v) (omega arith) (one.block.values i v e) in

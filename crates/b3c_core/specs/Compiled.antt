@@ -5,20 +5,29 @@ use Rattle.b3_io.specs.Faults.{Rose}
 use Rattle.b3_ir.specs.Procedure.{Procedure}
 use Rattle.b3_text.specs.Texts.{Spells, BadLine}
 use Rattle.elf_obj.specs.declared.object.Object.{Object}
+use Rattle.elf_obj.specs.declared.object.Symbol.{Symbol}
+use Rattle.exit_table.specs.declared.tables.FrameRow.{FrameRow}
+use Rattle.a64_run.specs.Agrees.{Agrees}
 use Rattle.elf_obj.specs.Elf.{Holds}
-use Rattle.elf_obj.specs.Good.{IsGood, names_of}
+use Rattle.elf_obj.specs.Good.{IsGood}
 use Rattle.b3c_core.specs.declared.compiler.Fault.{Fault}
 use Rattle.b3c_core.specs.declared.compiler.Fault.TheVariants.{NotBuilt, NoMemory}
 
--- the bytes of a file hold one object, which is good and has the one symbol of the procedure
--- that the text spells
+-- the bytes of a file hold one object, which is good and has one symbol, of the name of the
+-- procedure that the text spells, and one frame; and the code and the frame agree with the
+-- procedure: from each machine start that may begin it, the machine shows the same as the run of B3
 pub record IsCompiled (text file : List ℕ) : Type 0 where
   pub procedure : Procedure
   pub object : Object
+  pub symbol : Symbol
+  pub frame : FrameRow
   pub spells : Spells text procedure
   pub holds : Holds file object
   pub good : IsGood object
-  pub names : names_of object.symbols ≡ procedure.name ∷ []
+  pub symbols : object.symbols ≡ symbol ∷ []
+  pub frames : object.tables.frames ≡ frame ∷ []
+  pub name : symbol.name ≡ procedure.name
+  pub agrees : Agrees procedure object symbol frame
 
 -- the text spells no procedure, and this line is its bad line
 pub record IsRefused (text : List ℕ) (line : ℕ) : Type 0 where

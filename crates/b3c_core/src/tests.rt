@@ -1,8 +1,13 @@
 //! The tool on whole inputs: what it writes, which line it names, and its status at each call of a
 //! stream that fails.
 
+ghost use Rattle.std.specs.Prelude.{All};
+ghost use Rattle.a64_inst.specs.WellFormed.{IsWellFormed};
+
+use crate::code::procedure_code;
 use crate::run_tool;
-use b3_base::{Name, NoMemory, Seq};
+use a64_inst::{Flags, Inst, State, step};
+use b3_base::{Memory, Name, NoMemory, Seq};
 use b3_io::{SliceSource, StdSink, StdSource, VecSink};
 use std::alloc::Global;
 use std::io;
@@ -178,6 +183,52 @@ fn each_failing_call_is_told(rt: HostRuntime) -> Result<(), Fail> {
         assert_eq!(rt; status, 4);
         assert_eq!(rt; err.bytes(), b"b3c: write fault\n".as_slice());
         assert_eq!(rt; writer.held.len(), taken);
+    }
+    Ok(())
+}
+
+/// Executes instructions one after the other.
+fn execute(code: &[Inst], state: &mut State, memory: &mut Memory)
+    requires { All IsWellFormed code.now }
+{
+    for inst in code {
+        let _ = step(state, memory, inst);
+    }
+}
+
+/// What the code of the example leaves in x0, with its frame of 48 bytes at `low`.
+fn returned(alloc: Global, x0: u64, low: u64) -> Result<u64, Fail> {
+    let module = b3_text::read(alloc, ADD_ONE.as_bytes())?;
+    let code = procedure_code(alloc, module.proc(0))?;
+    let mut memory = Memory::new(alloc);
+    memory.map(low, &[0xaa; 48])?;
+    let mut x = [0; 31];
+    x[0] = x0;
+    x[30] = 0x3000_0000;
+    let mut state = State {
+        x,
+        sp: low.wrapping_add(48),
+        pc: 0x4000_0000,
+        flags: Flags {
+            n: false,
+            z: false,
+            c: false,
+            v: false,
+        },
+    };
+    execute(code.as_slice(), &mut state, &mut memory);
+    Ok(state.x[0])
+}
+
+#[test]
+fn the_code_computes_the_example(rt: HostRuntime) -> Result<(), Fail> {
+    for (x0, low, wanted) in [
+        (41, 0x7fff_ffd0, 42),
+        (u64::MAX, 0x7fff_ffd0, 0),
+        (41, 0x1000, 42),
+        (u64::MAX, 0xffff_ffff_ffff_ff00, 0),
+    ] {
+        assert_eq!(rt; returned(rt.alloc(), x0, low)?, wanted);
     }
     Ok(())
 }
