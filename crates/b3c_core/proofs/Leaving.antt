@@ -1,11 +1,11 @@
 -- The machine at the Return of a procedure of one block: four instructions, and the run has
 -- returned with what the B3 run shows.
 use mathlib.Core.Path.{fun_ext}
-use Rattle.std.proofs.Common.{◌≡◌, ℕ, zero, suc, pos, ◌+◌, ◌-◌, ◌*◌, ◌/◌, ◌%◌, ◌^◌, ◌<◌, ◌≤◌, inr, ⊎_elim, true, false, List, [], ◌∷◌, ◌++◌, Some, length, length-append, take, refl, sym, ap, ◌∙◌, subst, arith, rules, nat_eq, eq-eqb}
-use Rattle.std.specs.Prelude.{slice_get, nat_le, nat_lt, ◌&&◌, is_some, if◌then◌else◌, option_map}
+use Rattle.std.proofs.Common.{◌≡◌, ℕ, zero, suc, pos, ◌+◌, ◌-◌, ◌*◌, ◌/◌, ◌%◌, ◌^◌, ◌<◌, ◌≤◌, inr, ⊎_elim, true, false, List, [], ◌∷◌, Some, length, take, refl, sym, ap, ◌∙◌, subst, arith, rules, nat_eq, eq-eqb}
+use Rattle.std.specs.Prelude.{slice_get, nat_le, nat_lt, ◌&&◌, is_some, if◌then◌else◌}
 use Rattle.std.proofs.lemmas.Bool.Decides.{nat_tests}
 use Rattle.std.proofs.lemmas.Bool.{cases_lt, ne_eqb}
-use Rattle.std.proofs.lemmas.Option.{slice_get_within, slice_get-map}
+use Rattle.std.proofs.lemmas.Option.{slice_get_within}
 use Rattle.b3_base.specs.Memory.{byte_address, is_mapped, read_word}
 use Rattle.b3_base.specs.Run.{iterate}
 use Rattle.b3_base.proofs.MemoryLaws.{is_some-read_word, is_mapped_all}
@@ -29,8 +29,9 @@ use Rattle.a64_inst.specs.declared.state.Outcome.TheVariants.{Next}
 use Rattle.a64_run.specs.Placement.{in_frame, visible, entry_memory}
 use Rattle.a64_run.specs.Machine.{Entry, State, Config, Runs, Stops, touched, touches_empty_at, is_ret, has_returned, keeps_registers, machine_step}
 use Rattle.a64_run.proofs.Steps.{step_executes, step_goes_on, touches_none}
-use Rattle.b3c_core.specs.Code.{places_of, frame_bytes, value_code, values_code, code_of, prologue, epilogue, load_from, adjust}
+use Rattle.b3c_core.specs.Code.{places_of, frame_bytes, value_code, values_code, code_of, epilogue, load_from, adjust}
 use Rattle.b3c_core.specs.Object.{words_of, frame_of}
+use Rattle.b3c_core.proofs.CodeAt.{code_at, word_of_code}
 use Rattle.b3c_core.proofs.Related.{Setting, Related, IsKept, entry_of, low_of, place_of}
 
 -- ---- what the four instructions do
@@ -283,41 +284,10 @@ module _ (p : Procedure) (m : MachineStart) (setting : Setting p m) where
       ap (λ c. machine_step (entry_of p m) (machine_step (entry_of p m) (machine_step (entry_of p m) c))) one.step
       ∙ adjust_from j w (k + 1) bs s one.after rel next one.pc w1 (slice_at (words_of p) (k + 2) (k + 1 + 1) _ (omega arith) w2) (slice_at (words_of p) (k + 3) (k + 1 + 2) _ (omega arith) w3)
 
--- ---- the words of a value's code
-behind : (xs ys : List Inst) (n : ℕ) → slice_get (xs ++ ys) (length xs + n) ≡ slice_get ys n
-behind [] ys n = ap (slice_get ys) (omega arith)
-behind (x ∷ xs) ys n =
-    let count : length (x ∷ xs) + n ≡ suc (length xs + n) = omega arith in
-    ap (slice_get (x ∷ xs ++ ys)) count ∙ behind xs ys n
-
-in_front : (xs ys : List Inst) (n : ℕ) (inst : Inst) → slice_get xs n ≡ Some inst → slice_get (xs ++ ys) n ≡ Some inst
-in_front [] ys n inst e = cc
-in_front (x ∷ xs) ys zero inst e = e
-in_front (x ∷ xs) ys (suc n) inst e = in_front xs ys n inst e
-
--- instruction n of the code of value i, in the code of the values
-in_values : (k i : ℕ) (vs : List Value) (v : Value) (n : ℕ) (inst : Inst) → slice_get vs i ≡ Some v → slice_get (value_code (k + i) v) n ≡ Some inst → slice_get (values_code k vs) (length (values_code k (take i vs)) + n) ≡ Some inst
-in_values k i [] v n inst at_i at_n = cc
-in_values k zero (u ∷ vs) v n inst at_i at_n =
-    let same : u ≡ v = cc in
-    let index : length (values_code k (take 0 (u ∷ vs))) + n ≡ n = omega arith in
-    let here : slice_get (value_code k u) n ≡ Some inst = ap (λ (x : Value). slice_get (value_code k x) n) same ∙ ap (λ l. slice_get (value_code l v) n) (omega arith) ∙ at_n in
-    ap (slice_get (values_code k (u ∷ vs))) index ∙ in_front (value_code k u) (values_code (k + 1) vs) n inst here
-in_values k (suc i) (u ∷ vs) v n inst at_i at_n =
-    let number : k + 1 + i ≡ k + suc i = omega arith in
-    let more : slice_get (values_code (k + 1) vs) (length (values_code (k + 1) (take i vs)) + n) ≡ Some inst = in_values (k + 1) i vs v n inst at_i (ap (λ l. slice_get (value_code l v) n) number ∙ at_n) in
-    let index : length (value_code k u ++ values_code (k + 1) (take i vs)) + n ≡ length (value_code k u) + (length (values_code (k + 1) (take i vs)) + n) = omega (arith, length-append (value_code k u) (values_code (k + 1) (take i vs))) in
-    ap (slice_get (value_code k u ++ values_code (k + 1) vs)) index ∙ behind (value_code k u) (values_code (k + 1) vs) (length (values_code (k + 1) (take i vs)) + n) ∙ more
-
 -- its word in the text of a procedure
-pub value_word : (p : Procedure) (j n at : ℕ) (v : Value) (inst : Inst) → slice_get (values_of p 0) j ≡ Some v → slice_get (value_code j v) n ≡ Some inst
+value_word : (p : Procedure) (j n at : ℕ) (v : Value) (inst : Inst) → slice_get (values_of p 0) j ≡ Some v → slice_get (value_code j v) n ≡ Some inst
     → at ≡ 3 + length (values_code 0 (take j (values_of p 0))) + n → slice_get (words_of p) at ≡ Some (word inst)
-value_word p j n at v inst at_j at_n e =
-    let here : slice_get (value_code (0 + j) v) n ≡ Some inst = ap (λ l. slice_get (value_code l v) n) (omega arith) ∙ at_n in
-    let values = in_values 0 j (values_of p 0) v n inst at_j here in
-    let index : at ≡ 3 + (length (values_code 0 (take j (values_of p 0))) + n) = omega arith in
-    let there : slice_get (code_of p) at ≡ Some inst = ap (slice_get (code_of p)) index ∙ behind (prologue (places_of p)) (values_code 0 (values_of p 0)) (length (values_code 0 (take j (values_of p 0))) + n) ∙ values in
-    slice_get-map word (code_of p) at ∙ ap (option_map word) there
+value_word p j n at v inst at_j at_n e = word_of_code (code_of p) at inst (ap (slice_get (code_of p)) e ∙ code_at p j n v inst at_j at_n)
 
 -- the code of a Return
 return_code : (j i : ℕ) (v : Value) → v.kind.opcode ≡ Return → v.children ≡ i ∷ [] → value_code j v ≡ load_from i 0 ∷ epilogue

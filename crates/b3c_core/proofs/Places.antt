@@ -1,35 +1,29 @@
 -- A word moved between a register and the place of a value.
-use Rattle.std.proofs.Common.{◌≡◌, ◌≢◌, ℕ, ◌+◌, ◌-◌, ◌*◌, ◌/◌, ◌%◌, ◌^◌, ◌<◌, ◌≤◌, true, false, Option, Some, length, take, refl, sym, ap, ◌∙◌, subst, arith, nat_eq, ⊎_elim}
-use Rattle.std.specs.Prelude.{slice_get, is_some, if◌then◌else◌}
-use Rattle.std.proofs.lemmas.Bool.{cases_lt}
+use Rattle.std.proofs.Common.{◌≡◌, ◌≢◌, ℕ, ◌+◌, ◌-◌, ◌*◌, ◌/◌, ◌%◌, ◌^◌, ◌<◌, ◌≤◌, true, false, Option, Some, length, refl, sym, ap, ◌∙◌, subst, arith, nat_eq}
+use Rattle.std.specs.Prelude.{slice_get, is_some}
 use Rattle.std.proofs.lemmas.Bool.Decides.{nat_tests}
-use Rattle.std.proofs.lemmas.Option.{slice_get-map, slice_get_within, get_or_from_slice_get}
+use Rattle.std.proofs.lemmas.Option.{slice_get_within}
 use Rattle.b3_base.specs.Memory.{byte_address, is_mapped, read_word, write_word, AreApart}
 use Rattle.b3_base.proofs.WordLaws.{read-write_same, read-write_apart, write_word_other}
 use Rattle.b3_base.proofs.MemoryLaws.{is_mapped_all, write_word_keeps}
-use Rattle.b3_ir.specs.Procedure.{Procedure, values_of}
+use Rattle.b3_ir.specs.Procedure.{Procedure}
 use Rattle.b3_meaning.specs.Observed.{Memory, MachineStart}
-use Rattle.b3_meaning.specs.Run as b3
 use Rattle.a64_inst.specs.Step.{Registers, Stepped, step_of, access, goes_on, put}
-use Rattle.a64_inst.specs.WellFormed.{IsWellFormed}
 use Rattle.a64_inst.specs.Word.{word}
 use Rattle.a64_inst.specs.declared.inst.Inst.{Inst}
 use Rattle.a64_run.specs.Placement.{is_within, in_frame}
 use Rattle.a64_run.specs.Machine.{State, Runs, touched, touches_empty_at, is_ret, machine_step}
 use Rattle.a64_run.proofs.Steps.{step_goes_on, touches_none}
-use Rattle.b3c_core.specs.Code.{store_to, load_from, places_of, code_of, values_code}
+use Rattle.b3c_core.specs.Code.{store_to, load_from, places_of, code_of}
 use Rattle.b3c_core.specs.Object.{words_of, frame_of}
-use Rattle.b3c_core.proofs.WellFormedCode.{code_well_formed}
-use Rattle.b3c_core.proofs.Related.{Setting, HasPlace, IsKept, Related, entry_of, low_of, place_of}
+use Rattle.b3c_core.proofs.CodeAt.{word_of_code}
+use Rattle.b3c_core.proofs.Registers.{inst_well_formed}
+use Rattle.b3c_core.proofs.Related.{Setting, HasPlace, entry_of, low_of, place_of}
 
 -- ---- the words of the code
 -- the word of an instruction of the code
-pub word_there : (p : Procedure) (k : ℕ) (inst : Inst) → slice_get (code_of p) k ≡ Some inst → slice_get (words_of p) k ≡ Some (word inst)
-word_there p k inst there = rw (slice_get-map word (code_of p) k, there) refl
-
-pub inst_well_formed : (p : Procedure) (m : MachineStart) (k : ℕ) (inst : Inst) → Setting p m → slice_get (code_of p) k ≡ Some inst → IsWellFormed inst
-inst_well_formed p m k inst setting there =
-    subst IsWellFormed (get_or_from_slice_get (code_of p) k inst inst there) (code_well_formed p setting.one k inst (slice_get_within (code_of p) k inst there))
+word_there : (p : Procedure) (k : ℕ) (inst : Inst) → slice_get (code_of p) k ≡ Some inst → slice_get (words_of p) k ≡ Some (word inst)
+word_there p k inst there = word_of_code (code_of p) k inst there
 
 -- pc after word k, where a next word stands
 pc_after : (code length_of pc k : ℕ) → code + 4 * length_of ≤ 2 ^ 64 → k + 1 < length_of → pc ≡ code + 4 * k → (pc + 4) % 2 ^ 64 ≡ code + 4 * (k + 1)
@@ -169,46 +163,3 @@ store_outside p m setting memory j w q lt out =
 -- the bytes inside
 pub store_inside : (memory : Memory) (a w q : ℕ) → is_some (memory q) ≡ true → is_some (write_word memory a 8 w q) ≡ true
 store_inside memory a w q some = write_word_keeps memory a 8 w q some
-
--- ---- the relation, one value on
--- the place of an earlier value, in a state whose memory is that after the store
-earlier_place : (p : Procedure) (m : MachineStart) → Setting p m → (bs : b3.State) (s t : State) (i j w : ℕ) → i < j → j < places_of p → t.memory ≡ write_word s.memory (place_of p m j) 8 w → HasPlace p m bs.words s i → HasPlace p m (b3.with_word bs j w).words t i
-earlier_place p m setting bs s t i j w lt lt_j wrote has =
-    let other : nat_eq i j ≡ false = grind (arith, nat_tests) in
-    record {
-      held = has.held;
-      given = ap (λ b. if b then Some w else bs.words i) other ∙ has.given;
-      small = has.small;
-      stands = ap (λ (memory : Memory). read_word memory (place_of p m i) 8) wrote ∙ read-write_apart s.memory (place_of p m i) 8 (place_of p m j) 8 w (places_apart p m setting i j lt lt_j) ∙ has.stands;
-    }
-
-own_place : (p : Procedure) (m : MachineStart) (bs : b3.State) (s t : State) (i j w : ℕ) → i ≡ j → w < 2 ^ 64 → t.memory ≡ write_word s.memory (place_of p m j) 8 w → HasPlace p m (b3.with_word bs j w).words t i
-own_place p m bs s t i j w same small wrote =
-    let own : nat_eq i j ≡ true = grind (arith, nat_tests) in
-    record {
-      held = w;
-      given = ap (λ b. if b then Some w else bs.words i) own;
-      small = small;
-      stands = ap (λ (n : ℕ). read_word t.memory (place_of p m n) 8) same ∙ ap (λ (memory : Memory). read_word memory (place_of p m j) 8) wrote ∙ store_held s.memory (place_of p m j) w small;
-    }
-
--- a state after the code of value j, which stored the value's word in its place and left SP, x29,
--- the kept registers and the events as they were
-pub related_next : (p : Procedure) (m : MachineStart) → Setting p m → (bs : b3.State) (s t : State) (j w : ℕ) → Related p m j bs s → j < places_of p → w < 2 ^ 64
-    → t.registers.pc ≡ m.code + 4 * (3 + length (values_code 0 (take (j + 1) (values_of p 0))))
-    → t.memory ≡ write_word s.memory (place_of p m j) 8 w
-    → t.registers.sp ≡ s.registers.sp → t.registers.x 29 ≡ s.registers.x 29 → ((r : ℕ) → IsKept r → t.registers.x r ≡ s.registers.x r) → t.events ≡ s.events
-    → Related p m (j + 1) (b3.with_word bs j w) t
-related_next p m setting bs s t j w rel lt small at wrote same_sp same_fp same_kept same_events = record {
-  pc = at;
-  sp = same_sp ∙ rel.sp;
-  fp = same_fp ∙ rel.fp;
-  kept = λ r is_kept. same_kept r is_kept ∙ rel.kept r is_kept;
-  places = λ i below. ⊎_elim (λ (lt_i : i < j). earlier_place p m setting bs s t i j w lt_i lt wrote (rel.places i lt_i)) (λ (le : j ≤ i). own_place p m bs s t i j w (omega arith) small wrote) (cases_lt i j);
-  saved_fp = ap (λ (memory : Memory). read_word memory (m.sp - 16) 8) wrote ∙ store_saved p m setting s.memory 16 j w (omega arith) (omega arith) lt ∙ rel.saved_fp;
-  saved_lr = ap (λ (memory : Memory). read_word memory (m.sp - 8) 8) wrote ∙ store_saved p m setting s.memory 8 j w (omega arith) (omega arith) lt ∙ rel.saved_lr;
-  outside = λ q out. ap (λ (memory : Memory). memory q) wrote ∙ store_outside p m setting s.memory j w q lt out ∙ rel.outside q out;
-  inside = λ q in_it. ap (λ (memory : Memory). is_some (memory q)) wrote ∙ store_inside s.memory (place_of p m j) w q (rel.inside q in_it);
-  no_events = same_events ∙ rel.no_events;
-  no_b3_events = rel.no_b3_events;
-}
