@@ -122,7 +122,7 @@ impl Proc {
     /// Adds a slot of `bytes` bytes. It is refused for want of memory alone, and then changes
     /// nothing.
     pub fn add_slot(&mut self, bytes: u32) -> Result<(), NoMemory>
-        requires { length self.old.slots + 2 < 2 ^ 32 - 1 }
+        requires { length self.old.slots < 2 ^ 32 - 2 }
         ensures ok { OnOk result (self.new ≡ record self.old { slots = self.old.slots ++ bytes ∷ [] }) }
         ensures err { OnErr result (self.new ≡ self.old) }
     {
