@@ -1,6 +1,5 @@
 -- Each well-formed instruction is decoded from its word.
-use Rattle.std.proofs.Common.{◌≡◌, ℕ, ℤ, pos, negsuc, ◌≤ℤ◌, ◌^◌, ◌<◌, ◌≤◌, arith, lit<, Bool, true, false, Some}
-use Rattle.std.proofs.lemmas.Int.{ints}
+use Rattle.std.proofs.Common.{◌≡◌, ℕ, ◌^◌, ◌<◌, ◌≤◌, arith, lit<, Bool, true, false, Some}
 use Rattle.b3_base.specs.declared.word.Width.{Width}
 use Rattle.b3_base.specs.declared.word.Width.TheVariants.{W32, W64}
 use Rattle.a64_inst.specs.declared.inst.AccessKind.{AccessKind}
@@ -8,15 +7,16 @@ use Rattle.a64_inst.specs.declared.inst.AccessKind.TheVariants.{Strb, Ldrb, Ldrs
 use Rattle.a64_inst.specs.declared.inst.BranchKind.{BranchKind}
 use Rattle.a64_inst.specs.declared.inst.BranchKind.TheVariants.{Br, Blr, Ret}
 use Rattle.a64_inst.specs.declared.inst.Inst.{Inst}
-use Rattle.a64_inst.specs.declared.inst.Inst.TheVariants.{AddSubImm, AddSubReg, MoveWide, Access, PairSp, BranchReg}
+use Rattle.a64_inst.specs.declared.inst.Inst.TheVariants.{AddSubImm, AddSubReg, MoveWide, Access, PairSp, BranchReg, Branch, BranchZero}
 use Rattle.a64_inst.specs.declared.inst.MoveOp.{MoveOp}
 use Rattle.a64_inst.specs.declared.inst.MoveOp.TheVariants.{Movn, Movz, Movk}
-use Rattle.a64_inst.specs.Fields.{bit, sf, bits, signed7}
+use Rattle.a64_inst.specs.Fields.{bit, sf, bits}
 use Rattle.a64_inst.specs.WellFormed.{last_half, IsWellFormed}
 use Rattle.a64_inst.specs.Word.{fields_of, word, move_opc, branch_opc, access_size, access_opc, pair_index}
 use Rattle.a64_inst.specs.Decode.{decode}
 use Rattle.a64_inst.proofs.Cuts.{split-joined, Fit}
-use Rattle.a64_inst.proofs.Rows.{imm-row, reg-row, move-row, access-row, pair-row, branch-row}
+use Rattle.a64_inst.proofs.Rows.{imm-row, reg-row, move-row, access-row, pair-row, branch_reg-row, branch-row, branch_zero-row}
+use Rattle.a64_inst.proofs.Signed.{twos_complement-fits}
 
 bit-fits : (b : Bool) → bit b < 2 ^ 1
 bit-fits true = lit< tt
@@ -64,10 +64,6 @@ pair_index-fits : (load : Bool) → pair_index load < 2 ^ 3
 pair_index-fits true = lit< tt
 pair_index-fits false = lit< tt
 
-signed7-fits : (z : ℤ) → negsuc 63 ≤ℤ z → z ≤ℤ pos 63 → signed7 z < 2 ^ 7
-signed7-fits (pos n) least most = omega (arith, ints)
-signed7-fits (negsuc n) least most = omega (arith, ints)
-
 reg-fits : (r : ℕ) → r ≤ 31 → r < 2 ^ 5
 reg-fits r h = omega arith
 
@@ -87,8 +83,10 @@ fields-fit (AddSubImm x s f rd rn imm h) wf = (sf-fits x, (bit-fits s, (bit-fits
 fields-fit (AddSubReg x s f rd rn rm shift amount) wf = (sf-fits x, (bit-fits s, (bit-fits f, (lit< tt, (shift-fits shift wf.3, (lit< tt, (reg-fits rm wf.2, (amount-fits x amount wf.4, (reg-fits rn wf.1, (reg-fits rd wf.0, tt))))))))))
 fields-fit (MoveWide x op rd imm hw) wf = (sf-fits x, (move_opc-fits op, (lit< tt, (half-fits x hw wf.2, (wf.1, (reg-fits rd wf.0, tt))))))
 fields-fit (Access kind rt rn units) wf = (access_size-fits kind, (lit< tt, (lit< tt, (lit< tt, (access_opc-fits kind, (wf.2, (reg-fits rn wf.1, (reg-fits rt wf.0, tt))))))))
-fields-fit (PairSp load rt rt2 units) wf = (lit< tt, (lit< tt, (lit< tt, (pair_index-fits load, (bit-fits load, (signed7-fits units wf.2 wf.3, (reg-fits rt2 wf.1, (lit< tt, (reg-fits rt wf.0, tt)))))))))
+fields-fit (PairSp load rt rt2 units) wf = (lit< tt, (lit< tt, (lit< tt, (pair_index-fits load, (bit-fits load, (twos_complement-fits 7 units (lit< tt) wf.3, (reg-fits rt2 wf.1, (lit< tt, (reg-fits rt wf.0, tt)))))))))
 fields-fit (BranchReg kind rn) wf = (lit< tt, (lit< tt, (lit< tt, (branch_opc-fits kind, (lit< tt, (lit< tt, (lit< tt, (lit< tt, (reg-fits rn wf, (lit< tt, tt))))))))))
+fields-fit (Branch offset) wf = (lit< tt, (lit< tt, (twos_complement-fits 26 offset (lit< tt) wf.1, tt)))
+fields-fit (BranchZero x nonzero rt offset) wf = (sf-fits x, (lit< tt, (bit-fits nonzero, (twos_complement-fits 19 offset (lit< tt) wf.2, (reg-fits rt wf.0, tt)))))
 
 -- each well-formed instruction comes back from its word
 pub decode-word : (i : Inst) → IsWellFormed i → decode (word i) ≡ Some i
@@ -103,4 +101,8 @@ decode-word (Access kind rt rn units) wf =
 decode-word (PairSp load rt rt2 units) wf =
     pair-row (word (PairSp load rt rt2 units)) load rt rt2 units wf.2 wf.3 wf.4 (split-joined 0 (fields_of (PairSp load rt rt2 units)) (fields-fit (PairSp load rt rt2 units) wf))
 decode-word (BranchReg kind rn) wf =
-    branch-row (word (BranchReg kind rn)) kind rn (split-joined 0 (fields_of (BranchReg kind rn)) (fields-fit (BranchReg kind rn) wf))
+    branch_reg-row (word (BranchReg kind rn)) kind rn (split-joined 0 (fields_of (BranchReg kind rn)) (fields-fit (BranchReg kind rn) wf))
+decode-word (Branch offset) wf =
+    branch-row (word (Branch offset)) offset wf.0 wf.1 (split-joined 0 (fields_of (Branch offset)) (fields-fit (Branch offset) wf))
+decode-word (BranchZero x nonzero rt offset) wf =
+    branch_zero-row (word (BranchZero x nonzero rt offset)) x nonzero rt offset wf.1 wf.2 (split-joined 0 (fields_of (BranchZero x nonzero rt offset)) (fields-fit (BranchZero x nonzero rt offset) wf))

@@ -4,3 +4,4 @@ pub mod Found
 pub mod Inverse
 pub mod Ranged
 pub mod Rows
+pub mod Signed

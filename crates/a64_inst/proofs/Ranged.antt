@@ -12,13 +12,13 @@ use Rattle.a64_inst.specs.declared.inst.AccessKind.TheVariants.{Strb, Ldrb, Ldrs
 use Rattle.a64_inst.specs.declared.inst.BranchKind.{BranchKind}
 use Rattle.a64_inst.specs.declared.inst.BranchKind.TheVariants.{Br, Blr, Ret}
 use Rattle.a64_inst.specs.declared.inst.Inst.{Inst}
-use Rattle.a64_inst.specs.declared.inst.Inst.TheVariants.{AddSubImm, AddSubReg, MoveWide, Access, PairSp, BranchReg}
+use Rattle.a64_inst.specs.declared.inst.Inst.TheVariants.{AddSubImm, AddSubReg, MoveWide, Access, PairSp, BranchReg, Branch, BranchZero}
 use Rattle.a64_inst.specs.declared.inst.MoveOp.{MoveOp}
 use Rattle.a64_inst.specs.declared.inst.MoveOp.TheVariants.{Movn, Movz, Movk}
 use Rattle.a64_inst.specs.declared.state.Flags.{Flags}
 use Rattle.a64_inst.specs.Fields.{bit, bits}
 use Rattle.a64_inst.specs.WellFormed.{last_half, IsWellFormed}
-use Rattle.a64_inst.specs.Step.{Registers, Bytes, Stepped, AreWords, read, read_or_sp, put, write, write_or_sp, advance, low_bits, complement, sum_of, flags_of_sum, shifted, operand, with_flags, add_sub_imm, add_sub_reg, with_half, moved, move_wide, goes_on, faults, access_bytes, is_store, loaded, load, store, access_address, access, moved_sp, store_pair, load_two, load_pair, branch_reg, step_of}
+use Rattle.a64_inst.specs.Step.{Registers, Bytes, Stepped, AreWords, read, read_or_sp, put, write, write_or_sp, advance, low_bits, complement, sum_of, flags_of_sum, shifted, operand, with_flags, add_sub_imm, add_sub_reg, with_half, moved, move_wide, goes_on, faults, access_bytes, is_store, loaded, load, store, access_address, access, moved_sp, store_pair, load_two, load_pair, branch_reg, branch_target, is_taken, branch, branch_zero, step_of}
 
 -- a step leaves words and bytes
 pub record LeavesWords (t : Stepped) : Type 0 where
@@ -195,6 +195,21 @@ branch_reg-LeavesWords Blr rn s m h bytes = record {
 }
 branch_reg-LeavesWords Ret rn s m h bytes = record { words = with_pc-AreWords s (read s rn) h (read-small s rn h); bytes = bytes }
 
+branch-LeavesWords : (offset : ℤ) (s : Registers) (m : Bytes) → AreWords s → AreBytes m → LeavesWords (branch offset s m)
+unfolding branch
+branch-LeavesWords offset s m h bytes = record {
+  words = with_pc-AreWords s (branch_target s.pc offset) h (wrapped-small (s.pc + cast_unsigned w64 (pos 4 *ℤ offset)));
+  bytes = bytes;
+}
+
+branch_zero-LeavesWords : (width : Width) (nonzero : Bool) (rt : ℕ) (offset : ℤ) (s : Registers) (m : Bytes) → AreWords s → AreBytes m → LeavesWords (branch_zero width nonzero rt offset s m)
+unfolding branch_zero
+branch_zero-LeavesWords width nonzero rt offset s m h bytes =
+    elim (is_taken nonzero (low_bits width (read s rt))) as (λ b. LeavesWords (if b then branch offset s m else goes_on s m)) [
+      | true ↦ branch-LeavesWords offset s m h bytes
+      | false ↦ goes_on-LeavesWords s m h bytes
+    ]
+
 -- a step by a well-formed instruction leaves words in the registers and bytes in memory
 pub step_of-LeavesWords : (i : Inst) (s : Registers) (m : Bytes) → IsWellFormed i → AreWords s → AreBytes m → LeavesWords (step_of i s m)
 unfolding step_of
@@ -205,3 +220,5 @@ step_of-LeavesWords (Access kind rt rn units) s m wf h bytes = access-LeavesWord
 step_of-LeavesWords (PairSp true rt rt2 units) s m wf h bytes = load_pair-LeavesWords rt rt2 units s m h bytes
 step_of-LeavesWords (PairSp false rt rt2 units) s m wf h bytes = store_pair-LeavesWords rt rt2 units s m h bytes
 step_of-LeavesWords (BranchReg kind rn) s m wf h bytes = branch_reg-LeavesWords kind rn s m h bytes
+step_of-LeavesWords (Branch offset) s m wf h bytes = branch-LeavesWords offset s m h bytes
+step_of-LeavesWords (BranchZero width nonzero rt offset) s m wf h bytes = branch_zero-LeavesWords width nonzero rt offset s m h bytes

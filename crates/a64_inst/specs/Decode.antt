@@ -1,6 +1,6 @@
 -- Which instruction a word is (DDI 0487, C4.1): its group by bits 28 to 25, its row by the fixed
 -- bits, and then the row's fields. A word that no row has is none.
-use Rattle.std.specs.Prelude.{ℕ, ℤ, pos, negsuc, ◌-◌, Bool, ◌&&◌, ◌||◌, not, Option, Some, None, nat_eq, nat_lt, nat_le, if◌then◌else◌}
+use Rattle.std.specs.Prelude.{ℕ, ℤ, pos, negsuc, ◌-◌, ◌/◌, ◌^◌, Bool, ◌&&◌, ◌||◌, not, Option, Some, None, nat_eq, nat_lt, nat_le, if◌then◌else◌}
 use Rattle.b3_base.specs.declared.word.Width.{Width}
 use Rattle.b3_base.specs.declared.word.Width.TheVariants.{W32, W64}
 use Rattle.a64_inst.specs.Fields.{bits, field}
@@ -11,7 +11,7 @@ use Rattle.a64_inst.specs.declared.inst.AccessKind.TheVariants.{Strb, Ldrb, Ldrs
 use Rattle.a64_inst.specs.declared.inst.BranchKind.{BranchKind}
 use Rattle.a64_inst.specs.declared.inst.BranchKind.TheVariants.{Br, Blr, Ret}
 use Rattle.a64_inst.specs.declared.inst.Inst.{Inst}
-use Rattle.a64_inst.specs.declared.inst.Inst.TheVariants.{AddSubImm, AddSubReg, MoveWide, Access, PairSp, BranchReg}
+use Rattle.a64_inst.specs.declared.inst.Inst.TheVariants.{AddSubImm, AddSubReg, MoveWide, Access, PairSp, BranchReg, Branch, BranchZero}
 use Rattle.a64_inst.specs.declared.inst.MoveOp.{MoveOp}
 use Rattle.a64_inst.specs.declared.inst.MoveOp.TheVariants.{Movn, Movz, Movk}
 
@@ -23,9 +23,9 @@ is_set b = nat_eq b 1
 abbrev pub width_of : ℕ → Width
 width_of b = if nat_eq b 1 then W64 else W32
 
--- the signed number of seven bits that two's complement reads
-abbrev pub signed_of_7 : ℕ → ℤ
-signed_of_7 n = if nat_lt n 64 then pos n else negsuc (127 - n)
+-- the signed number that a field of n bits reads, in two's complement
+abbrev pub signed_of : ℕ → ℕ → ℤ
+signed_of n bits = if nat_lt bits (2 ^ (n - 1)) then pos bits else negsuc (2 ^ n - 1 - bits)
 
 -- MOVN, MOVZ, MOVK by opc
 abbrev pub move_op : ℕ → Option MoveOp
@@ -78,7 +78,7 @@ access w = when (nat_eq (field w 29 27) 0b111 && nat_eq (field w 26 26) 0 && nat
 
 -- 10 101 0 index L imm7 Rt2 11111 Rt: a load has two registers
 abbrev pub pair_sp : ℕ → Option Inst
-pair_sp w = when (nat_eq (field w 31 30) 0b10 && nat_eq (field w 29 27) 0b101 && nat_eq (field w 26 26) 0 && nat_eq (field w 25 23) (pair_index (is_set (field w 22 22))) && nat_eq (field w 9 5) 31 && (not (is_set (field w 22 22)) || not (nat_eq (field w 4 0) (field w 14 10)))) (Some (PairSp (is_set (field w 22 22)) (field w 4 0) (field w 14 10) (signed_of_7 (field w 21 15))))
+pair_sp w = when (nat_eq (field w 31 30) 0b10 && nat_eq (field w 29 27) 0b101 && nat_eq (field w 26 26) 0 && nat_eq (field w 25 23) (pair_index (is_set (field w 22 22))) && nat_eq (field w 9 5) 31 && (not (is_set (field w 22 22)) || not (nat_eq (field w 4 0) (field w 14 10)))) (Some (PairSp (is_set (field w 22 22)) (field w 4 0) (field w 14 10) (signed_of 7 (field w 21 15))))
 
 -- 1101011 0 0 opc 11111 0000 0 0 Rn 00000
 abbrev pub is_branch_reg : ℕ → Bool
@@ -87,15 +87,33 @@ is_branch_reg w = nat_eq (field w 31 25) 0b1101011 && nat_eq (field w 24 24) 0 &
 abbrev pub branch_reg : ℕ → Option Inst
 branch_reg w = when (is_branch_reg w) (of_op (branch_kind (field w 22 21)) (λ kind. BranchReg kind (field w 9 5)))
 
--- the rows of a group, by bits 28 to 25
-abbrev pub decode_group : ℕ → ℕ → Option Inst
-decode_group group w =
+-- 0 00101 imm26
+abbrev pub branch : ℕ → Option Inst
+branch w = when (nat_eq (field w 31 31) 0 && nat_eq (field w 30 26) 0b00101) (Some (Branch (signed_of 26 (field w 25 0))))
+
+-- sf 011010 op imm19 Rt
+abbrev pub branch_zero : ℕ → Option Inst
+branch_zero w = when (nat_eq (field w 30 25) 0b011010) (Some (BranchZero (width_of (field w 31 31)) (is_set (field w 24 24)) (field w 4 0) (signed_of 19 (field w 23 5))))
+
+-- the rows of the branches, by bits 30 and 29
+abbrev pub branches : ℕ → ℕ → Option Inst
+branches op w =
+    if nat_eq op 0b00 then branch w else
+    if nat_eq op 0b01 then branch_zero w else
+    if nat_eq op 0b10 then branch_reg w else None
+
+-- the rows that move, add, load and store, by bits 28 to 25
+abbrev pub data_rows : ℕ → ℕ → Option Inst
+data_rows group w =
     if nat_eq group 0b1000 then add_sub_imm w else
     if nat_eq group 0b1001 then move_wide w else
     if nat_eq group 0b0101 then add_sub_reg w else
     if nat_eq group 0b1100 then access w else
-    if nat_eq group 0b0100 then pair_sp w else
-    if nat_eq group 0b1011 then branch_reg w else None
+    if nat_eq group 0b0100 then pair_sp w else None
+
+-- the rows of a group, by bits 28 to 25: the groups of the branches are 1010 and 1011
+abbrev pub decode_group : ℕ → ℕ → Option Inst
+decode_group group w = if nat_eq (group / 2) 0b101 then branches (field w 30 29) w else data_rows group w
 
 -- the instruction that a word of 32 bits is
 unfoldable pub decode : ℕ → Option Inst

@@ -31,7 +31,7 @@ abbrev pub bits : Width → ℕ
 bits W32 = 32
 bits W64 = 64
 
--- a signed number of seven bits, in two's complement
-abbrev pub signed7 : ℤ → ℕ
-signed7 (pos n) = n
-signed7 (negsuc n) = 127 - n
+-- a signed number in a field of n bits, in two's complement
+abbrev pub twos_complement : ℕ → ℤ → ℕ
+twos_complement n (pos k) = k
+twos_complement n (negsuc k) = 2 ^ n - 1 - k

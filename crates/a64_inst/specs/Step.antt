@@ -12,7 +12,7 @@ use Rattle.a64_inst.specs.declared.inst.AccessKind.TheVariants.{Ldrsb, Ldrsh}
 use Rattle.a64_inst.specs.declared.inst.BranchKind.{BranchKind}
 use Rattle.a64_inst.specs.declared.inst.BranchKind.TheVariants.{Br, Blr, Ret}
 use Rattle.a64_inst.specs.declared.inst.Inst.{Inst}
-use Rattle.a64_inst.specs.declared.inst.Inst.TheVariants.{AddSubImm, AddSubReg, MoveWide, Access, PairSp, BranchReg}
+use Rattle.a64_inst.specs.declared.inst.Inst.TheVariants.{AddSubImm, AddSubReg, MoveWide, Access, PairSp, BranchReg, Branch, BranchZero}
 use Rattle.a64_inst.specs.declared.inst.MoveOp.{MoveOp}
 use Rattle.a64_inst.specs.declared.inst.MoveOp.TheVariants.{Movn, Movz, Movk}
 use Rattle.a64_inst.specs.declared.state.Flags.{Flags}
@@ -231,6 +231,22 @@ branch_reg Br rn s m = record { registers = record s { pc = read s rn }; memory 
 branch_reg Blr rn s m = record { registers = record (put s 30 ((s.pc + 4) % 2 ^ 64)) { pc = read s rn }; memory = m; outcome = Linked (read s rn) }
 branch_reg Ret rn s m = record { registers = record s { pc = read s rn }; memory = m; outcome = Next }
 
+-- the address of the instruction so many instructions on
+abbrev pub branch_target : ℕ → ℤ → ℕ
+branch_target pc offset = (pc + cast_unsigned w64 (pos 4 *ℤ offset)) % 2 ^ 64
+
+-- whether CBZ or CBNZ is taken at a word
+abbrev pub is_taken : Bool → ℕ → Bool
+is_taken nonzero word = if nonzero then not (nat_eq word 0) else nat_eq word 0
+
+-- B
+unfoldable pub branch : ℤ → Registers → Bytes → Stepped
+branch offset s m = record { registers = record s { pc = branch_target s.pc offset }; memory = m; outcome = Next }
+
+-- CBZ, CBNZ
+unfoldable pub branch_zero : Width → Bool → ℕ → ℤ → Registers → Bytes → Stepped
+branch_zero width nonzero rt offset s m = if is_taken nonzero (low_bits width (read s rt)) then branch offset s m else goes_on s m
+
 -- what an instruction does
 unfoldable pub step_of : Inst → Registers → Bytes → Stepped
 step_of (AddSubImm width sub flags rd rn imm12 high) s m = goes_on (add_sub_imm width sub flags rd rn imm12 high s) m
@@ -239,3 +255,5 @@ step_of (MoveWide width op rd imm16 hw) s m = goes_on (move_wide width op rd imm
 step_of (Access kind rt rn units) s m = access kind rt rn units s m
 step_of (PairSp load rt rt2 units) s m = if load then load_pair rt rt2 units s m else store_pair rt rt2 units s m
 step_of (BranchReg kind rn) s m = branch_reg kind rn s m
+step_of (Branch offset) s m = branch offset s m
+step_of (BranchZero width nonzero rt offset) s m = branch_zero width nonzero rt offset s m

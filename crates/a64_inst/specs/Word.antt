@@ -1,12 +1,12 @@
 -- Which word an instruction has (DDI 0487, C4.1 and C6.2), field by field from bit 31 down.
 use Rattle.std.specs.Prelude.{ℕ, Bool, true, false, List, [], ◌∷◌}
-use Rattle.a64_inst.specs.Fields.{word_of_fields, bit, sf, signed7}
+use Rattle.a64_inst.specs.Fields.{word_of_fields, bit, sf, twos_complement}
 use Rattle.a64_inst.specs.declared.inst.AccessKind.{AccessKind}
 use Rattle.a64_inst.specs.declared.inst.AccessKind.TheVariants.{Strb, Ldrb, Ldrsb, Strh, Ldrh, Ldrsh, StrW, LdrW, StrX, LdrX}
 use Rattle.a64_inst.specs.declared.inst.BranchKind.{BranchKind}
 use Rattle.a64_inst.specs.declared.inst.BranchKind.TheVariants.{Br, Blr, Ret}
 use Rattle.a64_inst.specs.declared.inst.Inst.{Inst}
-use Rattle.a64_inst.specs.declared.inst.Inst.TheVariants.{AddSubImm, AddSubReg, MoveWide, Access, PairSp, BranchReg}
+use Rattle.a64_inst.specs.declared.inst.Inst.TheVariants.{AddSubImm, AddSubReg, MoveWide, Access, PairSp, BranchReg, Branch, BranchZero}
 use Rattle.a64_inst.specs.declared.inst.MoveOp.{MoveOp}
 use Rattle.a64_inst.specs.declared.inst.MoveOp.TheVariants.{Movn, Movz, Movk}
 
@@ -63,9 +63,13 @@ fields_of (MoveWide width op rd imm16 hw) = (sf width, 1) ∷ (move_opc op, 2) �
 -- size 111 0 01 opc imm12 Rn Rt
 fields_of (Access kind rt rn units) = (access_size kind, 2) ∷ (0b111, 3) ∷ (0, 1) ∷ (0b01, 2) ∷ (access_opc kind, 2) ∷ (units, 12) ∷ (rn, 5) ∷ (rt, 5) ∷ []
 -- 10 101 0 index L imm7 Rt2 11111 Rt
-fields_of (PairSp load rt rt2 units) = (0b10, 2) ∷ (0b101, 3) ∷ (0, 1) ∷ (pair_index load, 3) ∷ (bit load, 1) ∷ (signed7 units, 7) ∷ (rt2, 5) ∷ (31, 5) ∷ (rt, 5) ∷ []
+fields_of (PairSp load rt rt2 units) = (0b10, 2) ∷ (0b101, 3) ∷ (0, 1) ∷ (pair_index load, 3) ∷ (bit load, 1) ∷ (twos_complement 7 units, 7) ∷ (rt2, 5) ∷ (31, 5) ∷ (rt, 5) ∷ []
 -- 1101011 0 0 opc 11111 0000 0 0 Rn 00000
 fields_of (BranchReg kind rn) = (0b1101011, 7) ∷ (0, 1) ∷ (0, 1) ∷ (branch_opc kind, 2) ∷ (31, 5) ∷ (0, 4) ∷ (0, 1) ∷ (0, 1) ∷ (rn, 5) ∷ (0, 5) ∷ []
+-- 0 00101 imm26
+fields_of (Branch offset) = (0, 1) ∷ (0b00101, 5) ∷ (twos_complement 26 offset, 26) ∷ []
+-- sf 011010 op imm19 Rt
+fields_of (BranchZero width nonzero rt offset) = (sf width, 1) ∷ (0b011010, 6) ∷ (bit nonzero, 1) ∷ (twos_complement 19 offset, 19) ∷ (rt, 5) ∷ []
 
 -- the word of an instruction
 abbrev pub word : Inst → ℕ

@@ -27,13 +27,24 @@ pub fn decode(word: u32) -> Option<Inst>
 fn decode_rows(word: u32) -> Option<Inst>
     ensures { result ≡ spec.decode word }
 {
-    match field(word, 28, 25) {
+    let group = field(word, 28, 25);
+    if group / 2 == 0b101 {
+        branches(word)
+    } else {
+        data_rows(group, word)
+    }
+}
+
+/// The rows that move, add, load and store, by bits 28 to 25.
+fn data_rows(group: u32, word: u32) -> Option<Inst>
+    ensures { result ≡ spec.data_rows group word }
+{
+    match group {
         0b1000 => add_sub_imm(word),
         0b1001 => move_wide(word),
         0b0101 => add_sub_reg(word),
         0b1100 => access(word),
         0b0100 => pair_sp(word),
-        0b1011 => branch_reg(word),
         _ => None,
     }
 }
@@ -129,7 +140,43 @@ fn pair_sp(word: u32) -> Option<Inst>
         load,
         rt,
         rt2,
-        units: signed_of_7(field(word, 21, 15)),
+        units: signed_of(7, field(word, 21, 15)),
+    })
+}
+
+fn branches(word: u32) -> Option<Inst>
+    ensures { result ≡ spec.branches (fields.field word 30 29) word }
+{
+    match field(word, 30, 29) {
+        0b00 => branch(word),
+        0b01 => branch_zero(word),
+        0b10 => branch_reg(word),
+        _ => None,
+    }
+}
+
+fn branch(word: u32) -> Option<Inst>
+    ensures { result ≡ spec.branch word }
+{
+    if is_set(word, 31) || field(word, 30, 26) != 0b00101 {
+        return None;
+    }
+    Some(Inst::Branch {
+        offset: signed_of(26, field(word, 25, 0)),
+    })
+}
+
+fn branch_zero(word: u32) -> Option<Inst>
+    ensures { result ≡ spec.branch_zero word }
+{
+    if field(word, 30, 25) != 0b011010 {
+        return None;
+    }
+    Some(Inst::BranchZero {
+        width: width_of(word),
+        nonzero: is_set(word, 24),
+        rt: reg(word, 0),
+        offset: signed_of(19, field(word, 23, 5)),
     })
 }
 
@@ -269,15 +316,17 @@ fn last_half_of(width: Width) -> u32
     }
 }
 
-/// The signed number that seven bits of two's complement read.
-fn signed_of_7(bits: u32) -> i32
-    requires { bits < 2 ^ 7 }
-    ensures { result ≡ spec.signed_of_7 bits }
+/// The signed number that a field of so many bits reads, in two's complement.
+fn signed_of(bits: u32, value: u32) -> i32
+    requires some { 0 < bits }
+    requires short { bits ≤ 26 }
+    requires value { value < 2 ^ bits }
+    ensures { result ≡ spec.signed_of bits value }
 {
-    if bits < 64 {
-        bits as i32
+    if value < 1 << (bits - 1) {
+        value as i32
     } else {
-        bits as i32 - 128
+        value as i32 - (1 << bits)
     }
 }
 

@@ -78,6 +78,13 @@ pub fn step(state: &mut State, memory: &mut Memory, inst: &Inst) -> Outcome
             }
         }
         Inst::BranchReg { kind, rn } => branch_reg(state, kind, rn),
+        Inst::Branch { offset } => branch(state, offset),
+        Inst::BranchZero {
+            width,
+            nonzero,
+            rt,
+            offset,
+        } => branch_zero(state, width, nonzero, rt, offset),
     }
 }
 
@@ -197,6 +204,44 @@ fn branch_reg(state: &mut State, kind: BranchKind, rn: u8) -> Outcome
             Outcome::Linked { target }
         }
     }
+}
+
+#[tactic(auto, unfolding(crate::specs::Step::branch))]
+fn branch(state: &mut State, offset: i32) -> Outcome
+    ensures registers { (m : spec.Bytes) → registers_of state.new ≡ (spec.branch offset (registers_of state.old) m).registers }
+    ensures memory { (m : spec.Bytes) → m ≡ (spec.branch offset (registers_of state.old) m).memory }
+    ensures outcome { (m : spec.Bytes) → result ≡ (spec.branch offset (registers_of state.old) m).outcome }
+{
+    state.pc = branch_target(state.pc, offset);
+    Outcome::Next
+}
+
+/// The address of the instruction so many instructions on.
+fn branch_target(pc: u64, offset: i32) -> u64
+    ensures { result ≡ spec.branch_target pc offset }
+{
+    pc.wrapping_add_signed(4 * i64::from(offset))
+}
+
+#[tactic(auto, unfolding(crate::specs::Step::branch_zero))]
+fn branch_zero(state: &mut State, width: Width, nonzero: bool, rt: u8, offset: i32) -> Outcome
+    requires { rt ≤ 31 }
+    ensures registers { (m : spec.Bytes) → registers_of state.new ≡ (spec.branch_zero width nonzero rt offset (registers_of state.old) m).registers }
+    ensures memory { (m : spec.Bytes) → m ≡ (spec.branch_zero width nonzero rt offset (registers_of state.old) m).memory }
+    ensures outcome { (m : spec.Bytes) → result ≡ (spec.branch_zero width nonzero rt offset (registers_of state.old) m).outcome }
+{
+    if is_taken(nonzero, low_bits(width, read(state, rt))) {
+        branch(state, offset)
+    } else {
+        go_on(state)
+    }
+}
+
+/// Whether CBZ, or CBNZ where `nonzero`, is taken at a word.
+fn is_taken(nonzero: bool, word: u64) -> bool
+    ensures { result ≡ spec.is_taken nonzero word }
+{
+    (word == 0) != nonzero
 }
 
 /// A load or a store of one register.

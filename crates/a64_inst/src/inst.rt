@@ -89,4 +89,16 @@ pub enum Inst {
         kind: BranchKind,
         rn: u8,
     },
+    /// B: a branch to the instruction `offset` instructions (-2^25 to 2^25 - 1) from this one.
+    Branch {
+        offset: i32,
+    },
+    /// CBZ and, where `nonzero`, CBNZ: a branch by `offset` instructions (-2^18 to 2^18 - 1)
+    /// where `rt` is, or isn't, 0 in the width.
+    BranchZero {
+        width: Width,
+        nonzero: bool,
+        rt: u8,
+        offset: i32,
+    },
 }

@@ -1,8 +1,8 @@
 //! The word of each instruction.
 
-ghost use Rattle.std.specs.Prelude.{◌≡◌, ◌+◌, ◌*◌, ◌<◌, ◌≤◌, ◌≤ℤ◌, ◌^◌, pos, negsuc, Some};
+ghost use Rattle.std.specs.Prelude.{◌≡◌, ◌+◌, ◌*◌, ◌<◌, ◌≤◌, ◌≤ℤ◌, ◌-◌, ◌^◌, pos, negsuc, Some};
 ghost use Rattle.a64_inst.specs.Decode.{decode};
-ghost use Rattle.a64_inst.specs.Fields.{bit, sf, signed7};
+ghost use Rattle.a64_inst.specs.Fields.{bit, sf, twos_complement};
 ghost use Rattle.a64_inst.specs.WellFormed.{IsWellFormed};
 ghost use Rattle.a64_inst.specs.Word.{access_opc, access_size, branch_opc, move_opc, pair_index, word};
 
@@ -87,10 +87,25 @@ fn word_of(inst: &Inst) -> u32
             units,
         } => {
             let base = if load { 0xA8C0_0000 } else { 0xA980_0000 };
-            base + signed7_of(units) * 0x8000 + u32::from(rt2) * 0x400 + low_fields(31, rt)
+            base + twos_complement_of(7, units) * 0x8000
+                + u32::from(rt2) * 0x400
+                + low_fields(31, rt)
         }
         Inst::BranchReg { kind, rn } => {
             0xD61F_0000 + branch_opc_of(kind) * 0x20_0000 + low_fields(rn, 0)
+        }
+        Inst::Branch { offset } => 0x1400_0000 + twos_complement_of(26, offset),
+        Inst::BranchZero {
+            width,
+            nonzero,
+            rt,
+            offset,
+        } => {
+            sf_of(width) * 0x8000_0000
+                + 0x3400_0000
+                + bit_of(nonzero) * 0x100_0000
+                + twos_complement_of(19, offset) * 0x20
+                + u32::from(rt)
         }
     }
 }
@@ -167,16 +182,18 @@ fn opc_of(kind: AccessKind) -> u32
     }
 }
 
-/// A signed number of seven bits, in two's complement.
-fn signed7_of(units: i32) -> u32
-    requires least { negsuc 63 ≤ℤ units }
-    requires most { units ≤ℤ pos 63 }
-    ensures value { result ≡ signed7 units }
-    ensures small { result < 2 ^ 7 }
+/// A signed number in a field of so many bits, in two's complement.
+fn twos_complement_of(bits: u32, value: i32) -> u32
+    requires some { 0 < bits }
+    requires short { bits ≤ 26 }
+    requires least { negsuc (2 ^ (bits - 1) - 1) ≤ℤ value }
+    requires most { value ≤ℤ pos (2 ^ (bits - 1) - 1) }
+    ensures value { result ≡ twos_complement bits value }
+    ensures small { result < 2 ^ bits }
 {
-    if units < 0 {
-        (units + 128) as u32
+    if value < 0 {
+        (1 << bits) - value.unsigned_abs()
     } else {
-        units as u32
+        value.unsigned_abs()
     }
 }

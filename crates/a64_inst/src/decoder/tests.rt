@@ -54,6 +54,15 @@ fn wide(width: Width, op: MoveOp, rd: u8, imm16: u32, hw: u32) -> Inst {
     }
 }
 
+fn branch_zero(width: Width, nonzero: bool, rt: u8, offset: i32) -> Inst {
+    Inst::BranchZero {
+        width,
+        nonzero,
+        rt,
+        offset,
+    }
+}
+
 #[test]
 fn words_of_add_sub_imm(rt: HostRuntime) {
     // add x0, x0, #1; mov x29, sp; mov sp, x29; sub sp, sp, #32
@@ -150,6 +159,28 @@ fn words_of_moves_and_branches(rt: HostRuntime) {
 }
 
 #[test]
+fn words_of_branches_by_offset(rt: HostRuntime) {
+    for (word, offset) in [
+        // b .+8; b .-4; b .; b .+134217724; b .-134217728
+        (0x1400_0002, 2),
+        (0x17FF_FFFF, -1),
+        (0x1400_0000, 0),
+        (0x15FF_FFFF, 0x1FF_FFFF),
+        (0x1600_0000, -0x200_0000),
+    ] {
+        both_ways(&rt, word, Inst::Branch { offset });
+    }
+    // cbz x15, .+8; cbnz x15, .+8; cbz w3, .-4
+    both_ways(&rt, 0xB400_004F, branch_zero(W64, false, 15, 2));
+    both_ways(&rt, 0xB500_004F, branch_zero(W64, true, 15, 2));
+    both_ways(&rt, 0x34FF_FFE3, branch_zero(W32, false, 3, -1));
+    // cbnz w30, .+1048572; cbz xzr, .-1048576; cbnz wzr, .
+    both_ways(&rt, 0x357F_FFFE, branch_zero(W32, true, 30, 0x3_FFFF));
+    both_ways(&rt, 0xB480_001F, branch_zero(W64, false, 31, -0x4_0000));
+    both_ways(&rt, 0x3500_001F, branch_zero(W32, true, 31, 0));
+}
+
+#[test]
 fn words_of_accesses(rt: HostRuntime) {
     // strb w1, [sp, #4095]; ldrb w2, [x3]; ldrsb w4, [x5, #1]
     both_ways(&rt, 0x393F_FFE1, access(AccessKind::Strb, 1, 31, 4095));
@@ -196,6 +227,13 @@ fn words_of_no_row(rt: HostRuntime) {
         0xA9BF_0440,
         0xA941_07E0,
         0x28C2_07E0,
+        // bl .+8; tbz w0, #0, .+8; tbnz w1, #3, .-4; b.eq .+8; brk #1; svc #0
+        0x9400_0002,
+        0x3600_0040,
+        0x371F_FFE1,
+        0x5400_0040,
+        0xD420_0020,
+        0xD400_0001,
         // eret; nop; add x0, x1, w2, uxtw; addg x0, x1, #16, #1; all zeros; all ones
         0xD69F_03E0,
         0xD503_201F,

@@ -219,3 +219,39 @@ fn branches(rt: HostRuntime) {
     );
     assert_eq!(rt; (state.pc, state.x[30]), (0x6000_0000, 0x4000_0004));
 }
+
+/// pc is the manual's (DDI 0487, C6.2): the address of the instruction plus the offset, in 64 bits.
+#[test]
+fn branches_by_offset(rt: HostRuntime) {
+    let mut memory = Memory::new(rt.alloc());
+    for (word, pc, x0, target) in [
+        // b .+8; b .-4; b ., and round the top of the addresses both ways
+        (0x1400_0002, 0x4000_0000, 0, 0x4000_0008),
+        (0x17FF_FFFF, 0x4000_0000, 0, 0x3FFF_FFFC),
+        (0x1400_0000, 0x4000_0000, 0, 0x4000_0000),
+        (0x1400_0002, 0xFFFF_FFFF_FFFF_FFFC, 0, 4),
+        (0x17FF_FFFF, 0, 0, 0xFFFF_FFFF_FFFF_FFFC),
+        // cbz x0, .+8; cbz x0, .-4; cbz w0, .+8
+        (0xB400_0040, 0x4000_0000, 0, 0x4000_0008),
+        (0xB400_0040, 0x4000_0000, 0x1_0000_0000, 0x4000_0004),
+        (0xB4FF_FFE0, 0x4000_0000, 0, 0x3FFF_FFFC),
+        (0xB4FF_FFE0, 0, 0, 0xFFFF_FFFF_FFFF_FFFC),
+        (0x3400_0040, 0x4000_0000, 0x1_0000_0000, 0x4000_0008),
+        (0x3400_0040, 0x4000_0000, 0x8000_0000, 0x4000_0004),
+        // cbnz x0, .+8; cbnz w0, .+8; cbnz w0, .-8
+        (0xB500_0040, 0x4000_0000, 0x1_0000_0000, 0x4000_0008),
+        (0xB500_0040, 0xFFFF_FFFF_FFFF_FFFC, 0, 0),
+        (0x3500_0040, 0x4000_0000, 0x1_0000_0000, 0x4000_0004),
+        (0x35FF_FFC0, 0x4000_0000, 1, 0x3FFF_FFF8),
+        // cbz xzr, .-1048576; cbnz wzr, .
+        (0xB480_001F, 0x4000_0000, 7, 0x3FF0_0000),
+        (0x3500_001F, 0x4000_0000, 7, 0x4000_0004),
+    ] {
+        let mut state = state_at(pc);
+        state.x[0] = x0;
+        let outcome = step_word(&mut state, &mut memory, word);
+        assert_eq!(rt; outcome, Some(Outcome::Next), "of {word:x}");
+        assert_eq!(rt; state.pc, target, "of {word:x}");
+        assert_eq!(rt; (state.x[0], state.flags), (x0, CLEAR), "of {word:x}");
+    }
+}
