@@ -1,4 +1,9 @@
+pub mod BlockCrosses
+pub mod BlockLent
+pub mod BlockRows
+pub mod Blocks
 pub mod ChunkLemmas
+pub mod Lending
 pub mod ListLemmas
 pub mod Segments
 pub mod Free

@@ -1,6 +1,8 @@
+pub mod Block
+pub mod BlockLends
 pub mod Chains
+pub mod ChunkLends
 pub mod Layout
 pub mod Lends
-pub mod ChunkLends
 pub mod NodeLends
 pub mod NodesLends

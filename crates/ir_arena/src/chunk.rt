@@ -1,19 +1,21 @@
-//! One chunk of nodes. Contracts see a `Chunk` as the list of its nodes.
+//! One chunk of nodes, in a raw allocation. Contracts see a `Chunk` as the list of its nodes.
 
-ghost use Rattle.std.specs.Prelude.{◌≡◌, ◌<◌, List, [], ◌∷◌, ◌++◌, length, slice_get, slice_set, Some, IfOk};
+ghost use Rattle.std.specs.Prelude.{◌≡◌, ◌<◌, ◌≤◌, List, [], ◌∷◌, ◌++◌, length, slice_get, slice_set, Some, IfOk};
 ghost use Rattle.std.specs.Borrow.{Lends, sem};
 
 use crate::node::Node;
+use crate::raw::{Block, PLACES, allocate, fits_block, release};
 use std::alloc::{AllocError, Global};
 use std::marker::Model;
 
 /// The number of nodes of a chunk.
-pub(crate) const CHUNK: usize = 64;
+pub(crate) const CHUNK: usize = PLACES;
 
 /// Room for `CHUNK` nodes.
-#[derive(Drop)]
 pub(crate) struct Chunk<T> {
-    nodes: Vec<Node<T>>,
+    block: Block<Node<T>, Global>,
+    len: usize,
+    alloc: Global,
 }
 
 impl<T> Model for Chunk<T> {
@@ -22,11 +24,11 @@ impl<T> Model for Chunk<T> {
 
     ghost Value = { List (Node T) };
 
-    ghost view = { λ c. c.nodes.items };
+    ghost view = { λ c. c.block.items };
 
-    ghost use Rattle.std.specs.Prelude.{◌≤◌, vec_capacity};
+    ghost use Rattle.std.specs.Prelude.{◌≡◌, ◌≤◌, length};
 
-    ghost invariant = { λ c. 64 ≤ vec_capacity c.nodes };
+    ghost invariant = { λ c. (c.block.alloc ≡ c.alloc) × (c.len ≡ length c.block.items) × (c.len ≤ 64) };
 }
 
 impl<T> Chunk<T> {
@@ -36,8 +38,13 @@ impl<T> Chunk<T> {
     pub(crate) fn new(alloc: Global) -> Result<Chunk<T>, AllocError>
         ensures { IfOk result (λ c. c ≡ []) }
     {
+        if !fits_block::<Node<T>>() {
+            return Err(AllocError);
+        }
         Ok(Chunk {
-            nodes: Vec::with_capacity(alloc, CHUNK)?,
+            block: allocate(&alloc)?,
+            len: 0,
+            alloc,
         })
     }
 
@@ -46,7 +53,8 @@ impl<T> Chunk<T> {
         requires { length self.old < CHUNK }
         ensures { self.new ≡ self.old ++ node ∷ [] }
     {
-        self.nodes.push_reserved(node);
+        self.block.put(self.len, node);
+        self.len += 1;
     }
 
     /// The node at a place.
@@ -54,7 +62,7 @@ impl<T> Chunk<T> {
         requires { at < length self.now }
         ensures { slice_get self.now at ≡ Some result.now }
     {
-        &self.nodes[at]
+        self.block.get(at)
     }
 
     /// The node at a place, to be changed.
@@ -63,6 +71,21 @@ impl<T> Chunk<T> {
         ensures* lends { sem 𝓛 (lends_node T.row self.entry at result) }
         ensures value { slice_get self.old at ≡ Some result.now }
     {
-        &mut self.nodes[at]
+        self.block.get_mut(at)
+    }
+}
+
+/// Drops each node once, and frees the allocation once.
+impl<T: Drop> Drop for Chunk<T> {
+    fn drop(self) {
+        let Chunk {
+            mut block,
+            len,
+            alloc,
+        } = self;
+        for dropped in 0..len {
+            drop(block.take(len - 1 - dropped));
+        }
+        release(block, &alloc);
     }
 }

@@ -7,6 +7,7 @@ mod chunk;
 mod links;
 mod node;
 mod nodes;
+mod raw;
 #[cfg(test)]
 mod tests;
 

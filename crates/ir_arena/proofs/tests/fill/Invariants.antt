@@ -1,4 +1,4 @@
-use Rattle.std.proofs.Common.{◌≡◌, ◌+◌, ◌≤◌, length}
+use Rattle.std.proofs.Common.{◌≡◌, ◌+◌, length}
 use Rattle.ir_arena.proofs.tests.fill.Given as goal
 
 abbrev pub invariant-loop-value : goal.invariant-loop-value

@@ -1,4 +1,4 @@
-use Rattle.std.proofs.Common.{◌≡◌, length, sym, ◌∙◌, arith}
+use Rattle.std.proofs.Common.{sym, ◌∙◌, arith}
 use Rattle.std.proofs.lemmas.List.{length-map}
 use Rattle.ir_arena.specs.Chains.{list_at, Has, without}
 use Rattle.ir_arena.proofs.ListLemmas.{next_differs}
