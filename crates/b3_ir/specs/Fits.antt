@@ -1,7 +1,7 @@
 -- Which flags and bodies an opcode may have: the ones that a line of text gives it.
-use Rattle.std.specs.Prelude.{◌≡◌, ℕ, ◌+◌, ◌^◌, ◌<◌, ◌≤◌, ◌⊎◌, Bool, true, false, length}
+use Rattle.std.specs.Prelude.{◌≡◌, ℕ, ◌+◌, ◌^◌, ◌<◌, ◌≤◌, Bool, false, length}
 use Rattle.b3_ir.specs.declared.opcode.Opcode.{Opcode}
-use Rattle.b3_ir.specs.declared.opcode.Opcode.TheVariants.{Const32, Const64, ArgumentReg, SlotBase, Div, Mod, Load8Z, Load8S, Load16Z, Load16S, Load, Store8, Store16, Store, CCall, Patchpoint, Check, CheckAdd, CheckSub, CheckMul, Upsilon, Jump, Branch, Switch}
+use Rattle.b3_ir.specs.declared.opcode.Opcode.TheVariants.{Const32, Const64, ArgumentReg, SlotBase, Div, Mod, Load8Z, Load8S, Load16Z, Load16S, Load, Store8, Store16, Store, Patchpoint, Check, CheckAdd, CheckSub, CheckMul, Upsilon, Jump, Branch, Switch}
 use Rattle.b3_ir.specs.declared.value.Body.{Body}
 use Rattle.b3_ir.specs.declared.value.Body.TheVariants.{Plain, Constant, Argument, Slot, Offset, Target, Targets, Cases}
 use Rattle.b3_ir.specs.declared.value.Value.{Value}

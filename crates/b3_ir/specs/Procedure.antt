@@ -1,5 +1,5 @@
 -- What contracts see of a procedure, and its places.
-use Rattle.std.specs.Prelude.{◌≡◌, ℕ, ◌-◌, ◌^◌, ◌<◌, List, [], Option, Some, length, slice_get, slice_index_or}
+use Rattle.std.specs.Prelude.{ℕ, ◌-◌, ◌^◌, ◌<◌, List, [], Option, length, slice_get, slice_index_or}
 use Rattle.b3_ir.specs.declared.value.Value.{Value}
 use Rattle.b3_ir.specs.declared.procedure.NodeId.{NodeId}
 

@@ -1,5 +1,5 @@
 -- The zones of a start, and what an access of some bytes comes to.
-use Rattle.std.specs.Prelude.{ℕ, zero, suc, Bool, true, false, ◌||◌, if◌then◌else◌}
+use Rattle.std.specs.Prelude.{ℕ, zero, suc, Bool, false, ◌||◌, if◌then◌else◌}
 use Rattle.b3_base.specs.Memory.{byte_address, is_mapped}
 use Rattle.b3_meaning.specs.Observed.{Memory, Start}
 

@@ -1,6 +1,6 @@
 -- What runs are started from and compared by, with each memory as a function from addresses to
 -- bytes: the types of the program, as the runs of B3 and of the machine speak of them.
-use Rattle.std.specs.Prelude.{◌≡◌, ℕ, ◌^◌, ◌<◌, Bool, List, [], Option, None}
+use Rattle.std.specs.Prelude.{ℕ, ◌^◌, ◌<◌, Bool, List, [], Option, None}
 use Rattle.b3_base.specs.Memory.{AreBytes}
 use Rattle.b3_base.specs.declared.event.EventKind.{EventKind}
 use Rattle.b3_base.specs.declared.observation.Status.{Status}

@@ -1,15 +1,15 @@
 -- The run of a procedure, block step by block step. A block step takes the values of a block in
 -- order.
 use Rattle.std.specs.Prelude.{ℕ, Bool, nat_eq, if◌then◌else◌, List, [], ◌∷◌, Option, Some, None}
-use Rattle.b3_meaning.specs.Observed.{Memory, no_memory, Event, Answer, Observation, undefined, Start}
+use Rattle.b3_meaning.specs.Observed.{Memory, Event, Answer, Observation, undefined, Start}
 use Rattle.b3_base.specs.Run.{iterate}
 use Rattle.b3_base.specs.declared.observation.Status.TheVariants.{Going, Returned}
 use Rattle.b3_ir.specs.Procedure.{Procedure, values_of}
 use Rattle.b3_ir.specs.declared.opcode.Opcode.{Opcode}
-use Rattle.b3_ir.specs.declared.opcode.Opcode.TheVariants.{Const32, Const64, ArgumentReg, Return}
+use Rattle.b3_ir.specs.declared.opcode.Opcode.TheVariants.{Const32, Const64, ArgumentReg, Upsilon, Phi, Jump, Branch, Return}
 use Rattle.b3_ir.specs.declared.opcode.Ty.{Ty}
 use Rattle.b3_ir.specs.declared.value.Body.{Body}
-use Rattle.b3_ir.specs.declared.value.Body.TheVariants.{Constant, Argument}
+use Rattle.b3_ir.specs.declared.value.Body.TheVariants.{Constant, Argument, Target, Targets}
 use Rattle.b3_ir.specs.declared.value.Value.{Value}
 use Rattle.b3_meaning.specs.Opcodes.{result}
 
@@ -74,18 +74,41 @@ abbrev pub pure_word : Opcode → Bool → Ty → List Ty → Option (List ℕ) 
 pure_word opcode chill ty types (Some words) = result opcode chill ty words types
 pure_word opcode chill ty types None = None
 
+-- an Upsilon puts its child's word into the location of its Phi
+abbrev pub with_location : State → ℕ → ℕ → State
+with_location st phi word = record st { locations = λ q. if nat_eq q phi then Some word else st.locations q }
+
+abbrev pub stores : State → Body → Option (List ℕ) → Effect
+stores st (Target phi) (Some (word ∷ words)) = Next (with_location st phi word)
+stores st body words = End Lost
+
+-- a jump leads to its block, and a branch to its first where its child's word isn't 0, else to
+-- its second
+abbrev pub jumps : State → Body → Effect
+jumps st (Targets (block ∷ blocks)) = To block st
+jumps st body = End Lost
+
+abbrev pub branches : State → Body → Option (List ℕ) → Effect
+branches st (Targets (then_block ∷ else_block ∷ blocks)) (Some (word ∷ words)) = To (if nat_eq word 0 then else_block else then_block) st
+branches st body words = End Lost
+
 -- a return ends the run, with its child's word where it has a child
 abbrev pub returned : State → Option (List ℕ) → Config
 returned st (Some []) = Over (record { status = Returned None; events = st.events; memory = st.memory })
 returned st (Some (word ∷ words)) = Over (record { status = Returned (Some word); events = st.events; memory = st.memory })
 returned st None = Lost
 
--- what a value leads to, by its opcode. Accesses, calls, checks, Phi and Upsilon, and the
--- terminals beside Return, stand here once they are built
+-- what a value leads to, by its opcode. A Phi loads from its location when it runs, and an Upsilon
+-- stores when it runs. Accesses, calls, checks and the other terminals stand here once they are
+-- built
 abbrev pub effect_of : Opcode → Start → State → Value → Effect
 effect_of Const32 start st v = gives st v.id (constant_of v.body)
 effect_of Const64 start st v = gives st v.id (constant_of v.body)
 effect_of ArgumentReg start st v = gives st v.id (argument_of start v.body)
+effect_of Upsilon start st v = stores st v.body (words_of st.words v.children)
+effect_of Phi start st v = gives st v.id (st.locations v.id)
+effect_of Jump start st v = jumps st v.body
+effect_of Branch start st v = branches st v.body (words_of st.words v.children)
 effect_of Return start st v = End (returned st (words_of st.words v.children))
 effect_of opcode start st v = gives st v.id (pure_word opcode v.kind.chill v.ty [] (words_of st.words v.children))
 

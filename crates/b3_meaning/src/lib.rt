@@ -3,5 +3,7 @@
 #![tactic(auto)]
 
 mod opcodes;
+#[cfg(test)]
+mod tests;
 
 pub use opcodes::fold;
