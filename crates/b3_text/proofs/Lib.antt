@@ -2,8 +2,10 @@ pub mod LineLemmas
 pub mod NameLemmas
 pub mod CutLemmas
 pub mod DigitLemmas
-pub mod FormLemmas
+pub mod PlaceLemmas
 pub mod ValueLemmas
-pub mod BlockLemmas
+pub mod FormLemmas
+pub mod StepLemmas
+pub mod EndLemmas
 pub mod TextLemmas
-pub mod OneLemmas
+pub mod WholeLemmas

@@ -1,6 +1,7 @@
 -- Lines and blanks.
-use Rattle.std.proofs.Common.{◌≡◌, ◌≢◌, ℕ, true, false, cond, List, [], ◌∷◌, ◌++◌, refl, ap, ◌∙◌, arith}
-use Rattle.std.specs.Prelude.{◌==◌, map}
+use Rattle.std.proofs.Common.{◌≡◌, ◌≢◌, ℕ, suc, ◌+◌, ◌≤◌, true, false, cond, List, [], ◌∷◌, ◌++◌, length, refl, ap, ◌∙◌, arith}
+use Rattle.std.specs.Prelude.{◌==◌}
+use Rattle.std.proofs.lemmas.List.{length-map}
 use Rattle.std.specs.List.{AllByRecursion}
 use Rattle.std.proofs.lemmas.Bool.Decides.{nat_tests}
 use Rattle.b3_text.specs.Lines.{onto_first_line, text_lines, is_blank, onto_text, trimmed, trimmed_lines, without_blanks_after}
@@ -33,20 +34,20 @@ pub text_lines_alone : (line : List ℕ) → AllByRecursion (λ b. b ≢ 10) lin
 text_lines_alone [] h some = absurd (some refl)
 text_lines_alone (b ∷ line) h some = text_lines_whole b line h
 
--- what isn't empty has a line
-first_line_some : (b : ℕ) (lines : List (List ℕ)) → (line : List ℕ) × (rest : List (List ℕ)) × (onto_first_line b lines ≡ line ∷ rest)
-first_line_some b [] = (b ∷ [], [], refl)
-first_line_some b (line ∷ rest) = (b ∷ line, rest, refl)
+-- each line takes a byte
+first_line_short : (b : ℕ) (lines : List (List ℕ)) → length (onto_first_line b lines) ≤ length lines + 1
+first_line_short b [] = omega arith
+first_line_short b (line ∷ lines) = omega arith
 
-text_lines_some : (b : ℕ) (bytes : List ℕ) → (line : List ℕ) × (rest : List (List ℕ)) × (text_lines (b ∷ bytes) ≡ line ∷ rest)
-text_lines_some b bytes =
-    elim (b == 10) as (λ lf. (line : List ℕ) × (rest : List (List ℕ)) × (cond lf ([] ∷ text_lines bytes) (onto_first_line b (text_lines bytes)) ≡ line ∷ rest)) [
-      | true ↦ ([], text_lines bytes, refl)
-      | false ↦ first_line_some b (text_lines bytes)
+text_lines_short : (bytes : List ℕ) → length (text_lines bytes) ≤ length bytes
+text_lines_short [] = omega arith
+text_lines_short (b ∷ bytes) =
+    let rest = text_lines_short bytes in
+    let first = first_line_short b (text_lines bytes) in
+    elim (b == 10) as (λ lf. length (cond lf ([] ∷ text_lines bytes) (onto_first_line b (text_lines bytes))) ≤ suc (length bytes)) [
+      | true ↦ omega arith
+      | false ↦ omega arith
     ]
 
-pub trimmed_lines_some : (bytes : List ℕ) → bytes ≢ [] → (line : List ℕ) × (rest : List (List ℕ)) × (trimmed_lines bytes ≡ line ∷ rest)
-trimmed_lines_some [] some = absurd (some refl)
-trimmed_lines_some (b ∷ bytes) some =
-    let found = text_lines_some b bytes in
-    (trimmed found.0, map trimmed found.1, ap (map trimmed) found.2)
+pub lines_short : (bytes : List ℕ) → length (trimmed_lines bytes) ≤ length bytes
+lines_short bytes = omega (arith, text_lines_short bytes, length-map (text_lines bytes) trimmed)

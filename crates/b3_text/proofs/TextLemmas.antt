@@ -1,104 +1,85 @@
--- The bad line of a text, and that a text with one spells no procedure.
-use Rattle.std.proofs.Common.{◌≡◌, ◌≢◌, ℕ, zero, suc, ◌+◌, ◌-◌, ◌<◌, inl, inr, List, [], ◌∷◌, length, map, Some, Result, Ok, Err, refl, sym, ap, subst, ◌∙◌, arith}
-use Rattle.std.specs.Prelude.{slice_get, IfErr}
-use Rattle.std.proofs.lemmas.List.{append-nil, length-map}
-use Rattle.b3_ir.specs.declared.value.Value.{Value}
-use Rattle.b3_ir.specs.Procedure.{Procedure, values_of}
-use Rattle.b3_ir.specs.Names.{IsName}
-use Rattle.b3_text.specs.OneBlock.{IsBlock, IsOneBlock}
-use Rattle.b3_text.specs.Spelling.{line_of, header_of, heading, text_of}
-use Rattle.b3_text.specs.Texts.{FitsBlock, FitsText, IsEnded, IsBadLine, BadLine, BadBlock, Spells, IfNotBuilt}
-use Rattle.b3_text.specs.Lines.{trimmed_lines}
+-- The lines behind a header, and the bad line among them.
+use Rattle.std.proofs.Common.{◌≡◌, ℕ, ◌+◌, List, [], ◌∷◌, ◌++◌, length, take, inl, inr, sym, ap, subst, ◌∙◌, append_assoc, arith}
+use Rattle.std.proofs.lemmas.List.{append-nil, length-append}
+use Rattle.std.proofs.Math.Seq.{take-append_seam}
+use Rattle.b3_ir.specs.Procedure.{Procedure}
+use Rattle.b3_text.specs.declared.place.Place.TheVariants as places
+use Rattle.b3_text.specs.declared.place.Progress.{Progress}
 use Rattle.b3_text.specs.declared.fault.TextFault.{TextFault}
 use Rattle.b3_text.specs.declared.fault.TextFault.TheVariants.{NotBuilt, NoMemory}
-use Rattle.b3_text.proofs.BlockLemmas.{HasRead, slice_get_some, fits_read, line_at}
+use Rattle.b3_text.specs.Texts.{IfNotBuilt}
+use Rattle.b3_text.specs.Places.{Follows, Leads, NoneFollows, MayEnd, BeginsBlocks, IsBadAmong, IsOnly}
+use Rattle.b3_text.proofs.EndLemmas.{can_follow, end_follows, only_end, no_end}
 
-not_ended : IsEnded [] → ⊥
-not_ended h = omega (arith, h.2)
+-- the lines are some that are read, and `rest`
+pub record HasRead (first : Procedure) (lines : List (List ℕ)) (p : Procedure) (at : Progress) (rest : List (List ℕ)) : Type 0 where
+  pub front : List (List ℕ)
+  pub parts : lines ≡ front ++ rest
+  pub count : length front + 1 ≡ at.row
+  pub leads : Leads first places.Heading 0 1 front p at
 
--- ---- the bad line
+pub reads_more : (first p after : Procedure) (lines : List (List ℕ)) (at next : Progress) (line : List ℕ) (rest : List (List ℕ)) → HasRead first lines p at (line ∷ rest) → Leads p at.place at.number at.row (line ∷ []) after next → next.row ≡ at.row + 1 → HasRead first lines after next rest
+reads_more first p after lines at next line rest h step row =
+    let front = h.front ++ line ∷ [] in
+    record {
+      front = front;
+      parts = h.parts ∙ sym (append_assoc h.front (line ∷ []) rest);
+      count = omega (arith, length-append h.front (line ∷ []), h.count);
+      leads = λ q tail.
+          let same = append_assoc h.front (line ∷ []) tail in (
+            λ f. (step q tail).0 ((h.leads q (line ∷ tail)).0 (subst (λ (x : List (List ℕ)). Follows first places.Heading 0 1 q x) same f)),
+            λ f. subst (λ (x : List (List ℕ)). Follows first places.Heading 0 1 q x) (sym same) ((h.leads q (line ∷ tail)).1 ((step q tail).1 f)),
+          );
+    }
 
-pub no_line : IsBadLine [] 1
-no_line = record { counted = omega arith; before = λ i h. absurd (omega arith); here = inr (refl, not_ended) }
+-- what is read begins a text
+begins : (first p : Procedure) (lines : List (List ℕ)) (at : Progress) (rest : List (List ℕ)) (h : HasRead first lines p at rest) → BeginsBlocks first (take (length h.front) lines)
+begins first p lines at rest h =
+    let more = can_follow p at.place at.number at.row in
+    let shown : take (length h.front) lines ≡ h.front = ap (take (length h.front)) h.parts ∙ take-append_seam h.front rest in
+    subst (λ (x : List (List ℕ)). BeginsBlocks first x) (sym shown) (more.0, more.1, (h.leads more.0 more.1).1 more.2)
 
-pub bad_header : (first : List ℕ) (rest : List (List ℕ)) → ((name : List ℕ) → IsName name → first ≡ header_of name → ⊥) → IsBadLine (first ∷ rest) 1
-bad_header first rest none = record {
-  counted = omega arith;
-  before = λ i h. absurd (omega arith);
-  here = inl (omega arith, λ fits. none fits.0 fits.1 (let e = fits.2 in cc));
-}
+bad_next : (first p : Procedure) (lines : List (List ℕ)) (at : Progress) (line : List ℕ) (rest : List (List ℕ)) → HasRead first lines p at (line ∷ rest) → NoneFollows p at.place at.number at.row line → (n : ℕ) × (at.row + 1 ≡ n + 2) × IsBadAmong first lines n
+bad_next first p lines at line rest h none =
+    let front = h.front ++ line ∷ [] in
+    let size : length front ≡ length h.front + 1 = length-append h.front (line ∷ []) in
+    let long : length lines ≡ length h.front + length (line ∷ rest) = ap length h.parts ∙ length-append h.front (line ∷ rest) in
+    let shown : take (length h.front + 1) lines ≡ front = ap (λ (n : ℕ). take n lines) (sym size) ∙ ap (take (length front)) (h.parts ∙ sym (append_assoc h.front (line ∷ []) rest)) ∙ take-append_seam front rest in (
+      length h.front,
+      omega (arith, h.count),
+      record {
+        before = begins first p lines at (line ∷ rest) h;
+        here = inl (
+          omega arith,
+          λ f.
+              let tail = f.1 in
+              let same = ap (λ (x : List (List ℕ)). x ++ tail) shown ∙ append_assoc h.front (line ∷ []) tail in
+              none f.0 tail ((h.leads f.0 (line ∷ tail)).0 (subst (λ (x : List (List ℕ)). Follows first places.Heading 0 1 f.0 x) same f.2)),
+        );
+      },
+    )
 
-header_fits : (first name : List ℕ) (rest : List (List ℕ)) (i : ℕ) → IsName name → first ≡ header_of name → i + 1 < 2 → FitsText (first ∷ rest) i
-header_fits first name rest zero ok e h = (name, ok, ap Some e)
-header_fits first name rest (suc i) ok e h = absurd (omega arith)
+pub next_fault : (first p : Procedure) (lines : List (List ℕ)) (at : Progress) (line : List ℕ) (rest : List (List ℕ)) (fault : TextFault) → HasRead first lines p at (line ∷ rest) → IfNotBuilt fault (λ n. (n ≡ at.row + 1) × NoneFollows p at.place at.number at.row line) → IfNotBuilt fault (λ n. (m : ℕ) × (n ≡ m + 2) × IsBadAmong first lines m)
+next_fault first p lines at line rest (NotBuilt n) h bad =
+    let found = bad_next first p lines at line rest h bad.1 in
+    (found.0, bad.0 ∙ found.1, found.2)
+next_fault first p lines at line rest NoMemory h bad = tt
 
-pub no_heading : (first name : List ℕ) → IsName name → first ≡ header_of name → IsBadLine (first ∷ []) 2
-no_heading first name ok e = record {
-  counted = omega arith;
-  before = λ i h. header_fits first name [] i ok e h;
-  here = inr (refl, not_ended);
-}
+pub bad_end : (first p : Procedure) (lines : List (List ℕ)) (at : Progress) → HasRead first lines p at [] → ¬ (MayEnd p at.place) → (n : ℕ) × (at.row + 1 ≡ n + 2) × IsBadAmong first lines n
+bad_end first p lines at h unended =
+    let long : length lines ≡ length h.front = ap length (h.parts ∙ append-nil h.front) in (
+      length h.front,
+      omega (arith, h.count),
+      record {
+        before = begins first p lines at [] h;
+        here = inr (sym long, λ q f. unended (no_end p q at.place at.number at.row ((h.leads q []).0 (subst (λ (x : List (List ℕ)). Follows first places.Heading 0 1 q x) h.parts f))));
+      },
+    )
 
-pub bad_heading : (first name second : List ℕ) (rest : List (List ℕ)) → IsName name → first ≡ header_of name → second ≢ heading → IsBadLine (first ∷ second ∷ rest) 2
-bad_heading first name second rest ok e other = record {
-  counted = omega arith;
-  before = λ i h. header_fits first name (second ∷ rest) i ok e h;
-  here = inl (omega arith, λ fits. other (let h : slice_get (first ∷ second ∷ rest) 1 ≡ Some heading = fits in cc));
-}
+pub whole_read : (first p : Procedure) (lines : List (List ℕ)) (at : Progress) → HasRead first lines p at [] → MayEnd p at.place → Follows first places.Heading 0 1 p lines
+whole_read first p lines at h end =
+    subst (λ (x : List (List ℕ)). Follows first places.Heading 0 1 p x) (sym h.parts) ((h.leads p []).1 (end_follows p at.place at.number at.row end))
 
-block_fits : (first name second : List ℕ) (block : List (List ℕ)) (k i : ℕ) → IsName name → first ≡ header_of name → second ≡ heading → ((j : ℕ) → j < k → FitsBlock block j) → i + 1 < k + 3 → FitsText (first ∷ second ∷ block) i
-block_fits first name second block k zero ok e f fits h = (name, ok, ap Some e)
-block_fits first name second block k (suc zero) ok e f fits h = ap Some f
-block_fits first name second block k (suc (suc i)) ok e f fits h = fits i (omega arith)
-
-three_on : (k : ℕ) → k + 3 - 1 ≡ suc (suc k)
-three_on k = omega arith
-
-pub bad_in_block : (first name second : List ℕ) (block : List (List ℕ)) (k : ℕ) → IsName name → first ≡ header_of name → second ≡ heading → BadBlock block k → IsBadLine (first ∷ second ∷ block) (k + 3)
-bad_in_block first name second block k ok e f bad = record {
-  counted = omega arith;
-  before = λ i h. block_fits first name second block k i ok e f bad.before h;
-  here = elim bad.here [
-    | inl there ↦ inl (omega (arith, there.0), λ fits. there.1 (subst (λ (i : ℕ). FitsText (first ∷ second ∷ block) i) (three_on k) fits))
-    | inr past ↦ inr (omega (arith, past.0), past.1)
-  ];
-}
-
--- ---- a bad line, and the text of a procedure
-
-whole : (vs : List Value) → IsBlock vs → HasRead (map line_of vs) vs []
-whole vs h = record { parts = sym (append-nil (map line_of vs)); few = h.few; values = h.values; others = h.others }
-
-text_fits : (p : Procedure) (i : ℕ) → IsOneBlock p → i < length (text_of p) → FitsText (text_of p) i
-text_fits p zero h below = (p.name, h.name, refl)
-text_fits p (suc zero) h below = refl
-text_fits p (suc (suc k)) h below = fits_read (map line_of (values_of p 0)) (values_of p 0) [] (whole (values_of p 0) h.block) k (omega (arith, length-map (values_of p 0) line_of))
-
-text_is_ended : (vs : List Value) → IsBlock vs → IsEnded (map line_of vs)
-text_is_ended vs h =
-    let found = slice_get_some vs (length vs - 1) (omega (arith, h.some)) in
-    let end : length vs - 1 + 1 ≡ length vs = omega (arith, h.some) in
-    (length vs - 1, found.0, length-map vs line_of ∙ sym end, (h.values (length vs - 1) found.0 found.1, line_at (map line_of vs) vs [] (whole vs h) (length vs - 1) found.0 found.1), h.last (length vs - 1) found.0 found.1 end)
-
-text_is_good : (p : Procedure) (line : ℕ) → IsOneBlock p → IsBadLine (text_of p) line → ⊥
-text_is_good p line h bad =
-    elim bad.here [
-      | inl there ↦ there.1 (text_fits p (line - 1) h (omega (arith, there.0, bad.counted)))
-      | inr past ↦ past.1 (text_is_ended (values_of p 0) h.block)
-    ]
-
-pub bad_spells_none : (bytes : List ℕ) (line : ℕ) → BadLine bytes line → (p : Procedure) → Spells bytes p → ⊥
-bad_spells_none bytes line bad p h = text_is_good p line h.procedure (subst (λ (lines : List (List ℕ)). IsBadLine lines line) h.lines bad)
-
--- ---- faults
-
--- the fault of a block is that of its text
-pub block_fault : (bytes first name second : List ℕ) (block : List (List ℕ)) (fault : TextFault) → trimmed_lines bytes ≡ first ∷ second ∷ block → IsName name → first ≡ header_of name → second ≡ heading → IfNotBuilt fault (λ line. (k : ℕ) × (line ≡ k + 3) × BadBlock block k) → IfNotBuilt fault (λ line. BadLine bytes line)
-block_fault bytes first name second block (NotBuilt line) lines ok e f bad =
-    subst (λ (n : ℕ). BadLine bytes n) (sym bad.1) (subst (λ (xs : List (List ℕ)). IsBadLine xs (bad.0 + 3)) (sym lines) (bad_in_block first name second block bad.0 ok e f bad.2))
-block_fault bytes first name second block NoMemory lines ok e f bad = tt
-
-pub none_spelled : (bytes : List ℕ) (result : Result (List Procedure) TextFault) → IfErr result (λ fault. IfNotBuilt fault (λ line. BadLine bytes line)) → IfErr result (λ fault. IfNotBuilt fault (λ _. (p : Procedure) → Spells bytes p → ⊥))
-none_spelled bytes (Ok m) h = h
-none_spelled bytes (Err (NotBuilt line)) h = bad_spells_none bytes line h
-none_spelled bytes (Err NoMemory) h = h
+pub only_read : (first p : Procedure) (lines : List (List ℕ)) (at : Progress) → HasRead first lines p at [] → MayEnd p at.place → IsOnly first lines p
+only_read first p lines at h end q f =
+    only_end p q at.place at.number at.row end ((h.leads q []).0 (subst (λ (x : List (List ℕ)). Follows first places.Heading 0 1 q x) h.parts f))

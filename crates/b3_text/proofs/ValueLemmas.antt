@@ -1,94 +1,101 @@
--- The values of forms, and what the lines of values begin with.
-use Rattle.std.proofs.Common.{◌≡◌, ◌≢◌, ℕ, ◌^◌, ◌<◌, ◌≤◌, ◌⊎◌, inl, inr, true, false, List, ◌++◌, refl, sym, ap, ◌∙◌, arith}
-use Rattle.std.specs.Prelude.{codes, slice_index}
-use Rattle.std.specs.Fmt.{decimal}
+-- Values and their forms.
+use Rattle.std.proofs.Common.{◌≡◌, ℕ, ◌^◌, ◌<◌, ◌≤◌, Bool, false, List, [], ◌∷◌, refl, arith}
 use Rattle.b3_ir.specs.declared.opcode.Ty.{Ty}
-use Rattle.b3_ir.specs.declared.opcode.Ty.TheVariants.{Void, Int64}
 use Rattle.b3_ir.specs.declared.opcode.Opcode.{Opcode}
-use Rattle.b3_ir.specs.declared.opcode.Opcode.TheVariants.{ArgumentReg, Const64, Add, Return}
+use Rattle.b3_ir.specs.declared.opcode.Opcode.TheVariants as opcodes
 use Rattle.b3_ir.specs.declared.value.Body.{Body}
 use Rattle.b3_ir.specs.declared.value.Body.TheVariants as bodies
 use Rattle.b3_ir.specs.declared.value.Value.{Value}
-use Rattle.b3_ir.specs.Fits.{Fits, IsConstantBelow}
+use Rattle.b3_ir.specs.Fits.{Fits, IsPlain, IsConstantBelow, IsTarget, HasTargets}
+use Rattle.b3_ir.specs.Shape.{IsArgumentBody, IsOneTarget, AreTwoTargets, IsFormOf, IsValueAt}
 use Rattle.b3_text.specs.declared.form.Form.{Form}
 use Rattle.b3_text.specs.declared.form.Form.TheVariants as forms
-use Rattle.b3_text.specs.OneBlock.{IsArgumentBody, IsFormOf, IsValueAt}
-use Rattle.b3_text.specs.Spelling.{type_text, register_of, word_of, operation_text, line_of}
-use Rattle.b3_text.specs.Forms.{value_of, spelled, IsForm, returns}
+use Rattle.b3_text.specs.Spelling.{register_of, word_of, phi_of, operation_text, line_of}
+use Rattle.b3_text.specs.Forms.{value_of, spelled, IsForm, IsBodyFor, opcode_of, children_of, operation_of}
 
 -- ---- the value of a form
 
-pub value_of_is_value : (k : ℕ) (form : Form) → IsForm k form → IsValueAt k (value_of k form)
-value_of_is_value k (forms.Argument n) ok = record { id = refl; line = refl; chill = refl; traps = refl; form = (refl, refl, ok) }
-value_of_is_value k (forms.Constant n) ok = record { id = refl; line = refl; chill = refl; traps = refl; form = (refl, refl, ok) }
-value_of_is_value k (forms.Sum i j) ok = record { id = refl; line = refl; chill = refl; traps = refl; form = (refl, (i, j, refl, ok.0, ok.1), tt) }
-value_of_is_value k (forms.Return i) ok = record { id = refl; line = refl; chill = refl; traps = refl; form = (refl, (i, refl, ok), tt) }
+one_target : (body : Body) → IsOneTarget body → HasTargets 1 body
+one_target (bodies.Targets (block ∷ [])) h = refl
+one_target _ h = absurd h
 
-pub value_of_fits : (k : ℕ) (form : Form) → IsForm k form → Fits (value_of k form)
-value_of_fits k (forms.Argument n) ok = record { body = omega arith; chill = refl; traps = refl }
-value_of_fits k (forms.Constant n) ok = record { body = ok; chill = refl; traps = refl }
-value_of_fits k (forms.Sum i j) ok = record { body = tt; chill = refl; traps = refl }
-value_of_fits k (forms.Return i) ok = record { body = tt; chill = refl; traps = refl }
+two_targets : (body : Body) → AreTwoTargets body → HasTargets 2 body
+two_targets (bodies.Targets (block ∷ other ∷ [])) h = refl
+two_targets _ h = absurd h
 
-pub value_of_returns : (k : ℕ) (form : Form) → returns form ≡ true → (value_of k form).kind.opcode ≡ Return
-value_of_returns k (forms.Argument n) h = absurd cc
-value_of_returns k (forms.Constant n) h = absurd cc
-value_of_returns k (forms.Sum i j) h = absurd cc
-value_of_returns k (forms.Return i) h = refl
+pub value_of_fits : (k row : ℕ) (form : Form) (body : Body) → IsForm k form → IsBodyFor form body → Fits (value_of k row form body)
+value_of_fits k row (forms.Argument n) body ok e = rw e (record { body = omega arith; chill = refl; traps = refl })
+value_of_fits k row (forms.Constant n) body ok e = rw e (record { body = ok; chill = refl; traps = refl })
+value_of_fits k row (forms.Sum i j) body ok e = rw e (record { body = tt; chill = refl; traps = refl })
+value_of_fits k row (forms.Difference i j) body ok e = rw e (record { body = tt; chill = refl; traps = refl })
+value_of_fits k row forms.Phi body ok e = rw e (record { body = tt; chill = refl; traps = refl })
+value_of_fits k row (forms.Upsilon i phi) body ok e = rw e (record { body = ok.1; chill = refl; traps = refl })
+value_of_fits k row forms.Jump body ok h = record { body = one_target body h; chill = refl; traps = refl }
+value_of_fits k row (forms.Branch i) body ok h = record { body = two_targets body h; chill = refl; traps = refl }
+value_of_fits k row (forms.Return i) body ok e = rw e (record { body = tt; chill = refl; traps = refl })
 
-pub value_of_goes_on : (k : ℕ) (form : Form) → returns form ≡ false → (value_of k form).kind.opcode ≢ Return
-value_of_goes_on k (forms.Argument n) h e = absurd cc
-value_of_goes_on k (forms.Constant n) h e = absurd cc
-value_of_goes_on k (forms.Sum i j) h e = absurd cc
-value_of_goes_on k (forms.Return i) h e = absurd cc
+form_of_parts : (k : ℕ) (form : Form) (body : Body) → IsForm k form → IsBodyFor form body → IsFormOf (opcode_of form) k (value_of k 0 form body).ty (children_of form) body
+form_of_parts k (forms.Argument n) body ok e = rw e (refl, refl, ok)
+form_of_parts k (forms.Constant n) body ok e = rw e (refl, refl, ok)
+form_of_parts k (forms.Sum i j) body ok e = rw e (refl, (i, j, refl, ok.0, ok.1), tt)
+form_of_parts k (forms.Difference i j) body ok e = rw e (refl, (i, j, refl, ok.0, ok.1), tt)
+form_of_parts k forms.Phi body ok e = rw e (refl, refl, tt)
+form_of_parts k (forms.Upsilon i phi) body ok e = rw e (refl, (i, refl, ok.0), ok.1)
+form_of_parts k forms.Jump body ok h = (refl, refl, h)
+form_of_parts k (forms.Branch i) body ok h = (refl, (i, refl, ok), h)
+form_of_parts k (forms.Return i) body ok e = rw e (refl, (i, refl, ok), tt)
 
--- ---- each value of a block has a form
+pub value_of_is_value : (k row : ℕ) (form : Form) (body : Body) → IsForm k form → IsBodyFor form body → IsValueAt k row (value_of k row form body)
+value_of_is_value k row form body ok h = record { id = refl; line = refl; chill = refl; traps = refl; form = form_of_parts k form body ok h }
 
-pub low_register : (body : Body) → IsArgumentBody body → register_of body ≤ 7
-low_register (bodies.Argument reg) h = h
-low_register _ h = absurd h
+operation_of_body : (form : Form) (body : Body) → IsBodyFor form body → operation_text (opcode_of form) (children_of form) body ≡ operation_of form
+operation_of_body (forms.Argument n) body e = rw e refl
+operation_of_body (forms.Constant n) body e = rw e refl
+operation_of_body (forms.Sum i j) body e = refl
+operation_of_body (forms.Difference i j) body e = refl
+operation_of_body forms.Phi body e = refl
+operation_of_body (forms.Upsilon i phi) body e = rw e refl
+operation_of_body forms.Jump body h = refl
+operation_of_body (forms.Branch i) body h = refl
+operation_of_body (forms.Return i) body e = refl
 
-pub low_word : (body : Body) → IsConstantBelow (2 ^ 64) body → word_of body < 2 ^ 64
-low_word (bodies.Constant word) h = h
-low_word _ h = absurd h
+pub line_of_value : (k row : ℕ) (form : Form) (body : Body) → IsBodyFor form body → line_of (value_of k row form body) ≡ spelled k form
+line_of_value k row form body h = rw (operation_of_body form body h) refl
 
-parts_text : Ty → ℕ → Opcode → List ℕ → Body → List ℕ
-parts_text ty id opcode children body = type_text ty ++ (codes " b@" ++ (decimal id ++ (codes " = " ++ operation_text opcode children body)))
+-- ---- each value has a form
 
-parts_form : (opcode : Opcode) (k id : ℕ) (ty : Ty) (children : List ℕ) (body : Body) → id ≡ k → IsFormOf opcode k ty children body → (form : Form) × IsForm k form × (parts_text ty id opcode children body ≡ spelled k form)
-unfolding parts_text
-parts_form ArgumentReg k id ty children body same h = (forms.Argument (register_of body), low_register body h.2, rw (same, h.0) refl)
-parts_form Const64 k id ty children body same h = (forms.Constant (word_of body), low_word body h.2, rw (same, h.0) refl)
-parts_form Add k id ty children body same h = (forms.Sum h.1.0 h.1.1, (h.1.3, h.1.4), rw (same, h.0, h.1.2) refl)
-parts_form Return k id ty children body same h = (forms.Return h.1.0, h.1.2, rw (same, h.0, h.1.1) refl)
-parts_form _ k id ty children body same h = absurd h
+argument_body : (body : Body) → IsArgumentBody body → (register_of body ≤ 7) × (body ≡ bodies.Argument (record { 0 = register_of body }))
+argument_body (bodies.Argument reg) h = (h, refl)
+argument_body _ h = absurd h
 
-pub form_of_value : (k : ℕ) (v : Value) → IsValueAt k v → (form : Form) × IsForm k form × (line_of v ≡ spelled k form)
-unfolding parts_text
-form_of_value k v h = parts_form v.kind.opcode k v.id v.ty v.children v.body h.id h.form
+constant_body : (body : Body) → IsConstantBelow (2 ^ 64) body → (word_of body < 2 ^ 64) × (body ≡ bodies.Constant (word_of body))
+constant_body (bodies.Constant word) h = (h, refl)
+constant_body _ h = absurd h
 
--- ---- the line of a Return is the line of no other value
+target_body : (body : Body) → IsTarget body → (phi_of body < 2 ^ 31) × (body ≡ bodies.Target (phi_of body))
+target_body (bodies.Target phi) h = (h, refl)
+target_body _ h = absurd h
 
-parts_type : (opcode : Opcode) (k : ℕ) (ty : Ty) (children : List ℕ) (body : Body) → IsFormOf opcode k ty children body → ((opcode ≡ Return) × (ty ≡ Void)) ⊎ ((opcode ≢ Return) × (ty ≡ Int64))
-parts_type ArgumentReg k ty children body h = inr (λ e. absurd cc, h.0)
-parts_type Const64 k ty children body h = inr (λ e. absurd cc, h.0)
-parts_type Add k ty children body h = inr (λ e. absurd cc, h.0)
-parts_type Return k ty children body h = inl (refl, h.0)
-parts_type _ k ty children body h = absurd h
+plain_body : (body : Body) → IsPlain body → body ≡ bodies.Plain
+plain_body bodies.Plain h = refl
+plain_body _ h = absurd h
 
-type_text-differ : (s t : Ty) (x y : List ℕ) → s ≡ Void → t ≡ Int64 → type_text s ++ x ≡ type_text t ++ y → ⊥
-type_text-differ s t x y p q e =
-    let void : type_text s ++ x ≡ codes "Void" ++ x = ap (λ (z : Ty). type_text z ++ x) p in
-    let int : type_text t ++ y ≡ codes "Int64" ++ y = ap (λ (z : Ty). type_text z ++ y) q in
-    let letters : ◌≡◌ {A = ℕ} 86 73 = ap (λ (bytes : List ℕ). slice_index bytes 0) (sym void ∙ e ∙ int) in
-    absurd (omega arith)
+value_parts : ℕ → Ty → Opcode → Bool → Bool → List ℕ → Body → ℕ → Value
+value_parts id ty opcode chill traps children body line = record { id = id; ty = ty; kind = record { opcode = opcode; chill = chill; traps = traps }; children = children; body = body; line = line }
 
-pub return_line : (j k : ℕ) (v w : Value) → IsValueAt j v → IsValueAt k w → line_of v ≡ line_of w → v.kind.opcode ≡ Return → w.kind.opcode ≡ Return
-return_line j k v w p q e ends =
-    elim (parts_type v.kind.opcode j v.ty v.children v.body p.form) [
-      | inr unended ↦ absurd (unended.0 ends)
-      | inl closed ↦ elim (parts_type w.kind.opcode k w.ty w.children w.body q.form) [
-        | inl also ↦ also.0
-        | inr unended ↦ absurd (type_text-differ v.ty w.ty _ _ closed.1 unended.1 e)
-      ]
-    ]
+parts_value : (opcode : Opcode) (k row id : ℕ) (ty : Ty) (chill traps : Bool) (children : List ℕ) (body : Body) (line : ℕ) → id ≡ k → line ≡ row → chill ≡ false → traps ≡ false → IsFormOf opcode k ty children body → (form : Form) × IsForm k form × IsBodyFor form body × (value_parts id ty opcode chill traps children body line ≡ value_of k row form body)
+unfolding value_parts
+parts_value opcodes.ArgumentReg k row id ty chill traps children body line a b c d h = (let p = argument_body body h.2 in (forms.Argument (register_of body), p.0, p.1, rw (a, b, c, d, h.0, h.1) refl))
+parts_value opcodes.Const64 k row id ty chill traps children body line a b c d h = (let p = constant_body body h.2 in (forms.Constant (word_of body), p.0, p.1, rw (a, b, c, d, h.0, h.1) refl))
+parts_value opcodes.Add k row id ty chill traps children body line a b c d h = (forms.Sum h.1.0 h.1.1, (h.1.3, h.1.4), plain_body body h.2, rw (a, b, c, d, h.0, h.1.2) refl)
+parts_value opcodes.Sub k row id ty chill traps children body line a b c d h = (forms.Difference h.1.0 h.1.1, (h.1.3, h.1.4), plain_body body h.2, rw (a, b, c, d, h.0, h.1.2) refl)
+parts_value opcodes.Phi k row id ty chill traps children body line a b c d h = (forms.Phi, tt, plain_body body h.2, rw (a, b, c, d, h.0, h.1) refl)
+parts_value opcodes.Upsilon k row id ty chill traps children body line a b c d h = (let p = target_body body h.2 in (forms.Upsilon h.1.0 (phi_of body), (h.1.2, p.0), p.1, rw (a, b, c, d, h.0, h.1.1) refl))
+parts_value opcodes.Jump k row id ty chill traps children body line a b c d h = (forms.Jump, tt, h.2, rw (a, b, c, d, h.0, h.1) refl)
+parts_value opcodes.Branch k row id ty chill traps children body line a b c d h = (forms.Branch h.1.0, h.1.2, h.2, rw (a, b, c, d, h.0, h.1.1) refl)
+parts_value opcodes.Return k row id ty chill traps children body line a b c d h = (forms.Return h.1.0, h.1.2, plain_body body h.2, rw (a, b, c, d, h.0, h.1.1) refl)
+parts_value _ k row id ty chill traps children body line a b c d h = absurd h
+
+pub value_form : (k row : ℕ) (v : Value) → IsValueAt k row v → (form : Form) × IsForm k form × IsBodyFor form v.body × (v ≡ value_of k row form v.body)
+unfolding value_parts
+value_form k row v h = parts_value v.kind.opcode k row v.id v.ty v.kind.chill v.kind.traps v.children v.body v.line h.id h.line h.chill h.traps h.form

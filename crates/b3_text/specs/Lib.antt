@@ -1,6 +1,6 @@
 pub mod Lines
 pub mod Digits
 pub mod Spelling
-pub mod OneBlock
 pub mod Forms
+pub mod Places
 pub mod Texts

@@ -5,9 +5,9 @@ use b3_base::NoMemory;
 /// Why a text is refused.
 #[derive(Clone, Copy, Debug, PartialEq, Eq)]
 pub enum TextFault {
-    /// The bytes are no text of a procedure of one block; `line` is the bad line, counted from 1:
-    /// the least line that doesn't fit its place, or one more than the number of lines where the
-    /// text ends too early.
+    /// The bytes are no text of a procedure of the forms that are built; `line` is the bad line,
+    /// counted from 1: the least with which the lines no longer begin such a text, or one more than
+    /// the number of lines where the text ends too early.
     NotBuilt { line: u32 },
     /// An allocation was refused.
     NoMemory,

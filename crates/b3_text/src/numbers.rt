@@ -42,6 +42,20 @@ pub(crate) fn number(digits: &[u8]) -> Option<u64>
     digits_value(digits)
 }
 
+/// The number below `limit` that digits without leading zeros spell.
+pub(crate) fn number_below(digits: &[u8], limit: u32) -> Option<u32>
+    ensures found { IfSome result (λ n. digits.now ≡ decimal n) }
+    ensures below { IfSome result (λ n. n < limit) }
+    ensures exact { (n : ℕ) → n < limit → digits.now ≡ decimal n → result ≡ Some n }
+{
+    let value = number(digits)?;
+    if value < u64::from(limit) {
+        Some(value as u32)
+    } else {
+        None
+    }
+}
+
 /// The number before the first `stop`, and what follows that.
 pub(crate) fn number_before<'a>(text: &'a [u8], stop: u8) -> Option<(u64, &'a [u8])>
     requires { stop < 48 }

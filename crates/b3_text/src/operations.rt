@@ -2,77 +2,109 @@
 
 ghost use Rattle.std.specs.Prelude.{◌≡◌, ℕ, ◌^◌, ◌<◌, ◌≤◌, List, [], ◌∷◌, ◌++◌, codes, Some, IfSome, IfNone, IsSomeAnd};
 ghost use Rattle.std.specs.Fmt.{decimal};
+ghost use Rattle.b3_ir.specs.declared.opcode.Ty.TheVariants.{Void, Int64};
 ghost use Rattle.b3_text.specs.declared.form.Form.{Form as form_type};
-ghost use Rattle.b3_text.specs.declared.form.Form.TheVariants.{Argument, Constant, Sum, Return};
-ghost use Rattle.b3_text.specs.Forms.{spelled, operation_of, IsForm};
+ghost use Rattle.b3_text.specs.declared.form.Form.TheVariants.{Argument, Constant};
+ghost use Rattle.b3_text.specs.Forms.{spelled, operation_of, type_of, IsForm};
 
 use crate::form::Form;
-use crate::numbers::{number, number_before, word};
-use crate::scan::after;
-
-/// What stands between `front` and a closing parenthesis at the end.
-fn within<'a>(text: &'a [u8], front: &[u8]) -> Option<&'a [u8]>
-    ensures found { IfSome result (λ inner. text.now ≡ front.now ++ (inner.now ++ 41 ∷ [])) }
-    ensures exact { (inner : List ℕ) → text.now ≡ front.now ++ (inner ++ 41 ∷ []) → IsSomeAnd result (λ x. x.now ≡ inner) }
-{
-    let (last, inner) = after(text, front)?.split_last()?;
-    if *last == b')' { Some(inner) } else { None }
-}
-
-/// An id of a value before the value of this number.
-fn id(digits: &[u8], number_of_value: u32) -> Option<u32>
-    ensures found { IfSome result (λ i. digits.now ≡ decimal i) }
-    ensures below { IfSome result (λ i. i < number_of_value) }
-    ensures exact { (i : ℕ) → i < number_of_value → digits.now ≡ decimal i → result ≡ Some i }
-{
-    let id = number(digits)?;
-    if id < u64::from(number_of_value) {
-        Some(id as u32)
-    } else {
-        None
-    }
-}
+use crate::numbers::{number_before, number_below, word};
+use crate::scan::{after, within};
 
 fn argument(text: &[u8]) -> Option<u8>
     ensures found { IfSome result (λ n. text.now ≡ operation_of (Argument n)) }
     ensures below { IfSome result (λ n. n ≤ 7) }
     ensures exact { (n : ℕ) → n ≤ 7 → text.now ≡ operation_of (Argument n) → result ≡ Some n }
 {
-    let register = number(within(text, b"ArgumentReg(%x")?)?;
-    if register <= 7 {
-        Some(register as u8)
-    } else {
-        None
-    }
+    let register = number_below(within(text, b"ArgumentReg(%x", b')')?, 8)?;
+    Some(register as u8)
 }
 
 fn constant(text: &[u8]) -> Option<u64>
     ensures found { IfSome result (λ n. text.now ≡ operation_of (Constant n)) }
     ensures exact { (n : ℕ) → n < 2 ^ 64 → text.now ≡ operation_of (Constant n) → result ≡ Some n }
 {
-    word(within(text, b"Const64(")?)
+    word(within(text, b"Const64(", b')')?)
 }
 
-fn sum(text: &[u8], number: u32) -> Option<(u32, u32)>
-    ensures found { IfSome result (λ x. text.now ≡ operation_of (Sum x.0 x.1)) }
-    ensures below { IfSome result (λ x. (x.0 < number) × (x.1 < number)) }
-    ensures exact { (i j : ℕ) → i < number → j < number → text.now ≡ operation_of (Sum i j) → result ≡ Some (i, j) }
+/// The number between `front` and a closing parenthesis at the end.
+fn one(text: &[u8], front: &[u8], limit: u32) -> Option<u32>
+    ensures found { IfSome result (λ i. text.now ≡ front.now ++ (decimal i ++ 41 ∷ [])) }
+    ensures below { IfSome result (λ i. i < limit) }
+    ensures exact { (i : ℕ) → i < limit → text.now ≡ front.now ++ (decimal i ++ 41 ∷ []) → result ≡ Some i }
 {
-    let (left, rest) = number_before(after(text, b"Add(b@")?, b',')?;
-    let right = id(within(rest, b" b@")?, number)?;
-    if left < u64::from(number) {
+    number_below(within(text, front, b')')?, limit)
+}
+
+/// The two numbers behind `front` and behind a comma and `between`, before a closing parenthesis
+/// at the end.
+fn two(
+    text: &[u8],
+    front: &[u8],
+    between: &[u8],
+    limit: u32,
+    second_limit: u32,
+) -> Option<(u32, u32)>
+    ensures found { IfSome result (λ x. text.now ≡ front.now ++ (decimal x.0 ++ 44 ∷ (between.now ++ (decimal x.1 ++ 41 ∷ [])))) }
+    ensures below { IfSome result (λ x. (x.0 < limit) × (x.1 < second_limit)) }
+    ensures exact { (i j : ℕ) → i < limit → j < second_limit → text.now ≡ front.now ++ (decimal i ++ 44 ∷ (between.now ++ (decimal j ++ 41 ∷ []))) → result ≡ Some (i, j) }
+{
+    let (left, rest) = number_before(after(text, front)?, b',')?;
+    let right = one(rest, between, second_limit)?;
+    if left < u64::from(limit) {
         Some((left as u32, right))
     } else {
         None
     }
 }
 
-fn returned(text: &[u8], number: u32) -> Option<u32>
-    ensures found { IfSome result (λ i. text.now ≡ operation_of (Return i)) }
-    ensures below { IfSome result (λ i. i < number) }
-    ensures exact { (i : ℕ) → i < number → text.now ≡ operation_of (Return i) → result ≡ Some i }
+/// The form that an operation of type Int64 spells in the value of this number.
+fn word_form(text: &[u8], number: u32) -> Option<Form>
+    ensures form { IfSome result (λ form. IsForm number form) }
+    ensures ty { IfSome result (λ form. type_of form ≡ Int64) }
+    ensures found { IfSome result (λ form. text.now ≡ operation_of form) }
+    ensures none { IfNone result ((form : form_type) → IsForm number form → type_of form ≡ Int64 → text.now ≡ operation_of form → ⊥) }
 {
-    id(within(text, b"Return(b@")?, number)
+    if let Some(register) = argument(text) {
+        return Some(Form::Argument(register));
+    }
+    if let Some(word) = constant(text) {
+        return Some(Form::Constant(word));
+    }
+    if let Some((left, right)) = two(text, b"Add(b@", b" b@", number, number) {
+        return Some(Form::Sum(left, right));
+    }
+    if let Some((left, right)) = two(text, b"Sub(b@", b" b@", number, number) {
+        return Some(Form::Difference(left, right));
+    }
+    if text == b"Phi()".as_slice() {
+        Some(Form::Phi)
+    } else {
+        None
+    }
+}
+
+/// The form that an operation of type Void spells in the value of this number.
+fn void_form(text: &[u8], number: u32) -> Option<Form>
+    ensures form { IfSome result (λ form. IsForm number form) }
+    ensures ty { IfSome result (λ form. type_of form ≡ Void) }
+    ensures found { IfSome result (λ form. text.now ≡ operation_of form) }
+    ensures none { IfNone result ((form : form_type) → IsForm number form → type_of form ≡ Void → text.now ≡ operation_of form → ⊥) }
+{
+    if let Some((child, phi)) = two(text, b"Upsilon(b@", b" ^", number, 1 << 31) {
+        return Some(Form::Upsilon(child, phi));
+    }
+    if let Some(child) = one(text, b"Branch(b@", number) {
+        return Some(Form::Branch(child));
+    }
+    if let Some(child) = one(text, b"Return(b@", number) {
+        return Some(Form::Return(child));
+    }
+    if text == b"Jump()".as_slice() {
+        Some(Form::Jump)
+    } else {
+        None
+    }
 }
 
 /// What follows `front`, this number and ` = `.
@@ -95,15 +127,7 @@ pub(crate) fn form_in(line: &[u8], number: u32) -> Option<Form>
     ensures none { IfNone result ((form : form_type) → IsForm number form → line.now ≡ spelled number form → ⊥) }
 {
     if let Some(text) = operation_after(line, b"Void b@", number) {
-        return Some(Form::Return(returned(text, number)?));
+        return void_form(text, number);
     }
-    let text = operation_after(line, b"Int64 b@", number)?;
-    if let Some(register) = argument(text) {
-        return Some(Form::Argument(register));
-    }
-    if let Some(word) = constant(text) {
-        return Some(Form::Constant(word));
-    }
-    let (left, right) = sum(text, number)?;
-    Some(Form::Sum(left, right))
+    word_form(operation_after(line, b"Int64 b@", number)?, number)
 }

@@ -1,58 +1,222 @@
 //! Reading a text.
 
-ghost use Rattle.std.specs.Prelude.{◌≡◌, ◌↔◌, ℕ, ◌+◌, ◌<◌, List, [], ◌∷◌, map, IsTrue, IfOk, OnOk, IfErr};
-ghost use Rattle.b3_ir.specs.declared.value.Value.{Value};
+ghost use Rattle.std.specs.Prelude.{◌≡◌, ℕ, ◌+◌, ◌<◌, ◌≤◌, ◌^◌, ◌-◌, ◌↔◌, [], ◌∷◌, length, IsTrue, IfOk, OnOk, IfErr};
 ghost use Rattle.b3_ir.specs.Procedure.{Procedure, values_of};
+ghost use Rattle.b3_text.specs.declared.place.Place.TheVariants as places;
 ghost use Rattle.b3_text.specs.Lines.{trimmed_lines};
-ghost use Rattle.b3_text.specs.Spelling.{heading, line_of};
-ghost use Rattle.b3_text.specs.OneBlock.{IsBlock};
-ghost use Rattle.b3_text.specs.Texts.{Spells, BadLine, BadBlock, IfNotBuilt, Gives};
+ghost use Rattle.b3_text.specs.Forms.{value_of, IsForm, IsBodyFor};
+ghost use Rattle.b3_text.specs.Places.{with_value, last_of, Follows, Leads, NoneFollows, IsReachable, MayEnd, IsBadAmong, IsOnly};
+ghost use Rattle.b3_text.specs.Texts.{Spells, BadLine, IfNotBuilt, Gives};
 
+use crate::blocks::{is_heading, successor_in, successors_in};
 use crate::fault::TextFault;
+use crate::form::Form;
 use crate::lines::next_line;
 use crate::names::name_in;
 use crate::operations::form_in;
-use b3_ir::{Module, Proc};
+use crate::place::{Place, Progress};
+use b3_base::{Ids, NoMemory};
+use b3_ir::{Body, Module, Proc};
 use std::alloc::Global;
 
-fn is_heading(line: &[u8]) -> bool
-    ensures { IsTrue result ↔ (line.now ≡ heading) }
+/// Adds the value that a form makes to the last block. It is refused for want of memory alone.
+fn push(
+    alloc: Global,
+    proc: &mut Proc,
+    form: Form,
+    number: u32,
+    line: u32,
+    body: Body,
+) -> Result<(), NoMemory>
+    requires some { 1 ≤ length proc.old.blocks }
+    requires few { length proc.old.blocks < 2 ^ 32 - 2 }
+    requires short { length (values_of proc.old (last_of proc.old)) < 2 ^ 32 - 2 }
+    requires form { IsForm number form }
+    requires body { IsBodyFor form body }
+    ensures { OnOk result (proc.new ≡ with_value proc.old (value_of number line form body)) }
 {
-    line == b"BB#0:".as_slice()
+    let last = proc.blocks() - 1;
+    proc.push(last as u32, form.value(alloc, number, line, body)?)
 }
 
-/// Reads the lines of a block into a procedure that has no block.
-fn read_block(alloc: Global, proc: &mut Proc, bytes: &[u8]) -> Result<(), TextFault>
-    requires { proc.old.blocks ≡ [] }
-    ensures kept { OnOk result (proc.new ≡ record proc.old { blocks = values_of proc.new 0 ∷ [] }) }
-    ensures block { OnOk result (IsBlock (values_of proc.new 0)) }
-    ensures lines { OnOk result (trimmed_lines bytes.now ≡ map line_of (values_of proc.new 0)) }
-    ensures bad { IfErr result (λ fault. IfNotBuilt fault (λ line. (k : ℕ) × (line ≡ k + 3) × BadBlock (trimmed_lines bytes.now) k)) }
+/// Reads the line of a heading.
+fn read_heading(proc: &mut Proc, number: u32, row: u32, line: &[u8]) -> Result<Progress, TextFault>
+    requires reachable { IsReachable proc.old places.Heading number row }
+    requires few { row < 2 ^ 32 - 2 }
+    ensures leads { IfOk result (λ next. Leads proc.old places.Heading number row (line.now ∷ []) proc.new next) }
+    ensures reachable { IfOk result (λ next. IsReachable proc.new next.place next.number next.row) }
+    ensures row { IfOk result (λ next. next.row ≡ row + 1) }
+    ensures bad { IfErr result (λ fault. IfNotBuilt fault (λ n. (n ≡ row + 1) × NoneFollows proc.old places.Heading number row line.now)) }
 {
-    proc.add_block()?;
-    let mut rest = bytes;
-    for number in 0..256 {
-        let Some((line, after)) = next_line(rest) else {
-            return Err(TextFault::NotBuilt { line: number + 3 });
-        };
-        let Some(form) = form_in(line, number) else {
-            return Err(TextFault::NotBuilt { line: number + 3 });
-        };
-        proc.push(0, form.value(alloc, number)?)?;
-        rest = after;
-        if form.returns() {
-            if rest.is_empty() {
-                return Ok(());
-            }
-            return Err(TextFault::NotBuilt { line: number + 4 });
-        }
+    if !is_heading(line, proc.blocks() as u32) {
+        return Err(TextFault::NotBuilt { line: row + 1 });
     }
-    Err(TextFault::NotBuilt { line: 259 })
+    proc.add_block()?;
+    Ok(Progress {
+        place: Place::Value,
+        number,
+        row: row + 1,
+    })
+}
+
+/// Reads the line of a value.
+fn read_value(
+    alloc: Global,
+    proc: &mut Proc,
+    number: u32,
+    row: u32,
+    line: &[u8],
+) -> Result<Progress, TextFault>
+    requires reachable { IsReachable proc.old places.Value number row }
+    requires few { row < 2 ^ 32 - 2 }
+    ensures leads { IfOk result (λ next. Leads proc.old places.Value number row (line.now ∷ []) proc.new next) }
+    ensures reachable { IfOk result (λ next. IsReachable proc.new next.place next.number next.row) }
+    ensures row { IfOk result (λ next. next.row ≡ row + 1) }
+    ensures bad { IfErr result (λ fault. IfNotBuilt fault (λ n. (n ≡ row + 1) × NoneFollows proc.old places.Value number row line.now)) }
+{
+    let Some(form) = form_in(line, number) else {
+        return Err(TextFault::NotBuilt { line: row + 1 });
+    };
+    let place = Place::after(form);
+    if form.has_successors() {
+        return Ok(Progress {
+            place,
+            number,
+            row: row + 1,
+        });
+    }
+    push(alloc, proc, form, number, row + 1, form.body())?;
+    Ok(Progress {
+        place,
+        number: number + 1,
+        row: row + 1,
+    })
+}
+
+/// Reads the line of the successor of a Jump.
+fn read_successor(
+    alloc: Global,
+    proc: &mut Proc,
+    number: u32,
+    row: u32,
+    line: &[u8],
+) -> Result<Progress, TextFault>
+    requires reachable { IsReachable proc.old places.Jump number row }
+    requires few { row < 2 ^ 32 - 2 }
+    ensures leads { IfOk result (λ next. Leads proc.old places.Jump number row (line.now ∷ []) proc.new next) }
+    ensures reachable { IfOk result (λ next. IsReachable proc.new next.place next.number next.row) }
+    ensures row { IfOk result (λ next. next.row ≡ row + 1) }
+    ensures bad { IfErr result (λ fault. IfNotBuilt fault (λ n. (n ≡ row + 1) × NoneFollows proc.old places.Jump number row line.now)) }
+{
+    let Some(block) = successor_in(line) else {
+        return Err(TextFault::NotBuilt { line: row + 1 });
+    };
+    let mut targets = Ids::new(alloc);
+    targets.push(block)?;
+    push(alloc, proc, Form::Jump, number, row, Body::Targets(targets))?;
+    Ok(Progress {
+        place: Place::Heading,
+        number: number + 1,
+        row: row + 1,
+    })
+}
+
+/// Reads the line of the successors of a Branch on this child.
+fn read_successors(
+    alloc: Global,
+    proc: &mut Proc,
+    child: u32,
+    number: u32,
+    row: u32,
+    line: &[u8],
+) -> Result<Progress, TextFault>
+    requires reachable { IsReachable proc.old (places.Branch child) number row }
+    requires few { row < 2 ^ 32 - 2 }
+    ensures leads { IfOk result (λ next. Leads proc.old (places.Branch child) number row (line.now ∷ []) proc.new next) }
+    ensures reachable { IfOk result (λ next. IsReachable proc.new next.place next.number next.row) }
+    ensures row { IfOk result (λ next. next.row ≡ row + 1) }
+    ensures bad { IfErr result (λ fault. IfNotBuilt fault (λ n. (n ≡ row + 1) × NoneFollows proc.old (places.Branch child) number row line.now)) }
+{
+    let Some((then_block, else_block)) = successors_in(line) else {
+        return Err(TextFault::NotBuilt { line: row + 1 });
+    };
+    let mut targets = Ids::new(alloc);
+    targets.push(then_block)?;
+    targets.push(else_block)?;
+    push(
+        alloc,
+        proc,
+        Form::Branch(child),
+        number,
+        row,
+        Body::Targets(targets),
+    )?;
+    Ok(Progress {
+        place: Place::Heading,
+        number: number + 1,
+        row: row + 1,
+    })
+}
+
+/// Reads the next line.
+fn read_line(
+    alloc: Global,
+    proc: &mut Proc,
+    at: Progress,
+    line: &[u8],
+) -> Result<Progress, TextFault>
+    requires reachable { IsReachable proc.old at.place at.number at.row }
+    requires few { at.row < 2 ^ 32 - 2 }
+    ensures leads { IfOk result (λ next. Leads proc.old at.place at.number at.row (line.now ∷ []) proc.new next) }
+    ensures reachable { IfOk result (λ next. IsReachable proc.new next.place next.number next.row) }
+    ensures row { IfOk result (λ next. next.row ≡ at.row + 1) }
+    ensures bad { IfErr result (λ fault. IfNotBuilt fault (λ n. (n ≡ at.row + 1) × NoneFollows proc.old at.place at.number at.row line.now)) }
+{
+    match at.place {
+        Place::Heading => read_heading(proc, at.number, at.row, line),
+        Place::Value => read_value(alloc, proc, at.number, at.row, line),
+        Place::Jump => read_successor(alloc, proc, at.number, at.row, line),
+        Place::Branch { child } => read_successors(alloc, proc, child, at.number, at.row, line),
+    }
+}
+
+/// Whether a text may end there.
+fn may_end(proc: &Proc, place: Place) -> bool
+    ensures { IsTrue result ↔ MayEnd proc.now place }
+{
+    matches!(place, Place::Heading) && proc.blocks() > 0
+}
+
+/// Reads the lines behind the header into a procedure that has no block.
+fn read_blocks(alloc: Global, proc: &mut Proc, bytes: &[u8]) -> Result<(), TextFault>
+    requires none { proc.old.blocks ≡ [] }
+    requires short { length (trimmed_lines bytes.now) < 2 ^ 32 - 2 }
+    ensures read { OnOk result (Follows proc.old places.Heading 0 1 proc.new (trimmed_lines bytes.now)) }
+    ensures only { OnOk result (IsOnly proc.old (trimmed_lines bytes.now) proc.new) }
+    ensures bad { IfErr result (λ fault. IfNotBuilt fault (λ line. (n : ℕ) × (line ≡ n + 2) × IsBadAmong proc.old (trimmed_lines bytes.now) n)) }
+{
+    let mut at = Progress {
+        place: Place::Heading,
+        number: 0,
+        row: 1,
+    };
+    let mut rest = bytes;
+    while let Some((line, after)) = next_line(rest) {
+        at = read_line(alloc, proc, at, line)?;
+        rest = after;
+    }
+    if may_end(proc, at.place) {
+        Ok(())
+    } else {
+        Err(TextFault::NotBuilt { line: at.row + 1 })
+    }
 }
 
 /// Reads the lines of a text.
 fn read_text(alloc: Global, bytes: &[u8]) -> Result<Module, TextFault>
+    requires { length bytes.now < 2 ^ 32 - 1 }
     ensures ok { IfOk result (λ module_. (p : Procedure) × (module_ ≡ p ∷ []) × Spells bytes.now p) }
+    ensures only { IfOk result (λ module_. (p : Procedure) → Spells bytes.now p → module_ ≡ p ∷ []) }
     ensures bad_line { IfErr result (λ fault. IfNotBuilt fault (λ line. BadLine bytes.now line)) }
 {
     let Some((header, rest)) = next_line(bytes) else {
@@ -61,21 +225,17 @@ fn read_text(alloc: Global, bytes: &[u8]) -> Result<Module, TextFault>
     let Some(name) = name_in(header) else {
         return Err(TextFault::NotBuilt { line: 1 });
     };
-    let Some((second, rest)) = next_line(rest) else {
-        return Err(TextFault::NotBuilt { line: 2 });
-    };
-    if !is_heading(second) {
-        return Err(TextFault::NotBuilt { line: 2 });
-    }
     let mut module = Module::new(alloc);
     module.add_proc(name, 1)?;
-    read_block(alloc, module.proc_mut(0), rest)?;
+    read_blocks(alloc, module.proc_mut(0), rest)?;
     Ok(module)
 }
 
 /// The module of the one procedure that the bytes spell. It is refused with `NotBuilt` exactly
 /// where they spell none, and else for want of memory alone.
 pub fn read(alloc: Global, bytes: &[u8]) -> Result<Module, TextFault>
+    // 32 bits count the lines.
+    requires { length bytes.now < 2 ^ 32 - 1 }
     // What is read is spelled so.
     ensures ok { IfOk result (λ module_. (p : Procedure) × (module_ ≡ p ∷ []) × Spells bytes.now p) }
     // The line of a refusal is the bad line.

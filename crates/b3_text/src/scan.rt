@@ -1,6 +1,6 @@
 //! Cutting bytes at a byte, and behind a text at their front.
 
-ghost use Rattle.std.specs.Prelude.{◌≡◌, ◌≢◌, ℕ, List, ◌∷◌, ◌++◌, IfSome, IfNone, IsSomeAnd};
+ghost use Rattle.std.specs.Prelude.{◌≡◌, ◌≢◌, ℕ, List, [], ◌∷◌, ◌++◌, IfSome, IfNone, IsSomeAnd};
 ghost use Rattle.std.specs.List.{AllByRecursion};
 
 /// The bytes before the first `stop`, and those after it, or None where there is no `stop`.
@@ -23,4 +23,13 @@ pub(crate) fn after<'a>(bytes: &'a [u8], front: &[u8]) -> Option<&'a [u8]>
     }
     let (start, rest) = bytes.split_at(front.len());
     if start == front { Some(rest) } else { None }
+}
+
+/// What stands between `front` and the byte `back` at the end.
+pub(crate) fn within<'a>(text: &'a [u8], front: &[u8], back: u8) -> Option<&'a [u8]>
+    ensures found { IfSome result (λ inner. text.now ≡ front.now ++ (inner.now ++ back ∷ [])) }
+    ensures exact { (inner : List ℕ) → text.now ≡ front.now ++ (inner ++ back ∷ []) → IsSomeAnd result (λ x. x.now ≡ inner) }
+{
+    let (last, inner) = after(text, front)?.split_last()?;
+    if *last == back { Some(inner) } else { None }
 }

@@ -1,13 +1,39 @@
-use Rattle.std.proofs.Common.{◌≡◌, ℕ, List, ◌∷◌, ap, ◌∙◌}
+use Rattle.std.proofs.Common.{◌≡◌, ℕ, List, ◌∷◌, ap, ◌∙◌, arith}
 use Rattle.std.proofs.lemmas.Result.{err_from_is_err_and}
+use Rattle.b3_ir.specs.Procedure.{empty_procedure}
 use Rattle.b3_text.specs.Lines.{trimmed_lines}
-use Rattle.b3_text.specs.Spelling.{heading}
-use Rattle.b3_text.proofs.TextLemmas.{block_fault}
+use Rattle.b3_text.specs.Spelling.{header_of}
+use Rattle.b3_text.proofs.LineLemmas.{lines_short}
+use Rattle.b3_text.proofs.WholeLemmas.{no_line, bad_header, behind_fault, only_behind, one_added, one_there, one_written}
 use Rattle.b3_text.proofs.reading.read_text.Goals as goal
 
-pub returns-in_err-read_block-clause-bad_line : goal.returns-in_err-read_block-clause-bad_line
-returns-in_err-read_block-clause-bad_line c =
-    let p = err_from_is_err_and c.from_residual-in_err-read_block.result c.from_residual-in_err-read_block.ensures.1 in
-    let lines : trimmed_lines c.args.bytes.now ≡ c.in-Some.header.now ∷ c.in-Some-next_line.second.now ∷ trimmed_lines c.in-Some-next_line.rest.now = c.in-Some.ensures.some ∙ ap (λ (rest : List (List ℕ)). c.in-Some.header.now ∷ rest) c.in-Some-next_line.ensures.some in
-    let second : c.in-Some-next_line.second.now ≡ heading = c.is_heading.ensures.0 cc in
-    rw (p.1, p.2) (block_fault c.args.bytes.now c.in-Some.header.now c.in-Some-name_in.name.now c.in-Some-next_line.second.now (trimmed_lines c.in-Some-next_line.rest.now) c.in_err-read_block.field-0.0 lines c.in-Some-name_in.ensures.name c.in-Some-name_in.ensures.found second c.in_err-read_block.ensures.bad)
+pub returns-in_default-clause-bad_line : goal.returns-in_default-clause-bad_line
+returns-in_default-clause-bad_line c = rw c.in_default.ensures.none no_line
+
+pub returns-in_default-name_in-clause-bad_line : goal.returns-in_default-name_in-clause-bad_line
+returns-in_default-name_in-clause-bad_line c =
+    rw c.in-Some.ensures.some (bad_header c.in-Some.header.now (trimmed_lines c.in-Some.rest.now) c.in_default-name_in.ensures.none)
+
+pub read_blocks-requires-clause-short : goal.read_blocks-requires-clause-short
+read_blocks-requires-clause-short c =
+    let short = rw c.in-Some.ensures.some at (lines_short c.args.bytes.now) in
+    omega arith
+
+pub returns-in_err-read_blocks-clause-bad_line : goal.returns-in_err-read_blocks-clause-bad_line
+returns-in_err-read_blocks-clause-bad_line c =
+    let rest = trimmed_lines c.in-Some.rest.now in
+    let name = c.in-Some-name_in.name.now in
+    let lines : trimmed_lines c.args.bytes.now ≡ header_of name ∷ rest = c.in-Some.ensures.some ∙ ap (λ (line : List ℕ). line ∷ rest) c.in-Some-name_in.ensures.found in
+    let one = one_added c.new-module.result c.add_proc.new.self (empty_procedure name 1) c.new-module.ensures c.in_ok-add_proc.ensures.ok in
+    let first = one_there c.add_proc.new.self (empty_procedure name 1) c.proc_mut.result.now one c.proc_mut.ensures.value in
+    let p = err_from_is_err_and c.from_residual-in_err-read_blocks.result c.from_residual-in_err-read_blocks.ensures.1 in
+    rw (p.1, p.2) (behind_fault c.args.bytes.now name c.proc_mut.result.now rest c.in_err-read_blocks.field-0.0 lines c.in-Some-name_in.ensures.name first c.in_err-read_blocks.ensures.bad)
+
+pub returns-clause-only : goal.returns-clause-only
+returns-clause-only c p h =
+    let rest = trimmed_lines c.in-Some.rest.now in
+    let name = c.in-Some-name_in.name.now in
+    let lines : trimmed_lines c.args.bytes.now ≡ header_of name ∷ rest = c.in-Some.ensures.some ∙ ap (λ (line : List ℕ). line ∷ rest) c.in-Some-name_in.ensures.found in
+    let one = one_added c.new-module.result c.add_proc.new.self (empty_procedure name 1) c.new-module.ensures c.in_ok-add_proc.ensures.ok in
+    let first = one_there c.add_proc.new.self (empty_procedure name 1) c.proc_mut.result.now one c.proc_mut.ensures.value in
+    one_written c.add_proc.new.self (empty_procedure name 1) p c.read_blocks.new.proc one (only_behind c.args.bytes.now name c.proc_mut.result.now c.read_blocks.new.proc rest lines first c.in_ok-read_blocks.ensures.only p h)
