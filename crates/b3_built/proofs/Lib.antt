@@ -1,0 +1,7 @@
+pub mod Numbering
+pub mod Seen
+pub mod Entries
+pub mod Children
+pub mod Loops
+pub mod Keeping
+pub mod Drafts

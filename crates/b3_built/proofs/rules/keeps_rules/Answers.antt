@@ -1,0 +1,47 @@
+use Rattle.std.proofs.Common.{ℕ, ◌+◌, ◌<◌, ◌↔◌, List, refl, sym, subst}
+use Rattle.std.specs.Prelude.{All, IsTrue}
+use Rattle.b3_ir.specs.Built.{IsChildAt, NamesBlocks}
+use Rattle.b3_built.specs.Table.{first_id, NamesPhiEntry}
+use Rattle.b3_built.proofs.Numbering.{children_before}
+use Rattle.b3_built.proofs.Keeping.{both_held, first_failed, rules_kept}
+use Rattle.b3_built.proofs.rules.keeps_rules.Goals as goal
+use Rattle.b3_built.proofs.rules.keeps_rules.Goals.{then-children_keep, else-children_keep}
+
+pub children_keep-requires-clause-earlier : goal.children_keep-requires-clause-earlier
+children_keep-requires-clause-earlier c =
+    let P : List ℕ → Type 0 = All (λ i. i < first_id c.args.p.now.blocks c.args.at.block + c.args.at.place) in
+    subst P (sym c.as_slice.ensures) (children_before c.args.p.now c.args.at.block c.args.at.place c.args.value.now c.requires.shape c.requires.value)
+
+pub returns-then-names_keep : goal.returns-then-names_keep
+returns-then-names_keep c =
+    let p = c.args.p.now in
+    let table = c.args.table.now in
+    let b = c.args.at.block in
+    let j = c.args.at.place in
+    let v = c.args.value.now in
+    let Children : Type 0 = All (IsChildAt p b j) v.children in
+    let Names : Type 0 = NamesPhiEntry table v.body × NamesBlocks p v.body in
+    let Q : List ℕ → Type 0 = λ ids. IsTrue c.children_keep.result ↔ All (IsChildAt p b j) ids in
+    let children : IsTrue c.children_keep.result ↔ Children = subst Q c.as_slice.ensures c.children_keep.ensures in
+    let named : IsTrue c.if-children_keep.value ↔ (Children × Names) = elim c.if-children_keep.branch [
+      | then-children_keep w ↦ both_held _ _ _ children w.if-children_keep.true w.names_keep.ensures w.value-is
+      | else-children_keep w ↦ first_failed _ _ children w.if-children_keep.false w.value-is
+    ] in
+    rules_kept p table b j v c.place_keeps.result c.requires.shape c.requires.table (both_held _ _ _ named c.if-names_keep.true c.place_keeps.ensures refl)
+
+pub returns-else-names_keep : goal.returns-else-names_keep
+returns-else-names_keep c =
+    let p = c.args.p.now in
+    let table = c.args.table.now in
+    let b = c.args.at.block in
+    let j = c.args.at.place in
+    let v = c.args.value.now in
+    let Children : Type 0 = All (IsChildAt p b j) v.children in
+    let Names : Type 0 = NamesPhiEntry table v.body × NamesBlocks p v.body in
+    let Q : List ℕ → Type 0 = λ ids. IsTrue c.children_keep.result ↔ All (IsChildAt p b j) ids in
+    let children : IsTrue c.children_keep.result ↔ Children = subst Q c.as_slice.ensures c.children_keep.ensures in
+    let named : IsTrue c.if-children_keep.value ↔ (Children × Names) = elim c.if-children_keep.branch [
+      | then-children_keep w ↦ both_held _ _ _ children w.if-children_keep.true w.names_keep.ensures w.value-is
+      | else-children_keep w ↦ first_failed _ _ children w.if-children_keep.false w.value-is
+    ] in
+    rules_kept p table b j v c.if-children_keep.value c.requires.shape c.requires.table (first_failed _ _ named c.if-names_keep.false refl)
