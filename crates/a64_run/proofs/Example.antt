@@ -82,7 +82,7 @@ machine_stays : (machine_run entry [] 3).status ≡ Returned (Some 42)
 unfolding iterate decode step_of add_sub_imm branch_reg
 machine_stays = refl
 
--- the code that the compiler writes for it: each value has a place in the frame
+-- a longer code for it, in which each value has a place in the frame
 abbrev long_code : List ℕ
 long_code =
     0xA9BF_7BFD ∷ 0x9100_03FD ∷ 0xD100_83FF ∷ 0xF900_03E0 ∷ 0xD280_002F ∷ 0xF2A0_000F ∷ 0xF2C0_000F ∷ 0xF2E0_000F ∷ 0xF900_07EF
@@ -100,10 +100,10 @@ long_object = record { text = long_code; symbols = long_symbol ∷ []; tables = 
 abbrev long_entry : Entry
 long_entry = record { object = long_object; symbol = long_symbol; frame = long_frame; start = start }
 
-compiled_going : (machine_run long_entry [] 3).status ≡ Going
+longer_going : (machine_run long_entry [] 3).status ≡ Going
 unfolding iterate decode step_of add_sub_imm store_pair is_mapped write_word
-compiled_going = refl
+longer_going = refl
 
-compiled_returned : (machine_run long_entry [] 17).status ≡ Returned (Some 42)
+longer_returned : (machine_run long_entry [] 17).status ≡ Returned (Some 42)
 unfolding iterate decode step_of add_sub_imm add_sub_reg move_wide access store_pair load_pair branch_reg shifted is_mapped read_word write_word
-compiled_returned = refl
+longer_returned = refl

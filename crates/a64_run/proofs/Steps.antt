@@ -5,11 +5,10 @@ use Rattle.std.proofs.lemmas.Bool.Decides.{nat_tests}
 use Rattle.b3_base.specs.Memory.{byte_address, is_mapped}
 use Rattle.b3_meaning.specs.Observed.{Memory}
 use Rattle.a64_inst.specs.Step.{step_of}
-use Rattle.a64_inst.specs.WellFormed.{IsWellFormed}
 use Rattle.a64_inst.specs.Word.{word}
 use Rattle.a64_inst.specs.declared.inst.Inst.{Inst}
 use Rattle.a64_inst.specs.declared.state.Outcome.TheVariants.{Next}
-use Rattle.a64_inst.proofs.Inverse.{decode-word}
+use Rattle.a64_inst.specs.Decode.{decode}
 use Rattle.std.proofs.Math.Bool.{and-false}
 use Rattle.a64_run.specs.Placement.{in_frame}
 use Rattle.a64_run.specs.Machine.{Entry, State, Runs, word_at, touched, touches_empty, touches_empty_at, execute, decoded, fetched, is_ret, machine_step}
@@ -27,19 +26,19 @@ word_at-word e k address w at there =
     rw (b.0, b.1, b.2) there
 
 -- a step executes the instruction whose word stands at pc
-pub step_executes : (e : Entry) (s : State) (k : ℕ) (inst : Inst) → s.registers.pc ≡ e.start.code + 4 * k → slice_get e.object.text k ≡ Some (word inst) → IsWellFormed inst → machine_step e (Runs s) ≡ execute e s inst
-step_executes e s k inst at there well_formed =
-    ap (fetched e s) (word_at-word e k s.registers.pc (word inst) at there) ∙ ap (decoded e s) (decode-word inst well_formed)
+pub step_executes : (e : Entry) (s : State) (k : ℕ) (inst : Inst) → s.registers.pc ≡ e.start.code + 4 * k → slice_get e.object.text k ≡ Some (word inst) → decode (word inst) ≡ Some inst → machine_step e (Runs s) ≡ execute e s inst
+step_executes e s k inst at there decodes =
+    ap (fetched e s) (word_at-word e k s.registers.pc (word inst) at there) ∙ ap (decoded e s) decodes
 
 -- where it touches no empty byte of the frame, ends as the next instruction does, is no RET and
 -- leads to a word of the text, the run goes on there
-pub step_goes_on : (e : Entry) (s : State) (k next w : ℕ) (inst : Inst) → s.registers.pc ≡ e.start.code + 4 * k → slice_get e.object.text k ≡ Some (word inst) → IsWellFormed inst
+pub step_goes_on : (e : Entry) (s : State) (k next w : ℕ) (inst : Inst) → s.registers.pc ≡ e.start.code + 4 * k → slice_get e.object.text k ≡ Some (word inst) → decode (word inst) ≡ Some inst
     → touches_empty_at e s.memory (touched inst s.registers) ≡ false
     → (step_of inst s.registers s.memory).outcome ≡ Next → is_ret inst ≡ false
     → (step_of inst s.registers s.memory).registers.pc ≡ e.start.code + 4 * next → slice_get e.object.text next ≡ Some w
     → machine_step e (Runs s) ≡ Runs (record s { registers = (step_of inst s.registers s.memory).registers; memory = (step_of inst s.registers s.memory).memory })
-step_goes_on e s k next w inst at there well_formed whole outcome no_ret leads stands =
-    step_executes e s k inst at there well_formed
+step_goes_on e s k next w inst at there decodes whole outcome no_ret leads stands =
+    step_executes e s k inst at there decodes
     ∙ rw (whole, outcome, no_ret, word_at-word e next (step_of inst s.registers s.memory).registers.pc w leads stands) refl
 
 -- both parts of a conjunction that is true

@@ -2,6 +2,7 @@
 use Rattle.std.proofs.Common.{◌≡◌, ℕ, ◌<◌, ◌≤◌, ◌⊎◌, inl, inr, List, length, Option, Some, None, refl, sym, ap, ◌∙◌, subst, arith, length-append}
 use Rattle.b3_io.specs.Faults.{Rose}
 use Rattle.b3_io.specs.Taken.{Takes}
+use Rattle.b3_ir.specs.Built.{IsBuilt}
 use Rattle.b3_ir.specs.Procedure.{Procedure}
 use Rattle.b3_text.specs.Texts.{Spells}
 use Rattle.b3c_core.specs.declared.ending.Ending.{Ending}
@@ -35,13 +36,13 @@ not_too_long limit (Some bytes) (Some rest) told takes e few =
 -- where nothing failed, a text within the limit ends with 0, or with 9 for want of memory
 pub text_is_compiled : (call : Call) (ending : Ending) → HasEnded call ending → call.words ≡ compile_words
     → (Rose call.input_faults call.input_faults' → ⊥) → (Rose call.output_faults call.output_faults' → ⊥)
-    → (p : Procedure) (told : List ℕ) → call.left ≡ Some told → Spells told p → length told ≤ text_limit
+    → (p : Procedure) (told : List ℕ) → call.left ≡ Some told → Spells told p → IsBuilt p → length told ≤ text_limit
     → (status_of ending ≡ 0) ⊎ (status_of ending ≡ 9)
-text_is_compiled call Written h words input output p told left spells few = inl refl
-text_is_compiled call NoMemory h words input output p told left spells few = inr refl
-text_is_compiled call Usage h words input output p told left spells few = absurd (h words)
-text_is_compiled call ReadFault h words input output p told left spells few = absurd (input h)
-text_is_compiled call WriteFault h words input output p told left spells few = absurd (output h.compiled.cause)
-text_is_compiled call TooLong h words input output p told left spells few = absurd (not_too_long text_limit call.left call.left' told h left few)
-text_is_compiled call (NotBuilt line) h words input output p told left spells few =
-    absurd (h.compiled.no_text p (subst (λ t. Spells t p) (sym (text_told call.left call.left' h.text told h.read left)) spells))
+text_is_compiled call Written h words input output p told left spells built few = inl refl
+text_is_compiled call NoMemory h words input output p told left spells built few = inr refl
+text_is_compiled call Usage h words input output p told left spells built few = absurd (h words)
+text_is_compiled call ReadFault h words input output p told left spells built few = absurd (input h)
+text_is_compiled call WriteFault h words input output p told left spells built few = absurd (output h.compiled.cause)
+text_is_compiled call TooLong h words input output p told left spells built few = absurd (not_too_long text_limit call.left call.left' told h left few)
+text_is_compiled call (NotBuilt line) h words input output p told left spells built few =
+    absurd (h.compiled.no_text p (subst (λ t. Spells t p) (sym (text_told call.left call.left' h.text told h.read left)) spells) built)

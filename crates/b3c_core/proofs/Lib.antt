@@ -1,15 +1,3 @@
-pub mod CodeLists
-pub mod WellFormedCode
-pub mod Words
-pub mod GoodObject
 pub mod Endings
-pub mod Related
-pub mod CodeAt
-pub mod Registers
-pub mod Places
-pub mod Entering
-pub mod Leaving
-pub mod Values
-pub mod Steps
-pub mod Runs
-pub mod Agreement
+pub mod Refusals
+pub mod Words

@@ -1,40 +1,44 @@
 -- What compile promises of its answer, and what the tool promises of its ends.
-use Rattle.std.specs.Prelude.{◌≡◌, ℕ, ◌<◌, List, [], ◌∷◌, length, take, Option, Some, IfSome}
+use Rattle.std.specs.Prelude.{◌≡◌, ℕ, ◌<◌, ◌≤◌, ◌⊎◌, List, [], length, take, Option, Some, IfSome}
 use Rattle.std.specs.Io.KnownBytes.{Appends}
 use Rattle.b3_io.specs.Faults.{Rose}
 use Rattle.b3_ir.specs.Procedure.{Procedure}
+use Rattle.b3_ir.specs.Built.{IsBuilt}
+use Rattle.b3_built.specs.Faults.{IsFaultLine}
 use Rattle.b3_text.specs.Texts.{Spells, BadLine}
 use Rattle.elf_obj.specs.declared.object.Object.{Object}
-use Rattle.elf_obj.specs.declared.object.Symbol.{Symbol}
-use Rattle.exit_table.specs.declared.tables.FrameRow.{FrameRow}
-use Rattle.a64_run.specs.Agrees.{Agrees}
 use Rattle.elf_obj.specs.Elf.{Holds}
-use Rattle.elf_obj.specs.Good.{IsGood}
+use Rattle.a64_baseline.specs.CodeOf.{IsCodeOf}
 use Rattle.b3c_core.specs.declared.compiler.Fault.{Fault}
 use Rattle.b3c_core.specs.declared.compiler.Fault.TheVariants.{NotBuilt, NoMemory}
 
--- the bytes of a file hold one object, which is good and has one symbol, of the name of the
--- procedure that the text spells, and one frame; and the code and the frame agree with the
--- procedure: from each machine start that may begin it, the machine shows the same as the run of B3
+-- the bytes of a file hold one object, of the code of a procedure: its code and its frame agree
+-- with the procedure, so from each machine start that may begin it the machine shows the same as
+-- the run of B3
+pub record IsFileOf (p : Procedure) (file : List ℕ) : Type 0 where
+  pub object : Object
+  pub holds : Holds file object
+  pub small : length file ≤ 134_217_728
+  pub code : IsCodeOf p object
+
+-- a text spells a procedure that is built, and this is the file of its object
 pub record IsCompiled (text file : List ℕ) : Type 0 where
   pub procedure : Procedure
-  pub object : Object
-  pub symbol : Symbol
-  pub frame : FrameRow
   pub spells : Spells text procedure
-  pub holds : Holds file object
-  pub good : IsGood object
-  pub symbols : object.symbols ≡ symbol ∷ []
-  pub frames : object.tables.frames ≡ frame ∷ []
-  pub name : symbol.name ≡ procedure.name
-  pub agrees : Agrees procedure object symbol frame
+  pub built : IsBuilt procedure
+  pub file_of : IsFileOf procedure file
 
--- the text spells no procedure, and this line is its bad line
+-- the line at which a text is refused: its bad line where it spells no procedure, and else that of
+-- the first value that breaks a rule
+abbrev pub IsRefusalLine : List ℕ → ℕ → Type 0
+IsRefusalLine text line = BadLine text line ⊎ ((p : Procedure) × Spells text p × IsFaultLine p line)
+
+-- the text spells no procedure that is built, and this line is where it is refused
 pub record IsRefused (text : List ℕ) (line : ℕ) : Type 0 where
-  pub bad_line : BadLine text line
-  pub no_text : (p : Procedure) → Spells text p → ⊥
+  pub at_line : IsRefusalLine text line
+  pub no_text : (p : Procedure) → Spells text p → IsBuilt p → ⊥
 
--- why a text was not compiled: its bad line, or want of memory
+-- why a text was not compiled: it is refused at a line, or want of memory
 abbrev pub IsCause : List ℕ → Fault → Type 0
 IsCause text (NotBuilt line) = IsRefused text line
 IsCause text NoMemory = Unit {0}

@@ -1,4 +1,2 @@
-pub mod Code
-pub mod Tool
-pub mod Object
 pub mod Compiled
+pub mod Tool

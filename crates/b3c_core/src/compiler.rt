@@ -1,13 +1,12 @@
 //! From the bytes of a text to the bytes of an object.
 
-ghost use Rattle.std.specs.Prelude.{◌≡◌, ◌-◌, ◌^◌, ◌<◌, length, IfOk, IfErr};
-ghost use Rattle.elf_obj.specs.Elf.{Holds};
-ghost use Rattle.b3_text.specs.OneBlock.{IsOneBlock};
-ghost use Rattle.b3c_core.specs.Compiled.{IsCause, IsCompiled};
-ghost use Rattle.b3c_core.specs.Object.{object_of};
+ghost use Rattle.std.specs.Prelude.{◌-◌, ◌^◌, ◌<◌, length, IfOk, IfErr};
+ghost use Rattle.b3_ir.specs.Built.{IsBuilt};
+ghost use Rattle.b3c_core.specs.Compiled.{IsCause, IsCompiled, IsFileOf};
 
-use crate::object::procedure_object;
+use a64_baseline::procedure_object;
 use b3_base::{Bytes, NoMemory};
+use b3_built::fault_line;
 use b3_ir::Proc;
 use b3_text::TextFault;
 use std::alloc::Global;
@@ -15,7 +14,8 @@ use std::alloc::Global;
 /// Why a text is not compiled.
 #[derive(Clone, Copy, Debug, PartialEq, Eq)]
 pub enum Fault {
-    /// The bytes are no text that is built; `line` is their bad line, counted from 1.
+    /// The bytes are no text of a procedure that is built; `line`, counted from 1, is their bad
+    /// line, or that of the first value that breaks a rule.
     NotBuilt { line: u32 },
     /// Want of memory.
     NoMemory,
@@ -32,8 +32,8 @@ impl From<NoMemory> for Fault {
     }
 }
 
-/// The bytes of the object of the text. It is refused where the bytes are no text that is built,
-/// and for want of memory.
+/// The bytes of the object of the text. It is refused where the bytes are no text of a procedure
+/// that is built, and for want of memory.
 pub fn compile(alloc: Global, bytes: &[u8]) -> Result<Bytes, Fault>
     requires { length bytes.now < 2 ^ 32 - 1 }
     ensures object { IfOk result (IsCompiled bytes.now) }
@@ -44,13 +44,17 @@ pub fn compile(alloc: Global, bytes: &[u8]) -> Result<Bytes, Fault>
         Err(TextFault::NotBuilt { line }) => return Err(Fault::NotBuilt { line }),
         Err(TextFault::NoMemory) => return Err(Fault::NoMemory),
     };
-    Ok(procedure_file(alloc, module.proc(0))?)
+    let p = module.proc(0);
+    if let Some(line) = fault_line(alloc, p)? {
+        return Err(Fault::NotBuilt { line });
+    }
+    Ok(procedure_file(alloc, p)?)
 }
 
-/// The file of the object of a procedure of one block. It is refused for want of memory alone.
+/// The file of the object of a procedure. It is refused for want of memory alone.
 fn procedure_file(alloc: Global, p: &Proc) -> Result<Bytes, NoMemory>
-    requires { IsOneBlock p.now }
-    ensures { IfOk result (λ file. Holds file (object_of p.now)) }
+    requires { IsBuilt p.now }
+    ensures { IfOk result (IsFileOf p.now) }
 {
     let object = procedure_object(alloc, p)?;
     elf_obj::write(alloc, &object)

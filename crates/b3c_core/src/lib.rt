@@ -1,10 +1,8 @@
 //! The compiler: from the bytes of a text to the bytes of an object, and the tool around it.
 #![tactic(auto)]
 
-mod code;
 mod compiler;
 mod ending;
-mod object;
 #[cfg(test)]
 mod tests;
 mod tool;

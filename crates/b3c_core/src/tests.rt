@@ -4,8 +4,8 @@
 ghost use Rattle.std.specs.Prelude.{All};
 ghost use Rattle.a64_inst.specs.WellFormed.{IsWellFormed};
 
-use crate::code::procedure_code;
 use crate::run_tool;
+use a64_baseline::procedure_code;
 use a64_inst::{Flags, Inst, State, step};
 use b3_base::{Memory, Name, NoMemory, Seq};
 use b3_io::{SliceSource, StdSink, StdSource, VecSink};
@@ -42,13 +42,13 @@ fn an_object_is_written(rt: HostRuntime) -> Result<(), Fail> {
     );
     assert_eq!(rt; status, 0);
     assert_eq!(rt; err.bytes(), b"".as_slice());
-    // e_machine 183; then stp x29, x30, [sp, #-16]!; mov x29, sp; sub sp, sp, #32
+    // e_machine 183; then stp x29, x30, [sp, #-16]!; mov x29, sp; sub sp, sp, #48
     let machine = out.bytes().get(18..20).ok_or("too short")?;
     assert_eq!(rt; machine, b"\xb7\x00".as_slice());
     let prologue = out.bytes().get(64..76).ok_or("too short")?;
     assert_eq!(rt;
         prologue,
-        b"\xfd\x7b\xbf\xa9\xfd\x03\x00\x91\xff\x83\x00\xd1".as_slice()
+        b"\xfd\x7b\xbf\xa9\xfd\x03\x00\x91\xff\xc3\x00\xd1".as_slice()
     );
     Ok(())
 }
@@ -69,6 +69,20 @@ fn refusals_are_told(rt: HostRuntime) -> Result<(), Fail> {
             "procedure f\nBB#0:\n    Int64 b@0 = Const64(7)\n",
             10,
             "b3c: line 4: not built\n",
+        ),
+        // An argument in block 1, the first of two values at fault.
+        (
+            "compile",
+            "procedure f\nBB#0:\n    Void b@0 = Jump()\n  Successors: #1\nBB#1:\n    Int64 b@1 = ArgumentReg(%x0)\n    Void b@2 = Jump()\n  Successors: #2\n",
+            10,
+            "b3c: line 6: not built\n",
+        ),
+        // A bad line comes before a value that breaks a rule.
+        (
+            "compile",
+            "procedure f\nBB#0:\n    Void b@0 = Jump()\n  Successors: #1\nBB#2:\n",
+            10,
+            "b3c: line 5: not built\n",
         ),
     ] {
         let words = names_of(rt.alloc(), &[word])?;
@@ -187,28 +201,54 @@ fn each_failing_call_is_told(rt: HostRuntime) -> Result<(), Fail> {
     Ok(())
 }
 
-/// Executes instructions one after the other.
-fn execute(code: &[Inst], state: &mut State, memory: &mut Memory)
+/// Where the code stands, and where it returns to.
+const CODE: u64 = 0x4000_0000;
+
+const CALLER: u64 = 0x3000_0000;
+
+/// Executes the instruction at pc, at most so many times, until pc leaves the code.
+fn execute(code: &[Inst], state: &mut State, memory: &mut Memory, steps: u64)
     requires { All IsWellFormed code.now }
 {
-    for inst in code {
-        let _ = step(state, memory, inst);
+    for _ in 0..steps {
+        let at = state.pc.wrapping_sub(CODE) / 4;
+        if at >= code.len() as u64 {
+            return;
+        }
+        let _ = step(state, memory, &code[at as usize]);
     }
 }
 
-/// What the code of the example leaves in x0, with its frame of 48 bytes at `low`.
-fn returned(alloc: Global, x0: u64, low: u64) -> Result<u64, Fail> {
-    let module = b3_text::read(alloc, ADD_ONE.as_bytes())?;
-    let code = procedure_code(alloc, module.proc(0))?;
+/// What the code of a text leaves in x0 once it has come back to its caller, within so many
+/// instructions, with its frame of at most 512 bytes below `top`.
+fn returned(
+    alloc: Global,
+    text: &str,
+    arguments: [u64; 3],
+    top: u64,
+    steps: u64,
+) -> Result<Option<u64>, Fail> {
+    let bytes = text.as_bytes();
+    if bytes.len() > 10_000 {
+        return Err("too long".into());
+    }
+    let module = b3_text::read(alloc, bytes)?;
+    let p = module.proc(0);
+    if b3_built::fault_line(alloc, p)?.is_some() {
+        return Err("refused".into());
+    }
+    let code = procedure_code(alloc, p)?;
     let mut memory = Memory::new(alloc);
-    memory.map(low, &[0xaa; 48])?;
-    let mut x = [0; 31];
-    x[0] = x0;
-    x[30] = 0x3000_0000;
+    memory.map(top.wrapping_sub(512), &[0xaa; 512])?;
+    let mut x = [0x5555; 31];
+    x[0] = arguments[0];
+    x[1] = arguments[1];
+    x[2] = arguments[2];
+    x[30] = CALLER;
     let mut state = State {
         x,
-        sp: low.wrapping_add(48),
-        pc: 0x4000_0000,
+        sp: top,
+        pc: CODE,
         flags: Flags {
             n: false,
             z: false,
@@ -216,19 +256,57 @@ fn returned(alloc: Global, x0: u64, low: u64) -> Result<u64, Fail> {
             v: false,
         },
     };
-    execute(code.as_slice(), &mut state, &mut memory);
-    Ok(state.x[0])
+    execute(code.as_slice(), &mut state, &mut memory, steps);
+    let is_back = state.pc == CALLER && state.sp == top && state.x[29] == 0x5555;
+    Ok(if is_back { Some(state.x[0]) } else { None })
 }
 
+/// Counts x0 down to 0 through a Phi, and returns 1.
+const COUNTDOWN: &str =
+    "procedure f\nBB#0:\n    Int64 b@0 = ArgumentReg(%x0)\n    Int64 b@1 = Const64(1)\n    Void b@2 = Upsilon(b@0, ^4)\n    Void b@3 = Jump()\n  Successors: #1\nBB#1:\n    Int64 b@4 = Phi()\n    Int64 b@5 = Sub(b@4, b@1)\n    Void b@6 = Upsilon(b@5, ^4)\n    Void b@7 = Branch(b@5)\n  Successors: Then:#1, Else:#2\nBB#2:\n    Void b@8 = Return(b@1)\n";
+
+/// Swaps x0 and x1 through a loop x2 times less one, and returns their difference.
+const SWAP: &str =
+    "procedure f\nBB#0:\n    Int64 b@0 = ArgumentReg(%x0)\n    Int64 b@1 = ArgumentReg(%x1)\n    Int64 b@2 = ArgumentReg(%x2)\n    Int64 b@3 = Const64(1)\n    Void b@4 = Upsilon(b@0, ^8)\n    Void b@5 = Upsilon(b@1, ^9)\n    Void b@6 = Upsilon(b@2, ^10)\n    Void b@7 = Jump()\n  Successors: #1\nBB#1:\n    Int64 b@8 = Phi()\n    Int64 b@9 = Phi()\n    Int64 b@10 = Phi()\n    Void b@11 = Upsilon(b@9, ^8)\n    Int64 b@12 = Sub(b@10, b@3)\n    Void b@13 = Upsilon(b@8, ^9)\n    Void b@14 = Upsilon(b@12, ^10)\n    Void b@15 = Upsilon(b@8, ^18)\n    Void b@16 = Upsilon(b@9, ^19)\n    Void b@17 = Branch(b@12)\n  Successors: Then:#1, Else:#2\nBB#2:\n    Int64 b@18 = Phi()\n    Int64 b@19 = Phi()\n    Int64 b@20 = Sub(b@18, b@19)\n    Void b@21 = Return(b@20)\n";
+
+const ENDLESS: &str = "procedure f\nBB#0:\n    Void b@0 = Jump()\n  Successors: #0\n";
+
+/// Block 0 is entered again, and its argument is still that of the call: x0 + 2 after two rounds.
+const AGAIN: &str =
+    "procedure f\nBB#0:\n    Int64 b@0 = ArgumentReg(%x0)\n    Int64 b@1 = ArgumentReg(%x1)\n    Void b@2 = Branch(b@1)\n  Successors: Then:#1, Else:#0\nBB#1:\n    Int64 b@3 = Add(b@0, b@1)\n    Int64 b@4 = Add(b@3, b@1)\n    Void b@5 = Return(b@4)\n";
+
 #[test]
-fn the_code_computes_the_example(rt: HostRuntime) -> Result<(), Fail> {
-    for (x0, low, wanted) in [
-        (41, 0x7fff_ffd0, 42),
-        (u64::MAX, 0x7fff_ffd0, 0),
-        (41, 0x1000, 42),
-        (u64::MAX, 0xffff_ffff_ffff_ff00, 0),
-    ] {
-        assert_eq!(rt; returned(rt.alloc(), x0, low)?, wanted);
+fn code_computes_what_its_text_says(rt: HostRuntime) -> Result<(), Fail> {
+    let table = [
+        (ADD_ONE, [41, 0, 0], 0x8000_0000, 17, Some(42)),
+        (ADD_ONE, [41, 0, 0], 0x8000_0000, 16, None),
+        (ADD_ONE, [u64::MAX, 0, 0], 0x8000_0000, 17, Some(0)),
+        (ADD_ONE, [41, 0, 0], 0x1000, 17, Some(42)),
+        (ADD_ONE, [41, 0, 0], 0xffff_ffff_ffff_fff0, 17, Some(42)),
+        // 12 instructions to the loop, 11 for each round, 4 for the return.
+        (COUNTDOWN, [3, 0, 0], 0x8000_0000, 49, Some(1)),
+        (COUNTDOWN, [3, 0, 0], 0x8000_0000, 48, None),
+        (COUNTDOWN, [1, 0, 0], 0x8000_0000, 27, Some(1)),
+        (COUNTDOWN, [0, 0, 0], 0x8000_0000, 10_000, None),
+        (SWAP, [7, 3, 1], 0x8000_0000, 100, Some(4)),
+        (
+            SWAP,
+            [7, 3, 2],
+            0x8000_0000,
+            100,
+            Some(0xffff_ffff_ffff_fffc),
+        ),
+        (SWAP, [7, 3, 3], 0x8000_0000, 200, Some(4)),
+        (ENDLESS, [0, 0, 0], 0x8000_0000, 1000, None),
+        (AGAIN, [5, 1, 0], 0x8000_0000, 100, Some(7)),
+        (AGAIN, [5, 0, 0], 0x8000_0000, 1000, None),
+    ];
+    for (text, arguments, top, steps, wanted) in table {
+        assert_eq!(rt;
+            returned(rt.alloc(), text, arguments, top, steps)?,
+            wanted,
+            "{text} {steps}"
+        );
     }
     Ok(())
 }

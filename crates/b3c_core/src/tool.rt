@@ -5,6 +5,7 @@ ghost use Rattle.std.specs.Prelude.{◌≡◌, ◌≢◌, ◌↔◌, ℕ, ◌-�
 ghost use Rattle.std.specs.Io.KnownBytes.{Appends};
 ghost use Rattle.b3_io.specs.Faults.{Rose};
 ghost use Rattle.b3_io.specs.Taken.{Takes};
+ghost use Rattle.b3_ir.specs.Built.{IsBuilt};
 ghost use Rattle.b3_ir.specs.Procedure.{Procedure};
 ghost use Rattle.b3_text.specs.Texts.{Spells};
 ghost use Rattle.b3c_core.specs.Tool.{Call, HasCompiled, HasEnded, IsAfterReading, TakesLine, compile_words, line_of, status_of};
@@ -50,7 +51,7 @@ pub fn run_tool<S: Source, T: Source, K: Sink, E: Sink>(
     // A text within the limit is compiled, unless memory is wanted, where nothing failed.
     ensures complete { words.now ≡ compile_words
         → (Rose (S.faults input.old) (S.faults input.new) → ⊥) → (Rose (K.faults out.old) (K.faults out.new) → ⊥)
-        → (p : Procedure) (text : List ℕ) → S.left input.old ≡ Some text → Spells text p → length text ≤ TEXT_LIMIT
+        → (p : Procedure) (text : List ℕ) → S.left input.old ≡ Some text → Spells text p → IsBuilt p → length text ≤ TEXT_LIMIT
         → (result ≡ 0) ⊎ (result ≡ 9) }
 
     // What has come about, and the line on the error stream.

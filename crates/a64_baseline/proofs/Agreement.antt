@@ -1,0 +1,232 @@
+-- The object of a procedure agrees with the procedure.
+use Rattle.std.proofs.Common.{◌≡◌, ◌≢◌, ℕ, zero, suc, ◌+◌, ◌*◌, ◌/◌, ◌<◌, ◌≤◌, Bool, true, false, List, [], ◌∷◌, Some, None, length, refl, sym, ap, ◌∙◌, subst, arith, div-le_self}
+use Rattle.std.specs.Prelude.{slice_get, slice_index, slice_index_or, sum_by, map, ◌||◌, if◌then◌else◌, All}
+use Rattle.std.specs.List.{list_any}
+use Rattle.std.proofs.lemmas.List.{length-map}
+use Rattle.std.proofs.lemmas.List.Sums.{sum_by-cons}
+use Rattle.std.proofs.lemmas.Option.{slice_get_within, get_or_from_slice_get}
+use Rattle.b3_base.specs.Run.{iterate, SimulatesFrom}
+use Rattle.b3_base.specs.declared.observation.Status.TheVariants.{Undefined}
+use Rattle.b3_base.proofs.Run.{iterate-zero, iterate-one, iterate-add, run_simulated_from}
+use Rattle.b3_ir.specs.Procedure.{Procedure, values_of}
+use Rattle.b3_ir.specs.Built.{StandsAt, IsBuilt, IsChildAt}
+use Rattle.b3_ir.specs.Shape.{IsFormOf}
+use Rattle.b3_ir.specs.declared.opcode.Opcode.{Opcode}
+use Rattle.b3_ir.specs.declared.opcode.Opcode.TheVariants.{Return}
+use Rattle.b3_ir.specs.declared.opcode.Ty.TheVariants.{Int64}
+use Rattle.b3_ir.specs.declared.value.Value.{Value}
+use Rattle.b3_meaning.specs.Observed.{Answer, MachineStart}
+use Rattle.b3_meaning.specs.Run as b3
+use Rattle.a64_inst.specs.WellFormed.{IsWellFormed}
+use Rattle.a64_inst.specs.Word.{word}
+use Rattle.a64_inst.specs.declared.inst.Inst.{Inst}
+use Rattle.a64_inst.proofs.Inverse.{decode-word}
+use Rattle.stackmap.specs.declared.site.Returns.TheVariants.{Nothing, W32, W64}
+use Rattle.a64_run.specs.Agrees.{RunsAlike, Agrees, ReturnsType, word_count}
+use Rattle.a64_run.specs.Machine.{Entry, State, Config, Runs, Stops, machine_step, machine_run, observe, first}
+use Rattle.a64_run.specs.Placement.{Places}
+use Rattle.a64_baseline.specs.Code.{places_of, entry_code, code_of, begins_of, words_of_values}
+use Rattle.a64_baseline.specs.Object.{has_return, is_return, object_of, symbol_of, frame_of}
+use Rattle.a64_baseline.proofs.Leaving.{same_visible}
+use Rattle.a64_baseline.proofs.Numbering.{few_values, value_at_place, number_of}
+use Rattle.a64_baseline.proofs.Steps as steps
+use Rattle.a64_baseline.proofs.Arguments.{ArgumentsBelow}
+use Rattle.a64_baseline.proofs.Blocks.{Reaches, block_run, entry_run}
+use Rattle.a64_baseline.proofs.Related.{Setting, Holds, b3_start}
+use Rattle.a64_baseline.proofs.WellFormedCode.{code_well_formed, code_short, code_length, code_size}
+
+-- ---- the setting of a run
+abbrev pub entry_of : Procedure → MachineStart → Entry
+entry_of p m = record { object = object_of p; symbol = symbol_of p; frame = frame_of p; start = m }
+
+word_of_code : (xs : List Inst) (k : ℕ) (inst : Inst) → slice_get xs k ≡ Some inst → slice_get (map word xs) k ≡ Some (word inst)
+word_of_code [] k inst e = cc
+word_of_code (x ∷ xs) zero inst e = let same : x ≡ inst = cc in ap (λ i. Some (word i)) same
+word_of_code (x ∷ xs) (suc k) inst e = word_of_code xs k inst e
+
+setting : (p : Procedure) (m : MachineStart) → IsBuilt p → Places (object_of p) (symbol_of p) (frame_of p) m → Setting p (entry_of p m)
+setting p m built placed = record {
+  built = built;
+  run = record {
+    text = word_of_code (code_of p);
+    decodes = λ k inst there. decode-word inst (subst IsWellFormed (get_or_from_slice_get (code_of p) k inst inst there) (code_well_formed p built k inst (slice_get_within (code_of p) k inst there)));
+    ends = omega (arith, placed.code_ends, length-map (code_of p) word);
+    short = code_short p built;
+  };
+  frame = record { bytes = refl; room = placed.room; small = placed.ranged.sp; few = omega (arith, few_values p built) };
+  wide = λ returns. rw returns refl;
+  slots = refl;
+  ranged = placed.ranged;
+  apart = λ q some. (placed.mapped_apart q some).0;
+}
+
+-- ---- the relation between the two runs at the begin of each block
+Alike : Procedure → Entry → b3.Config → Config → Type 0
+Alike p e (b3.At block bs) c = (block < length p.blocks) × (s : State) × (c ≡ Runs s) × steps.StandsAt e (places_of p) (slice_index (begins_of p) block) s × Holds p e bs s.memory
+Alike p e (b3.Over seen) c = c ≡ Stops seen
+Alike p e b3.Lost c = Unit {0}
+
+reaches_alike : (p : Procedure) (e : Entry) (s : State) (n : ℕ) (config : b3.Config) → Reaches p e s n config → Alike p e config (iterate (machine_step e) n (Runs s))
+unfolding Alike
+reaches_alike p e s n (b3.At block bs) reaches = (reaches.0, reaches.1.after, reaches.1.ran, reaches.1.at, reaches.1.holds)
+reaches_alike p e s n (b3.Over seen) reaches = reaches
+reaches_alike p e s n b3.Lost reaches = tt
+
+-- what is seen of related configurations is the same, where nothing is undefined
+alike_seen : (p : Procedure) (e : Entry) → Setting p e → (config : b3.Config) (c : Config) → Alike p e config c → (b3.observe config).status ≢ Undefined → observe e c ≡ b3.observe config
+unfolding Alike
+alike_seen p e set (b3.At block bs) c alike defined =
+    let s = alike.1 in
+    let seen = same_visible e (places_of p) s.memory set.apart set.slots alike.3.frame in
+    rw (alike.2, alike.3.no_events, alike.4.no_events, alike.4.seen, seen) refl
+alike_seen p e set (b3.Over seen) c alike defined = rw alike refl
+alike_seen p e set b3.Lost c alike defined = absurd (defined refl)
+
+-- ---- the bounds
+block_within : (blocks : List (List Value)) (b : ℕ) → words_of_values (slice_index_or blocks b []) ≤ sum_by words_of_values blocks
+block_within [] b = omega arith
+block_within (vs ∷ blocks) zero = omega (arith, sum_by-cons words_of_values vs blocks)
+block_within (vs ∷ blocks) (suc b) = let more = block_within blocks b in omega (arith, sum_by-cons words_of_values vs blocks)
+
+code_some : (p : Procedure) → 1 ≤ length (code_of p)
+code_some p = omega arith
+
+module _ (p : Procedure) (e : Entry) (set : Setting p e) where
+  block_most : (b : ℕ) → length (entry_code p) + words_of_values (values_of p b) ≤ length (code_of p)
+  block_most b = omega (arith, code_size p set.built, block_within p.blocks b)
+
+  -- one block step
+  one_step : (config : b3.Config) (c : Config) → Alike p e config c
+      → (j : ℕ) × (j ≤ 2 * length (code_of p)) × (j ≡ 0 → 0 < 0) × Alike p e (b3.block_step p (b3_start e) config) (iterate (machine_step e) j c)
+  unfolding Alike
+  one_step (b3.At block bs) c alike =
+      let comes = block_run p e set block bs alike.1 alike.0 alike.3 alike.4 in (
+        comes.0,
+        omega (arith, comes.2, block_most block),
+        (λ none. omega (arith, comes.1)),
+        subst (λ x. Alike p e (b3.run_values (b3_start e) (values_of p block) bs) (iterate (machine_step e) comes.0 x)) (sym alike.2) (reaches_alike p e alike.1 comes.0 (b3.run_values (b3_start e) (values_of p block) bs) comes.3),
+      )
+  one_step (b3.Over seen) c alike = (1, omega (arith, code_some p), (λ none. omega arith), ap (iterate (machine_step e) 1) alike ∙ iterate-one (machine_step e) (Stops seen))
+  one_step b3.Lost c alike = (1, omega (arith, code_some p), (λ none. omega arith), tt)
+
+  -- nothing has a word yet
+  first_holds : (s : State) (answers : List Answer) → ((j : ℕ) (v : Value) → StandsAt p 0 j v → j < length (values_of p 0)) → ArgumentsBelow p e (length (values_of p 0)) s.memory
+      → Holds p e (record { words = λ _. None; locations = λ _. None; memory = (b3_start e).memory; events = []; answers = answers }) s.memory
+  first_holds s answers within below = record {
+    words = λ i w lt given. cc;
+    locations = λ i w lt given. cc;
+    arguments = λ j v reg there op body. below j v reg (within j v there) there op body;
+    seen = refl;
+    no_events = refl;
+  }
+
+  -- the first block step
+  first_step : (answers : List Answer) → e.symbol.offset ≡ 0
+      → (j : ℕ) × (1 ≤ j) × (j ≤ 2 * length (code_of p)) × Alike p e (b3.block_step p (b3_start e) (b3.first (b3_start e) answers)) (iterate (machine_step e) j (first e answers))
+  first_step answers offset =
+      let entered = entry_run p e set answers offset in
+      let s = entered.0 in
+      let bs : b3.State = record { words = λ _. None; locations = λ _. None; memory = (b3_start e).memory; events = []; answers = answers } in
+      let comes = block_run p e set 0 bs s (omega (arith, set.built.shape.some)) entered.2 (first_holds s answers (λ j v there. slice_get_within (values_of p 0) j v there) entered.3) in
+      let joined : iterate (machine_step e) (length (entry_code p) + comes.0) (first e answers) ≡ iterate (machine_step e) comes.0 (Runs s) = iterate-add (machine_step e) (length (entry_code p)) comes.0 (first e answers) ∙ ap (iterate (machine_step e) comes.0) entered.1 in (
+        length (entry_code p) + comes.0,
+        omega (arith, comes.1),
+        omega (arith, comes.2, block_most 0),
+        subst (Alike p e (b3.run_values (b3_start e) (values_of p 0) bs)) (sym joined) (reaches_alike p e s comes.0 (b3.run_values (b3_start e) (values_of p 0) bs) comes.3),
+      )
+
+  simulates : (answers : List Answer) → e.symbol.offset ≡ 0 → SimulatesFrom (b3.block_step p (b3_start e)) (machine_step e) (Alike p e) (λ _. 0) 1 (2 * length (code_of p)) (b3.first (b3_start e) answers) (first e answers)
+  simulates answers offset = record {
+    first = first_step answers offset;
+    onward = record { below = λ a s r. omega arith; step = one_step };
+  }
+
+-- ---- every number of block steps
+words_counted : (p : Procedure) → word_count (symbol_of p) ≡ length (code_of p)
+words_counted p = omega (arith, length-map (code_of p) word)
+
+twice : (n w v : ℕ) → v ≡ w → n * (2 * w) ≡ 2 * n * v
+twice n w v e = rw e (grind arith)
+
+fewer : (n b k : ℕ) → 1 ≤ b → n / 1 ≤ k → n / b ≤ k
+fewer n b k some le = let whole : n / 1 ≡ n = omega arith in omega (arith, div-le_self n b)
+
+AlikeAt : Procedure → MachineStart → List Answer → ℕ → Type 0
+AlikeAt p m answers n = (k : ℕ) × (n / length p.blocks ≤ k) × (k ≤ 2 * n * word_count (symbol_of p)) × (machine_run (entry_of p m) answers k ≡ b3.b3_run p (b3_start (entry_of p m)) answers n)
+
+alike_at : (p : Procedure) (m : MachineStart) (answers : List Answer) (n : ℕ) → Setting p (entry_of p m) → (b3.b3_run p (b3_start (entry_of p m)) answers n).status ≢ Undefined → AlikeAt p m answers n
+unfolding AlikeAt
+alike_at p m answers zero set defined =
+    let e = entry_of p m in (
+      0,
+      fewer 0 (length p.blocks) 0 set.built.shape.some (omega arith),
+      omega arith,
+      ap (observe e) (iterate-zero (machine_step e) (first e answers)) ∙ sym (ap b3.observe (iterate-zero (b3.block_step p (b3_start e)) (b3.first (b3_start e) answers))),
+    )
+alike_at p m answers (suc n) set defined =
+    let e = entry_of p m in
+    let r = run_simulated_from (b3.block_step p (b3_start e)) (machine_step e) (Alike p e) (λ _. 0) 1 (2 * length (code_of p)) (b3.first (b3_start e) answers) (first e answers) (simulates p e set answers refl) (suc n) (omega arith) in (
+      r.0,
+      fewer (suc n) (length p.blocks) r.0 set.built.shape.some r.1,
+      subst (λ d. r.0 ≤ d) (twice (suc n) (length (code_of p)) (word_count (symbol_of p)) (words_counted p)) r.2,
+      alike_seen p e set (iterate (b3.block_step p (b3_start e)) (suc n) (b3.first (b3_start e) answers)) (iterate (machine_step e) r.0 (first e answers)) r.3 defined,
+    )
+
+runs_alike : (p : Procedure) → IsBuilt p → RunsAlike p (object_of p) (symbol_of p) (frame_of p)
+unfolding AlikeAt
+runs_alike p built = record { steps = λ m answers n placed ranged defined. alike_at p m answers n (setting p m built placed) defined }
+
+-- ---- what is returned
+returns_by : (some : Bool) → (if some then W64 else Nothing) ≡ W64 → some ≡ true
+returns_by true e = refl
+returns_by false e = cc
+
+never_narrow : (some : Bool) → (if some then W64 else Nothing) ≡ W32 → ⊥
+never_narrow true e = cc
+never_narrow false e = cc
+
+either_true : (a b : Bool) (X : Type 0) → (a || b) ≡ true → (a ≡ true → X) → (b ≡ true → X) → X
+either_true true b X e f g = f refl
+either_true false b X e f g = g e
+
+any_found : {X : Type 0} (f : X → Bool) (xs : List X) → list_any f xs ≡ true → (k : ℕ) × (x : X) × (slice_get xs k ≡ Some x) × (f x ≡ true)
+any_found f [] some = cc
+any_found f (x ∷ xs) some = either_true (f x) (list_any f xs) ((k : ℕ) × (y : _) × (slice_get (x ∷ xs) k ≡ Some y) × (f y ≡ true)) some (λ here. (0, x, refl, here)) (λ more. let r = any_found f xs more in (suc r.0, r.1, r.2, r.3))
+
+is_a_return : (op : Opcode) → is_return op ≡ true → op ≡ Return
+is_a_return Return e = refl
+is_a_return _ e = cc
+
+block_at : (blocks : List (List Value)) (b : ℕ) (vs : List Value) → slice_get blocks b ≡ Some vs → slice_index_or blocks b [] ≡ vs
+block_at [] b vs e = cc
+block_at (ws ∷ blocks) zero vs e = cc
+block_at (ws ∷ blocks) (suc b) vs e = block_at blocks b vs e
+
+wide_returns : (p : Procedure) → (frame_of p).returns ≡ W64 → has_return p ≡ true
+wide_returns p e = returns_by (has_return p) e
+
+returns_wide : (p : Procedure) → IsBuilt p → has_return p ≡ true → ReturnsType p Int64
+returns_wide p built some =
+    let block = any_found (λ vs. list_any (λ (w : Value). is_return w.kind.opcode) vs) p.blocks some in
+    let value = any_found (λ (w : Value). is_return w.kind.opcode) block.1 block.3 in
+    let b = block.0 in
+    let j = value.0 in
+    let v = value.1 in
+    let there : StandsAt p b j v = subst (λ vs. slice_get vs j ≡ Some v) (sym (block_at p.blocks b block.1 block.2)) value.2 in
+    let op : v.kind.opcode ≡ Return = is_a_return v.kind.opcode value.3 in
+    let is = (value_at_place p built.shape b j v there).1 in
+    let form = subst (λ o. IsFormOf o (number_of p b j) v.ty v.children v.body) op is.form in
+    let child = form.1.0 in
+    let named = built.rules b j v there in
+    let one = subst (λ cs. All (IsChildAt p b j) cs) form.1.1 named.children 0 0 (omega arith) in
+    (b, j, v, child, one.0, one.1, one.2, there, op, form.1.1, one.3, one.4, one.5)
+
+pub agrees : (p : Procedure) → IsBuilt p → Agrees p (object_of p) (symbol_of p) (frame_of p)
+agrees p built = record {
+  runs = runs_alike p built;
+  returns_32 = λ e. absurd (never_narrow (has_return p) e);
+  returns_64 = λ e. returns_wide p built (wide_returns p e);
+  slots = sym built.shape.slots;
+  words = omega (arith, words_counted p, code_length p built);
+  bytes = omega arith;
+}

@@ -1,0 +1,148 @@
+-- The baseline code of a procedure: each value has a frame place of 8 bytes, each Phi a second one
+-- for its location, and words go through x15 to x17. Blocks stand one after the other.
+use Rattle.std.specs.Prelude.{ℕ, pos, negsuc, ◌+◌, ◌-◌, ◌*◌, ◌/◌, ◌%◌, ◌^◌, Bool, true, false, List, [], ◌∷◌, ◌++◌, length, sum_by, slice_index}
+use Rattle.std.proofs.Math.IntN.{◌-ℤ◌}
+use Rattle.b3_base.specs.declared.word.Width.TheVariants.{W64}
+use Rattle.b3_ir.specs.Procedure.{Procedure, values_of}
+use Rattle.b3_ir.specs.declared.opcode.Opcode.{Opcode}
+use Rattle.b3_ir.specs.declared.opcode.Opcode.TheVariants.{Const64, ArgumentReg, Add, Sub, Upsilon, Phi, Jump, Branch as Branches, Return}
+use Rattle.b3_ir.specs.declared.value.Body.{Body}
+use Rattle.b3_ir.specs.declared.value.Body.TheVariants.{Constant, Argument, Target, Targets}
+use Rattle.b3_ir.specs.declared.value.Value.{Value}
+use Rattle.a64_inst.specs.declared.inst.Inst.{Inst}
+use Rattle.a64_inst.specs.declared.inst.Inst.TheVariants.{AddSubImm, AddSubReg, MoveWide, Access, PairSp, BranchReg, Branch, BranchZero}
+use Rattle.a64_inst.specs.declared.inst.AccessKind.TheVariants.{StrX, LdrX}
+use Rattle.a64_inst.specs.declared.inst.MoveOp.{MoveOp}
+use Rattle.a64_inst.specs.declared.inst.MoveOp.TheVariants.{Movz, Movk}
+use Rattle.a64_inst.specs.declared.inst.BranchKind.TheVariants.{Ret}
+use Rattle.a64_run.specs.Agrees.{value_count}
+
+-- how many values have a place: all but the last, which is a terminal
+abbrev pub places_of : Procedure → ℕ
+places_of p = value_count p - 1
+
+-- the frame of so many places: the places, by the ids of values, as many locations, by the ids of
+-- Phis, and the saved x29 and x30
+abbrev pub frame_bytes : ℕ → ℕ
+frame_bytes places = 16 * places + 16
+
+-- the location of a Phi, counted in words from SP as places are
+abbrev pub location_of : ℕ → ℕ → ℕ
+location_of places phi = places + phi
+
+-- a word moved between a register and word k from SP
+abbrev pub store_to : ℕ → ℕ → Inst
+store_to k reg = Access StrX reg 31 k
+
+abbrev pub load_from : ℕ → ℕ → Inst
+load_from k reg = Access LdrX reg 31 k
+
+-- add or sub with a number of bytes, on x29 and SP
+abbrev pub adjust : Bool → ℕ → ℕ → ℕ → Inst
+adjust sub rd rn bytes = AddSubImm W64 sub false rd rn bytes false
+
+-- stp x29, x30, [sp, #-16]!; mov x29, sp; sub sp, sp, #places
+abbrev pub prologue : ℕ → List Inst
+prologue places = PairSp false 29 30 (negsuc 1) ∷ adjust false 29 31 0 ∷ adjust true 31 31 (16 * places) ∷ []
+
+-- mov sp, x29; ldp x29, x30, [sp], #16; ret
+abbrev pub epilogue : List Inst
+epilogue = adjust false 31 29 0 ∷ PairSp true 29 30 (pos 2) ∷ BranchReg Ret 30 ∷ []
+
+-- the store of an argument in the place of its value
+abbrev pub argument_store : ℕ → Opcode → Body → List Inst
+argument_store k ArgumentReg (Argument reg) = store_to k reg.0 ∷ []
+argument_store k opcode body = []
+
+-- the stores of the arguments among some values, the first of which is value k
+abbrev pub argument_stores : ℕ → List Value → List Inst
+argument_stores k [] = []
+argument_stores k (v ∷ vs) = argument_store k v.kind.opcode v.body ++ argument_stores (k + 1) vs
+
+-- what runs once, at entry: block 0 may be entered again
+abbrev pub entry_code : Procedure → List Inst
+entry_code p = prologue (places_of p) ++ argument_stores 0 (values_of p 0)
+
+-- half-word hw of a word
+abbrev pub half_word : ℕ → ℕ → ℕ
+half_word word hw = word / 2 ^ (16 * hw) % 2 ^ 16
+
+-- half-word hw of a word put into x15
+abbrev pub move_half : MoveOp → ℕ → ℕ → Inst
+move_half op word hw = MoveWide W64 op 15 (half_word word hw) hw
+
+-- a constant put into x15
+abbrev pub constant_code : ℕ → List Inst
+constant_code word = move_half Movz word 0 ∷ move_half Movk word 1 ∷ move_half Movk word 2 ∷ move_half Movk word 3 ∷ []
+
+-- a constant put into place k
+abbrev pub put_code : ℕ → ℕ → List Inst
+put_code k word = constant_code word ++ store_to k 15 ∷ []
+
+-- the sum or difference of values i and j put into the place of value k
+abbrev pub arith_code : Bool → ℕ → ℕ → ℕ → List Inst
+arith_code sub k i j = load_from i 15 ∷ load_from j 16 ∷ AddSubReg W64 sub false 17 15 16 0 0 ∷ store_to k 17 ∷ []
+
+-- a word copied from place i to place k
+abbrev pub copy_code : ℕ → ℕ → List Inst
+copy_code k i = load_from i 15 ∷ store_to k 15 ∷ []
+
+-- a branch from one word of the code to another
+abbrev pub branch_from : ℕ → ℕ → Inst
+branch_from here target = Branch (pos target -ℤ pos here)
+
+-- a conditional branch, written over an unconditional one: to one word where value i isn't 0, and
+-- else to another
+abbrev pub branch_code : ℕ → ℕ → ℕ → ℕ → List Inst
+branch_code here i then_word else_word = load_from i 15 ∷ BranchZero W64 false 15 (pos 2) ∷ branch_from (here + 2) then_word ∷ branch_from (here + 3) else_word ∷ []
+
+-- the words of a value's code
+abbrev pub size_of : Opcode → ℕ
+size_of Const64 = 5
+size_of Add = 4
+size_of Sub = 4
+size_of Upsilon = 2
+size_of Phi = 2
+size_of Jump = 1
+size_of Branches = 4
+size_of Return = 4
+size_of _ = 0
+
+abbrev pub words_of_values : List Value → ℕ
+words_of_values vs = sum_by (λ (v : Value). size_of v.kind.opcode) vs
+
+-- at which word of the code each block begins, the first of them at `here`
+abbrev pub begins_from : ℕ → List (List Value) → List ℕ
+begins_from here [] = []
+begins_from here (vs ∷ blocks) = here ∷ begins_from (here + words_of_values vs) blocks
+
+abbrev pub begins_of : Procedure → List ℕ
+begins_of p = begins_from (length (entry_code p)) p.blocks
+
+-- the code of value k, which begins at word `here`, by its opcode, children and body
+abbrev pub code_for : List ℕ → ℕ → ℕ → ℕ → Opcode → List ℕ → Body → List Inst
+code_for begins places here k Const64 children (Constant word) = put_code k word
+code_for begins places here k Add (i ∷ j ∷ []) body = arith_code false k i j
+code_for begins places here k Sub (i ∷ j ∷ []) body = arith_code true k i j
+code_for begins places here k Upsilon (i ∷ []) (Target phi) = copy_code (location_of places phi) i
+code_for begins places here k Phi children body = copy_code k (location_of places k)
+code_for begins places here k Jump children (Targets (block ∷ [])) = branch_from here (slice_index begins block) ∷ []
+code_for begins places here k Branches (i ∷ []) (Targets (then_block ∷ else_block ∷ [])) = branch_code here i (slice_index begins then_block) (slice_index begins else_block)
+code_for begins places here k Return (i ∷ []) body = load_from i 0 ∷ epilogue
+code_for begins places here k opcode children body = []
+
+abbrev pub value_code : List ℕ → ℕ → ℕ → Value → List Inst
+value_code begins places here v = code_for begins places here v.id v.kind.opcode v.children v.body
+
+-- the code of values, and of blocks, from word `here` on
+abbrev pub values_code : List ℕ → ℕ → ℕ → List Value → List Inst
+values_code begins places here [] = []
+values_code begins places here (v ∷ vs) = value_code begins places here v ++ values_code begins places (here + size_of v.kind.opcode) vs
+
+abbrev pub blocks_code : List ℕ → ℕ → ℕ → List (List Value) → List Inst
+blocks_code begins places here [] = []
+blocks_code begins places here (vs ∷ blocks) = values_code begins places here vs ++ blocks_code begins places (here + words_of_values vs) blocks
+
+-- the code of a procedure
+abbrev pub code_of : Procedure → List Inst
+code_of p = entry_code p ++ blocks_code (begins_of p) (places_of p) (length (entry_code p)) p.blocks

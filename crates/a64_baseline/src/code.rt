@@ -1,0 +1,146 @@
+//! The code of a procedure: what runs at entry, and then its blocks, one after the other.
+
+ghost use Rattle.std.specs.Prelude.{◌≡◌, ℕ, ◌+◌, ◌^◌, ◌<◌, List, ◌++◌, length, slice_get, Some, OnOk, IfOk, All};
+ghost use Rattle.a64_inst.specs.WellFormed.{IsWellFormed};
+ghost use Rattle.b3_ir.specs.Built.{IsBuilt};
+ghost use Rattle.b3_ir.specs.Procedure.{values_of};
+ghost use Rattle.b3_ir.specs.Shape.{IsFormOf};
+ghost use Rattle.a64_baseline.specs.Code.{argument_store, argument_stores, begins_of, blocks_code, code_of, entry_code, places_of, size_of, value_code, values_code, words_of_values};
+
+use crate::insts::store_inst;
+use crate::layout::{Layout, lay_out};
+use crate::sequences::{
+    push_arith, push_branch, push_constant, push_copy, push_jump, push_prologue, push_return,
+};
+use a64_inst::Inst;
+use b3_base::{NoMemory, Seq};
+use b3_ir::{Body, Opcode, Proc, Value};
+use std::alloc::Global;
+
+/// The code of a procedure. It is refused for want of memory alone.
+pub fn procedure_code(alloc: Global, p: &Proc) -> Result<Seq<Inst>, NoMemory>
+    requires { IsBuilt p.now }
+    ensures code { IfOk result (λ code. code ≡ code_of p.now) }
+    ensures well_formed { IfOk result (All IsWellFormed) }
+    ensures short { IfOk result (λ code. length code < 2 ^ 12) }
+{
+    let layout = lay_out(alloc, p)?;
+    laid_code(alloc, p, &layout)
+}
+
+/// The code of a procedure by its layout. It is refused for want of memory alone.
+pub(crate) fn laid_code(alloc: Global, p: &Proc, layout: &Layout) -> Result<Seq<Inst>, NoMemory>
+    requires built { IsBuilt p.now }
+    requires places { layout.now.places ≡ places_of p.now }
+    requires begins { layout.now.begins ≡ begins_of p.now }
+    ensures code { IfOk result (λ code. code ≡ code_of p.now) }
+    ensures well_formed { IfOk result (All IsWellFormed) }
+    ensures short { IfOk result (λ code. length code < 2 ^ 12) }
+{
+    let mut code = Seq::new(alloc);
+    push_prologue(&mut code, layout.places)?;
+    push_arguments(&mut code, p)?;
+    push_blocks(&mut code, p, layout)?;
+    Ok(code)
+}
+
+/// The stores of the arguments, which are in block 0.
+fn push_arguments(code: &mut Seq<Inst>, p: &Proc) -> Result<(), NoMemory>
+    requires { IsBuilt p.now }
+    ensures { OnOk result (code.new ≡ code.old ++ argument_stores 0 (values_of p.now 0)) }
+{
+    let mut at = p.first(0);
+    while let Some(node) = at {
+        push_argument(code, node.place, p.value(node))?;
+        at = p.next(node);
+    }
+    Ok(())
+}
+
+/// The store of value `k`, where it is an argument.
+fn push_argument(code: &mut Seq<Inst>, k: u32, value: &Value) -> Result<(), NoMemory>
+    ensures { OnOk result (code.new ≡ code.old ++ argument_store k value.now.kind.opcode value.now.body) }
+{
+    match (value.kind.opcode, &value.body) {
+        (Opcode::ArgumentReg, Body::Argument(reg)) => code.push(store_inst(k, reg.0)),
+        _ => Ok(()),
+    }
+}
+
+/// The code of the blocks, in order.
+fn push_blocks(code: &mut Seq<Inst>, p: &Proc, layout: &Layout) -> Result<(), NoMemory>
+    requires built { IsBuilt p.now }
+    requires places { layout.now.places ≡ places_of p.now }
+    requires begins { layout.now.begins ≡ begins_of p.now }
+    requires here { length code.old ≡ length (entry_code p.now) }
+    ensures { OnOk result (code.new ≡ code.old ++ blocks_code layout.now.begins layout.now.places (length code.old) p.now.blocks) }
+{
+    for block in 0..p.blocks() {
+        push_values(code, p, layout, block)?;
+    }
+    Ok(())
+}
+
+/// The code of the values of a block, in order.
+fn push_values(
+    code: &mut Seq<Inst>,
+    p: &Proc,
+    layout: &Layout,
+    block: usize,
+) -> Result<(), NoMemory>
+    requires built { IsBuilt p.now }
+    requires there { block < length p.now.blocks }
+    requires places { layout.now.places ≡ places_of p.now }
+    requires begins { layout.now.begins ≡ begins_of p.now }
+    requires short { length code.old + words_of_values (values_of p.now block) < 2 ^ 12 }
+    ensures { OnOk result (code.new ≡ code.old ++ values_code layout.now.begins layout.now.places (length code.old) (values_of p.now block)) }
+{
+    let mut at = p.first(block);
+    while let Some(node) = at {
+        push_value(code, layout, p.value(node))?;
+        at = p.next(node);
+    }
+    Ok(())
+}
+
+/// The code of a value.
+fn push_value(code: &mut Seq<Inst>, layout: &Layout, value: &Value) -> Result<(), NoMemory>
+    requires form { IsFormOf value.now.kind.opcode value.now.id value.now.ty value.now.children value.now.body }
+    requires few { value.now.id < 256 }
+    requires places { layout.now.places < 256 }
+    requires begins { All (λ word. word < 2 ^ 12) layout.now.begins }
+    requires targets { (blocks : List ℕ) → value.now.body ≡ Body.Targets blocks → All (λ block. block < length layout.now.begins) blocks }
+    requires short { length code.old + size_of value.now.kind.opcode < 2 ^ 12 }
+    ensures { OnOk result (code.new ≡ code.old ++ value_code layout.now.begins layout.now.places (length code.old) value.now) }
+{
+    let k = value.id;
+    match (value.kind.opcode, &value.body) {
+        (Opcode::ArgumentReg, _) => Ok(()),
+        (Opcode::Const64, Body::Constant(word)) => push_constant(code, k, *word),
+        (Opcode::Add, _) => push_arith(code, false, k, child(value, 0), child(value, 1)),
+        (Opcode::Sub, _) => push_arith(code, true, k, child(value, 0), child(value, 1)),
+        (Opcode::Upsilon, Body::Target(phi)) => push_copy(
+            code,
+            layout.location(*phi),
+            child(value, 0),
+        ),
+        (Opcode::Phi, _) => push_copy(code, k, layout.location(k)),
+        (Opcode::Jump, Body::Targets(blocks)) => push_jump(code, layout.begin(*blocks.get(0))),
+        (Opcode::Branch, Body::Targets(blocks)) => push_branch(
+            code,
+            child(value, 0),
+            layout.begin(*blocks.get(0)),
+            layout.begin(*blocks.get(1)),
+        ),
+        (Opcode::Return, _) => push_return(code, child(value, 0)),
+        _ => unreachable!(),
+    }
+}
+
+/// The id of a child of a value.
+fn child(value: &Value, at: usize) -> u32
+    requires { at < length value.now.children }
+    ensures { slice_get value.now.children at ≡ Some result }
+{
+    *value.children.get(at)
+}
