@@ -15,6 +15,7 @@ use Rattle.b3_ir.specs.declared.value.Value.{Value}
 use Rattle.b3_meaning.specs.Observed.{Memory}
 use Rattle.a64_inst.specs.declared.inst.Inst.{Inst}
 use Rattle.a64_run.specs.Machine.{Entry, State, Runs, machine_step}
+use Rattle.b3_ir.proofs.Numbering.{first_zero}
 use Rattle.a64_baseline.specs.Code.{places_of, code_of, argument_store, argument_stores, store_to}
 use Rattle.a64_baseline.proofs.Machine.{Stands, Ran, ran_none, ran_more}
 use Rattle.a64_baseline.proofs.Frame.{address_of, stored_word, other_word}
@@ -22,7 +23,7 @@ use Rattle.a64_baseline.proofs.Steps as steps
 use Rattle.a64_baseline.proofs.Steps.{store_step}
 use Rattle.a64_baseline.proofs.Pieces.{Spans}
 use Rattle.a64_baseline.proofs.Begins.{spans_front, spans_behind, follows_it}
-use Rattle.a64_baseline.proofs.Numbering.{value_at_place, has_place}
+use Rattle.a64_baseline.proofs.Numbering.{number_of, value_at_place, has_place}
 use Rattle.a64_baseline.proofs.Related.{Setting, HasWord, either}
 
 -- the arguments among the first values of block 0 stand in their places
@@ -58,8 +59,8 @@ module _ (p : Procedure) (e : Entry) (set : Setting p e) where
   argument_place j v reg there op body =
       let is = value_at_place p set.built.shape 0 j v there in
       let lt = has_place p set.built.shape 0 j v there (rw op refl) in
-      let form = subst (λ o. IsFormOf o (0 + j) v.ty v.children v.body) op is.1.form in
-      (omega arith, argument_below v.body reg body form.2)
+      let form = subst (λ o. IsFormOf o (number_of p 0 j) v.ty v.children v.body) op is.1.form in
+      (omega (arith, first_zero p.blocks), argument_below v.body reg body form.2)
 
   -- one more argument
   one_more : (memory : Memory) (j : ℕ) (v : Value) (reg : Reg) → StandsAt p 0 j v → v.kind.opcode ≡ ArgumentReg → v.body ≡ Argument reg → ArgumentsBelow p e j memory

@@ -14,7 +14,7 @@ use Rattle.a64_run.specs.Machine.{Entry, State, Runs, Stops, machine_step, first
 use Rattle.a64_baseline.specs.Code.{places_of, prologue, argument_stores, entry_code, code_of, begins_of, size_of, words_of_values, value_code, values_code}
 use Rattle.a64_baseline.specs.Object.{has_return, is_return}
 use Rattle.a64_baseline.proofs.Machine.{Stands, Ran, ran_both}
-use Rattle.a64_baseline.proofs.Numbering.{in_blocks}
+use Rattle.b3_ir.proofs.Numbering.{in_blocks}
 use Rattle.a64_baseline.proofs.Pieces.{Spans}
 use Rattle.a64_baseline.proofs.Begins as begins
 use Rattle.a64_baseline.proofs.Begins.{spans_front, spans_behind, first_stands, words_cons, words_some, values_of_block}

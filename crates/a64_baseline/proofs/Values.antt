@@ -14,6 +14,7 @@ use Rattle.b3_ir.specs.declared.value.Reg.{Reg}
 use Rattle.b3_ir.specs.declared.value.Value.{Value}
 use Rattle.b3_meaning.specs.Run as b3
 use Rattle.a64_run.specs.Machine.{Entry, State, Runs, Stops}
+use Rattle.b3_ir.proofs.Numbering.{first_zero}
 use Rattle.a64_baseline.specs.Code.{places_of, code_of, begins_of, location_of, size_of, value_code, code_for, arith_code, branch_from}
 use Rattle.a64_baseline.specs.Object.{has_return}
 use Rattle.a64_baseline.proofs.Machine.{Stands, Ran, ran_none}
@@ -77,7 +78,7 @@ module _ (p : Procedure) (e : Entry) (set : Setting p e) (begin_stands : (b : �
     -- no argument has its number
     alone : v.kind.opcode ≢ ArgumentReg → (i : ℕ) (w : Value) → StandsAt p 0 i w → w.kind.opcode ≡ ArgumentReg → i ≢ v.id
     alone other i w there op same =
-        let one : v ≡ w = same_place p b j i w v there here.there (sym (same ∙ is.1.id)) in
+        let one : v ≡ w = same_place p set.built.shape b j i w v there here.there (sym (same ∙ is.1.id)) in
         other (ap (λ (x : Value). x.kind.opcode) one ∙ op)
 
     -- the code and the effect, by what the value is
@@ -105,7 +106,7 @@ module _ (p : Procedure) (e : Entry) (set : Setting p e) (begin_stands : (b : �
         let zero_block : b ≡ 0 = rules.argument op in
         let there : StandsAt p 0 j v = subst (λ c. StandsAt p c j v) zero_block here.there in
         let has = holds.arguments j v reg there op body in
-        let id : j ≡ v.id = omega (arith, is.1.id, ap (λ c. number_of p c j) zero_block) in
+        let id : j ≡ v.id = omega (arith, is.1.id, ap (λ c. number_of p c j) zero_block, first_zero p.blocks) in
         let w = e.start.registers reg.0 in
         effect_is (b3.Next (b3.with_word bs v.id w)) 0 (rw (op, body) refl) (rw op refl) (record {
           after = s;

@@ -7,11 +7,11 @@ use Rattle.b3_ir.specs.declared.procedure.NodeId.{NodeId}
 use Rattle.b3_ir.specs.declared.value.Value.{Value}
 use Rattle.b3_ir.specs.Built.{IsChildAt, StandsAt}
 use Rattle.b3_ir.specs.Procedure.{IsPlace, Procedure, values_of}
-use Rattle.b3_ir.specs.Shape.{IsShaped}
 use Rattle.b3_built.specs.declared.table.Entry.{Entry}
-use Rattle.b3_built.specs.Table.{first_id, entry_of, IsTable}
+use Rattle.b3_built.specs.Table.{entry_of, IsTable}
+use Rattle.b3_ir.specs.Shape.{IsShaped, first_id}
 use Rattle.b3_built.proofs.Entries.{entry_is, slice_get_some}
-use Rattle.b3_built.proofs.Numbering.{first_above, first_next, first_zero, id_at}
+use Rattle.b3_ir.proofs.Numbering.{first_above, first_next, first_zero, id_at}
 
 -- id i is not below those of block b, or it is one of block 0
 abbrev pub IsInReach : Procedure → ℕ → ℕ → Type 0

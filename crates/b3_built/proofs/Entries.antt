@@ -6,10 +6,11 @@ use Rattle.std.proofs.lemmas.List.{length-append}
 use Rattle.b3_ir.specs.declared.value.Value.{Value}
 use Rattle.b3_ir.specs.Built.{StandsAt}
 use Rattle.b3_ir.specs.Procedure.{Procedure}
-use Rattle.b3_ir.specs.Shape.{IsShaped}
 use Rattle.b3_built.specs.declared.table.Entry.{Entry}
-use Rattle.b3_built.specs.Table.{first_id, AllBelow, entry_of, IsTable, IsTableBelow}
-use Rattle.b3_built.proofs.Numbering.{below_next, first_cons, first_zero, id_at, id_below}
+use Rattle.b3_built.specs.Table.{AllBelow, entry_of, IsTable, IsTableBelow}
+use Rattle.b3_ir.specs.Shape.{IsShaped, first_id}
+use Rattle.b3_ir.proofs.Numbering.{first_cons, first_zero, id_at, id_below}
+use Rattle.b3_built.proofs.Below.{below_next}
 
 slice_get_left : {X : Type 0} (xs ys : List X) (k : ℕ) (x : X) → slice_get xs k ≡ Some x → slice_get (xs ++ ys) k ≡ Some x
 slice_get_left [] ys k x e = absurd cc

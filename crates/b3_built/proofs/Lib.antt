@@ -1,4 +1,4 @@
-pub mod Numbering
+pub mod Below
 pub mod Seen
 pub mod Entries
 pub mod Children

@@ -5,10 +5,10 @@ use Rattle.b3_ir.specs.declared.procedure.NodeId.{NodeId}
 use Rattle.b3_ir.specs.declared.value.Value.{Value}
 use Rattle.b3_ir.specs.Built.{IsBuilt, KeepsRules, StandsAt}
 use Rattle.b3_ir.specs.Procedure.{IsPlace, Procedure, values_of}
-use Rattle.b3_ir.specs.Shape.{IsShaped}
 use Rattle.b3_built.specs.Faults.{IsFaultLine}
-use Rattle.b3_built.specs.Table.{first_id, AllBelow}
-use Rattle.b3_built.proofs.Numbering.{first_next, id_at, id_below, line_order}
+use Rattle.b3_built.specs.Table.{AllBelow}
+use Rattle.b3_ir.specs.Shape.{IsShaped, first_id}
+use Rattle.b3_ir.proofs.Numbering.{first_next, id_at, id_below, line_order}
 
 -- what is known of the values before a place of a block, or of all up to the block's end: Q, at
 -- the number of these values

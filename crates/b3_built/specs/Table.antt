@@ -1,16 +1,13 @@
 -- What is looked up by an id: the type and the opcode of its value.
-use Rattle.std.specs.Prelude.{◌≡◌, ℕ, ◌<◌, List, length, Some, slice_get, sum_by, take}
+use Rattle.std.specs.Prelude.{◌≡◌, ℕ, ◌<◌, List, length, Some, slice_get}
 use Rattle.b3_built.specs.declared.table.Entry.{Entry}
 use Rattle.b3_ir.specs.Built.{StandsAt}
 use Rattle.b3_ir.specs.Procedure.{Procedure}
+use Rattle.b3_ir.specs.Shape.{first_id}
 use Rattle.b3_ir.specs.declared.opcode.Opcode.TheVariants.{Phi}
 use Rattle.b3_ir.specs.declared.value.Body.{Body}
 use Rattle.b3_ir.specs.declared.value.Body.TheVariants.{Target}
 use Rattle.b3_ir.specs.declared.value.Value.{Value}
-
--- how many values stand in the blocks before block b: the id of its first value
-unfoldable pub first_id : List (List Value) → ℕ → ℕ
-first_id blocks b = sum_by (λ (vs : List Value). length vs) (take b blocks)
 
 -- P holds for each value whose id is below n, with its block and its place
 abbrev pub AllBelow : Procedure → ℕ → (ℕ → ℕ → Value → Type 0) → Type 0

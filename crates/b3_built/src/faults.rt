@@ -2,9 +2,9 @@
 
 ghost use Rattle.std.specs.Prelude.{◌≡◌, ◌+◌, ◌<◌, length, None, IfOk, IfSome, IfNone};
 ghost use Rattle.b3_built.specs.Faults.{IsFaultLine};
-ghost use Rattle.b3_built.specs.Table.{first_id, AllBelow, IsTable};
+ghost use Rattle.b3_built.specs.Table.{AllBelow, IsTable};
 ghost use Rattle.b3_ir.specs.Built.{IsBuilt, KeepsRules};
-ghost use Rattle.b3_ir.specs.Shape.{IsShaped};
+ghost use Rattle.b3_ir.specs.Shape.{first_id, IsShaped};
 
 use crate::rules::keeps_rules;
 use crate::table::{Entry, table};

@@ -1,10 +1,10 @@
 //! The rules that a value keeps, each a test.
 
 ghost use Rattle.std.specs.Prelude.{◌≡◌, ◌≢◌, ℕ, ◌+◌, ◌<◌, ◌≤◌, ◌⊎◌, ◌↔◌, All, IsTrue, length};
-ghost use Rattle.b3_built.specs.Table.{first_id, IsPhiEntry, IsTable, NamesPhiEntry};
+ghost use Rattle.b3_built.specs.Table.{IsPhiEntry, IsTable, NamesPhiEntry};
 ghost use Rattle.b3_ir.specs.Built.{IsChildAt, KeepsRules, NamesBlocks, StandsAt};
 ghost use Rattle.b3_ir.specs.Procedure.{IsPlace};
-ghost use Rattle.b3_ir.specs.Shape.{IsShaped};
+ghost use Rattle.b3_ir.specs.Shape.{first_id, IsShaped};
 
 use crate::table::Entry;
 use b3_base::Seq;

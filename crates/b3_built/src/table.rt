@@ -1,8 +1,8 @@
 //! The type and the opcode of each value, by its id.
 
 ghost use Rattle.std.specs.Prelude.{◌≡◌, ◌+◌, ◌<◌, length, OnOk, IfOk};
-ghost use Rattle.b3_built.specs.Table.{first_id, IsTable, IsTableBelow};
-ghost use Rattle.b3_ir.specs.Shape.{IsShaped};
+ghost use Rattle.b3_built.specs.Table.{IsTable, IsTableBelow};
+ghost use Rattle.b3_ir.specs.Shape.{first_id, IsShaped};
 
 use b3_base::{NoMemory, Seq};
 use b3_ir::{Opcode, Proc, Ty};

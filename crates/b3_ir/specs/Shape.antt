@@ -1,6 +1,6 @@
 -- The shape of a procedure of the forms that are built: what each value is by itself, how values
 -- are numbered, on which lines they stand, and how blocks end.
-use Rattle.std.specs.Prelude.{◌≡◌, ℕ, ◌+◌, ◌^◌, ◌<◌, ◌≤◌, Bool, true, false, List, [], ◌∷◌, length, sum_by}
+use Rattle.std.specs.Prelude.{◌≡◌, ℕ, ◌+◌, ◌^◌, ◌<◌, ◌≤◌, Bool, true, false, List, [], ◌∷◌, length, sum_by, take}
 use Rattle.b3_ir.specs.declared.opcode.Ty.{Ty}
 use Rattle.b3_ir.specs.declared.opcode.Ty.TheVariants.{Void, Int64}
 use Rattle.b3_ir.specs.declared.opcode.Opcode.{Opcode}
@@ -71,6 +71,10 @@ line_count _ = 1
 
 abbrev pub lines_of_values : List Value → ℕ
 lines_of_values vs = sum_by (λ (v : Value). line_count v.body) vs
+
+-- how many values stand in the blocks before block b: the id of its first value
+unfoldable pub first_id : List (List Value) → ℕ → ℕ
+first_id blocks b = sum_by length (take b blocks)
 
 -- values one after the other, the first of number k and on this line
 abbrev pub AreValuesAt : ℕ → ℕ → List Value → Type 0

@@ -1,8 +1,9 @@
 use Rattle.std.proofs.Common.{◌+◌, sym, ◌∙◌}
 use Rattle.std.proofs.lemmas.Bool.{false≢true}
 use Rattle.b3_ir.specs.Built.{KeepsRules}
-use Rattle.b3_built.specs.Table.{first_id, AllBelow}
-use Rattle.b3_built.proofs.Numbering.{below_next}
+use Rattle.b3_built.specs.Table.{AllBelow}
+use Rattle.b3_ir.specs.Shape.{first_id}
+use Rattle.b3_built.proofs.Below.{below_next}
 use Rattle.b3_built.proofs.Seen.{fault_here, id_seen, seen_first, seen_next}
 use Rattle.b3_built.proofs.faults.fault_in_block.Goals as goal
 

@@ -1,7 +1,8 @@
 use Rattle.std.proofs.Common.{◌≡◌, ℕ, length, subst, arith}
 use Rattle.b3_ir.specs.Built.{KeepsRules}
-use Rattle.b3_built.specs.Table.{first_id, AllBelow}
-use Rattle.b3_built.proofs.Numbering.{first_zero}
+use Rattle.b3_built.specs.Table.{AllBelow}
+use Rattle.b3_ir.specs.Shape.{first_id}
+use Rattle.b3_ir.proofs.Numbering.{first_zero}
 use Rattle.b3_built.proofs.Seen.{built_whole}
 use Rattle.b3_built.proofs.faults.fault_line.Goals as goal
 

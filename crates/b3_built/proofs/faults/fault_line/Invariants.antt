@@ -1,5 +1,6 @@
 use Rattle.b3_ir.specs.Built.{KeepsRules}
-use Rattle.b3_built.specs.Table.{first_id, AllBelow}
+use Rattle.b3_built.specs.Table.{AllBelow}
+use Rattle.b3_ir.specs.Shape.{first_id}
 use Rattle.b3_built.proofs.faults.fault_line.Given as goal
 
 abbrev pub invariant-loop-block : goal.invariant-loop-block

@@ -1,6 +1,6 @@
 use Rattle.std.proofs.Common.{arith, ap}
-use Rattle.b3_built.specs.Table.{first_id}
-use Rattle.b3_built.proofs.Numbering.{block_some, id_at}
+use Rattle.b3_ir.specs.Shape.{first_id}
+use Rattle.b3_ir.proofs.Numbering.{block_some, id_at}
 use Rattle.b3_built.proofs.rules.first_id.Goals as goal
 
 pub unreachable-requires : goal.unreachable-requires

@@ -1,8 +1,9 @@
 use Rattle.std.proofs.Common.{ℕ, ◌+◌, ◌<◌, ◌↔◌, List, refl, sym, subst}
 use Rattle.std.specs.Prelude.{All, IsTrue}
 use Rattle.b3_ir.specs.Built.{IsChildAt, NamesBlocks}
-use Rattle.b3_built.specs.Table.{first_id, NamesPhiEntry}
-use Rattle.b3_built.proofs.Numbering.{children_before}
+use Rattle.b3_built.specs.Table.{NamesPhiEntry}
+use Rattle.b3_ir.specs.Shape.{first_id}
+use Rattle.b3_ir.proofs.Numbering.{children_before}
 use Rattle.b3_built.proofs.Keeping.{both_held, first_failed, rules_kept}
 use Rattle.b3_built.proofs.rules.keeps_rules.Goals as goal
 use Rattle.b3_built.proofs.rules.keeps_rules.Goals.{then-children_keep, else-children_keep}

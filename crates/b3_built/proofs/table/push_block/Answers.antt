@@ -1,5 +1,6 @@
 use Rattle.std.proofs.Common.{◌+◌}
-use Rattle.b3_built.specs.Table.{first_id, IsTableBelow}
+use Rattle.b3_built.specs.Table.{IsTableBelow}
+use Rattle.b3_ir.specs.Shape.{first_id}
 use Rattle.b3_built.proofs.Entries.{table_next}
 use Rattle.b3_built.proofs.Seen.{id_seen, seen_first, seen_next}
 use Rattle.b3_built.proofs.table.push_block.Goals as goal

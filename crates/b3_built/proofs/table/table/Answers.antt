@@ -1,5 +1,6 @@
 use Rattle.std.proofs.Common.{sym, subst}
-use Rattle.b3_built.specs.Table.{first_id, IsTableBelow}
+use Rattle.b3_built.specs.Table.{IsTableBelow}
+use Rattle.b3_ir.specs.Shape.{first_id}
 use Rattle.b3_built.proofs.Entries.{table_none}
 use Rattle.b3_built.proofs.table.table.Goals as goal
 

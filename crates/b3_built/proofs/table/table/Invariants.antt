@@ -1,4 +1,5 @@
-use Rattle.b3_built.specs.Table.{first_id, IsTableBelow}
+use Rattle.b3_built.specs.Table.{IsTableBelow}
+use Rattle.b3_ir.specs.Shape.{first_id}
 use Rattle.b3_built.proofs.table.table.Given as goal
 
 abbrev pub invariant-loop-block : goal.invariant-loop-block

@@ -14,8 +14,7 @@ use Rattle.b3_ir.specs.declared.value.Body.TheVariants.{Targets}
 use Rattle.b3_ir.specs.declared.value.Value.{Value}
 use Rattle.b3_ir.specs.Built.{StandsAt}
 use Rattle.b3_ir.specs.Procedure.{Procedure, values_of}
-use Rattle.b3_ir.specs.Shape.{AreBlocksAt, AreValuesAt, IsFormOf, IsShaped, IsValueAt, line_count, lines_of_values}
-use Rattle.b3_built.specs.Table.{first_id, AllBelow}
+use Rattle.b3_ir.specs.Shape.{AreBlocksAt, AreValuesAt, IsFormOf, IsShaped, IsValueAt, first_id, line_count, lines_of_values}
 
 -- ---- the first ids of blocks
 
@@ -30,7 +29,7 @@ first_zero blocks = refl
 
 pub first_cons : (vs : List Value) (blocks : List (List Value)) (b : ℕ) → first_id (vs ∷ blocks) (suc b) ≡ length vs + first_id blocks b
 unfolding first_id
-first_cons vs blocks b = sum_by-cons (λ (ws : List Value). length ws) vs (take b blocks)
+first_cons vs blocks b = sum_by-cons length vs (take b blocks)
 
 first_suc : (blocks : List (List Value)) (b : ℕ) → first_id blocks (suc b) ≡ first_id blocks b + length (slice_index_or blocks b [])
 first_suc [] b = omega (arith, first_nil b, first_nil (suc b))
@@ -86,7 +85,7 @@ block_lines k line (suc j) (suc m) (u ∷ vs) v w h e f less = block_lines (k + 
 
 -- ---- the values of all blocks
 
-value_of_blocks : (k line b j : ℕ) (blocks : List (List Value)) (v : Value) → AreBlocksAt k line blocks → slice_get (slice_index_or blocks b []) j ≡ Some v → (row : ℕ) × IsValueAt (k + (first_id blocks b + j)) row v × (line ≤ row)
+pub value_of_blocks : (k line b j : ℕ) (blocks : List (List Value)) (v : Value) → AreBlocksAt k line blocks → slice_get (slice_index_or blocks b []) j ≡ Some v → (row : ℕ) × IsValueAt (k + (first_id blocks b + j)) row v × (line ≤ row)
 value_of_blocks k line b j [] v h e = absurd cc
 value_of_blocks k line zero j (vs ∷ blocks) v h e =
     let r = value_in k (line + 1) j vs v h.0 e in
@@ -176,18 +175,6 @@ same_place p b j c m v w shape there other same =
     let moved : StandsAt p c j v = subst (λ (n : ℕ). StandsAt p n j v) block there in
     let at : StandsAt p c m v = subst (λ (n : ℕ). StandsAt p c n v) place moved in
     (block, place, cc)
-
--- ---- what holds for each value whose id is below a number
-
--- one value more
-pub below_next : (p : Procedure) (P : ℕ → ℕ → Value → Type 0) (b j n : ℕ) (v : Value) → IsShaped p → StandsAt p b j v → v.id ≡ n → AllBelow p n P → P b j v → AllBelow p (n + 1) P
-below_next p P b j n v shape there at below here c m w other less =
-    elim (cases_lt w.id n) [
-      | inl before ↦ below c m w other before
-      | inr after ↦
-          let same = same_place p b j c m v w shape there other (omega arith) in
-          subst (P c m) same.2 (subst (λ (i : ℕ). P c i v) same.1 (subst (λ (i : ℕ). P i j v) same.0 here))
-    ]
 
 -- ---- children
 
