@@ -6,9 +6,7 @@ use Rattle.std.proofs.lemmas.Grind.{get_or-set_at}
 use Rattle.std.proofs.lemmas.Simd.{get_or-put_chunk_at, get_or-put_chunk_below, get_or-put_chunk_above, get_or-zip2, length-zip2, get_or-chunk, length-chunk}
 use lib.Lanes.{zip2, put_chunk, chunk, fold_l}
 use Rattle.bit_rows.specs.Words.{Merges, Apart, Nothing}
-
-ap2 : {A B C : Type 0} (f : A → B → C) {a a' : A} {b b' : B} → a ≡ a' → b ≡ b' → f a b ≡ f a' b'
-ap2 f {a} {a'} {b} {b'} p q = ap (λ x. f x b) p ∙ ap (λ y. f a' y) q
+use Rattle.bit_rows.proofs.Sets.{ap2}
 
 -- one lane of f at two runs
 pub lane : (f : ℕ → ℕ → ℕ) (words : List ℕ) (a b m j : ℕ) → a + m ≤ length words → b + m ≤ length words → j < m

@@ -14,10 +14,7 @@ use Rattle.std.proofs.lemmas.List.{set-get_or}
 use Rattle.std.proofs.lemmas.Simd.{length-replicate, get_or-replicate}
 use Rattle.std.specs.Prelude.{replicate}
 use Rattle.bit_rows.specs.Words.{FillsWords, KeepsOthers, is_one, kept, sets_of, ones_from, without, added, Merges, Apart, Nothing}
-use Rattle.bit_rows.proofs.Sets.{contains-passing, passing-same, len-passing, count_below, count_below-same, count_below-join, count_word, contains-insert_nat, contains-remove_nat}
-
-ap2 : {A B C : Type 0} (f : A → B → C) {a a' : A} {b b' : B} → a ≡ a' → b ≡ b' → f a b ≡ f a' b'
-ap2 f {a} {a'} {b} {b'} p q = ap (λ x. f x b) p ∙ ap (λ y. f a' y) q
+use Rattle.bit_rows.proofs.Sets.{ap2, contains-passing, passing-same, len-passing, count_below, count_below-same, count_below-join, count_word, contains-insert_nat, contains-remove_nat}
 
 pub contains-kept : (words : List ℕ) (at n q : ℕ) → set.contains (kept words at n) q ≡ (ltb q (64 * n) && is_one words at q)
 unfolding kept
