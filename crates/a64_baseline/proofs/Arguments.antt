@@ -2,7 +2,6 @@
 use Rattle.std.proofs.Common.{◌≡◌, ◌≢◌, ℕ, suc, ◌+◌, ◌<◌, ◌≤◌, ◌⊎◌, inl, inr, List, [], ◌∷◌, ◌++◌, Some, length, refl, sym, ap, ◌∙◌, subst, arith, ⊎_elim, length-append}
 use Rattle.std.specs.Prelude.{slice_get}
 use Rattle.b3_base.specs.Memory.{write_word}
-use Rattle.b3_base.specs.Run.{iterate}
 use Rattle.b3_ir.specs.Procedure.{Procedure}
 use Rattle.b3_ir.specs.Built.{StandsAt}
 use Rattle.b3_ir.specs.Shape.{IsFormOf, IsArgumentBody}
@@ -14,10 +13,10 @@ use Rattle.b3_ir.specs.declared.value.Reg.{Reg}
 use Rattle.b3_ir.specs.declared.value.Value.{Value}
 use Rattle.b3_meaning.specs.Observed.{Memory}
 use Rattle.a64_inst.specs.declared.inst.Inst.{Inst}
-use Rattle.a64_run.specs.Machine.{Entry, State, Runs, machine_step}
+use Rattle.a64_run.specs.Machine.{Entry, State, Runs}
 use Rattle.b3_ir.proofs.Numbering.{first_zero}
 use Rattle.a64_baseline.specs.Code.{places_of, code_of, argument_store, argument_stores, store_to}
-use Rattle.a64_baseline.proofs.Machine.{Stands, Ran, ran_none, ran_more}
+use Rattle.a64_baseline.proofs.Machine.{Stands, Ran, ran_none, ran_more, ran_same}
 use Rattle.a64_baseline.proofs.Frame.{address_of, stored_word, other_word}
 use Rattle.a64_baseline.proofs.Steps as steps
 use Rattle.a64_baseline.proofs.Steps.{store_step}
@@ -122,7 +121,7 @@ module _ (p : Procedure) (e : Entry) (set : Setting p e) where
       (subst (ArgumentsBelow p e (j + 1)) (sym step.memory_is) (one_more s.memory j v is.0 here is.1 is.2 below)) in
       record {
         after = more.after;
-        ran = ap (λ (n : ℕ). iterate (machine_step e) n (Runs s)) (omega (arith, len)) ∙ ran_more e (length rest) (Runs s) (Runs step.after) (Runs more.after) step.step more.ran;
+        ran = ran_same e (length one + length rest) (suc (length rest)) (Runs s) (Runs more.after) (omega (arith, len)) (ran_more e (length rest) (Runs s) (Runs step.after) (Runs more.after) step.step more.ran);
         at = subst (λ n. steps.StandsAt e (places_of p) n more.after) (omega (arith, len)) more.at;
         arguments = more.arguments;
       })
@@ -132,14 +131,14 @@ module _ (p : Procedure) (e : Entry) (set : Setting p e) where
       let more = stores_run vs (j + 1) h s behind tail (subst (Stands (code_of p)) (omega (arith, len)) next') at low (none_more s.memory j v here no.1 below) in
       record {
         after = more.after;
-        ran = ap (λ (n : ℕ). iterate (machine_step e) n (Runs s)) (omega (arith, len)) ∙ more.ran;
+        ran = ran_same e (length one + length rest) (length rest) (Runs s) (Runs more.after) (omega (arith, len)) more.ran;
         at = subst (λ n. steps.StandsAt e (places_of p) n more.after) (omega (arith, len)) more.at;
         arguments = more.arguments;
       })
       (store_kind j v.kind.opcode v.body) in
       record {
         after = stored.after;
-        ran = ap (λ (n : ℕ). iterate (machine_step e) n (Runs s)) size ∙ stored.ran;
+        ran = ran_same e (length (one ++ rest)) (length one + length rest) (Runs s) (Runs stored.after) size stored.ran;
         at = subst (λ n. steps.StandsAt e (places_of p) n stored.after) (omega (arith, size)) stored.at;
         arguments = subst (λ n. ArgumentsBelow p e n stored.after.memory) (omega arith) stored.arguments;
       }

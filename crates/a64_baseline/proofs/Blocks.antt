@@ -2,7 +2,6 @@
 use Rattle.std.proofs.Common.{◌≡◌, ℕ, zero, suc, ◌+◌, ◌-◌, ◌<◌, ◌≤◌, Bool, true, false, List, [], ◌∷◌, Some, length, refl, sym, ap, ◌∙◌, subst, arith, length-append}
 use Rattle.std.specs.Prelude.{slice_get, slice_index, slice_index_or, ◌||◌}
 use Rattle.std.specs.List.{list_any}
-use Rattle.b3_base.specs.Run.{iterate}
 use Rattle.b3_ir.specs.Procedure.{Procedure, values_of}
 use Rattle.b3_ir.specs.Shape.{AreValuesAt, EndsBlock, is_terminal, line_count}
 use Rattle.b3_ir.specs.Built.{StandsAt}
@@ -10,10 +9,10 @@ use Rattle.b3_ir.specs.declared.opcode.Opcode.TheVariants.{Return}
 use Rattle.b3_ir.specs.declared.value.Value.{Value}
 use Rattle.b3_meaning.specs.Observed.{Answer}
 use Rattle.b3_meaning.specs.Run as b3
-use Rattle.a64_run.specs.Machine.{Entry, State, Runs, Stops, machine_step, first}
+use Rattle.a64_run.specs.Machine.{Entry, State, Runs, Stops, first}
 use Rattle.a64_baseline.specs.Code.{places_of, prologue, argument_stores, entry_code, code_of, begins_of, size_of, words_of_values, value_code, values_code}
 use Rattle.a64_baseline.specs.Object.{has_return, is_return}
-use Rattle.a64_baseline.proofs.Machine.{Stands, Ran, ran_both}
+use Rattle.a64_baseline.proofs.Machine.{Stands, Ran, ran_both, ran_same}
 use Rattle.b3_ir.proofs.Numbering.{in_blocks}
 use Rattle.a64_baseline.proofs.Pieces.{Spans}
 use Rattle.a64_baseline.proofs.Begins as begins
@@ -132,7 +131,7 @@ module _ (p : Procedure) (e : Entry) (set : Setting p e) where
       let b = stores_run p e set (values_of p 0) 0 3 a.after (λ i v e1. subst (λ n. StandsAt p 0 n v) (omega arith) e1) behind block a.at
       (λ r le. ap (λ (x : ℕ → ℕ). x r) a.x_is ∙ set_other e.start.registers 29 (e.start.sp - 16) r (λ same. omega arith)) (λ i v reg lt there op body. absurd (omega arith)) in (
         b.after,
-        ap (λ (n : ℕ). iterate (machine_step e) n (first e answers)) size ∙ ran_both e 3 (length stores) (first e answers) (Runs a.after) (Runs b.after) a.ran b.ran,
+        ran_same e (length (entry_code p)) (3 + length stores) (first e answers) (Runs b.after) size (ran_both e 3 (length stores) (first e answers) (Runs a.after) (Runs b.after) a.ran b.ran),
         subst (λ n. steps.StandsAt e (places_of p) n b.after) (sym (begins.first_begin p set.built ∙ size)) b.at,
         subst (λ n. ArgumentsBelow p e n b.after.memory) (omega arith) b.arguments,
       )

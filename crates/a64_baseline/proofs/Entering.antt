@@ -14,7 +14,7 @@ use Rattle.a64_run.specs.Placement.{in_frame, entry_memory}
 use Rattle.a64_run.specs.Machine.{Entry, State, Runs, touches_empty_at, first}
 use Rattle.a64_run.proofs.Steps.{touches_none}
 use Rattle.a64_baseline.specs.Code.{adjust, prologue}
-use Rattle.a64_baseline.proofs.Machine.{RunsCode, Stands, StepTo, Ran, goes_to_next, ran_more, ran_none}
+use Rattle.a64_baseline.proofs.Machine.{RunsCode, Stands, StepTo, Ran, chain_2, chain_3, goes_to_next, ran_more, ran_none}
 use Rattle.a64_baseline.proofs.Frame.{HasFrame, KeepsFrame, low_of, stored_word}
 use Rattle.a64_baseline.proofs.Steps.{StandsAt, set_x, set_other, set_same}
 use Rattle.a64_baseline.proofs.Pieces.{Spans}
@@ -159,16 +159,17 @@ module _ (e : Entry) (code : List Inst) (places : ℕ) (run : RunsCode e code) (
       let a = first_step s spans (ap (λ n. e.start.code + n) offset) refl refl refl in
       let b = second_step a.after spans a.pc_is a.x_is a.sp_is in
       let c = third_step b.after spans next b.pc_is b.sp_is in
+      let x : c.after.registers.x ≡ set_x e.start.registers 29 (e.start.sp - 16) = chain_2 (set_x e.start.registers 29 (e.start.sp - 16)) b.after.registers.x c.after.registers.x b.x_is c.x_is in
       record {
         after = c.after;
         ran = ran_more e 2 (Runs s) (Runs a.after) (Runs c.after) a.step (ran_more e 1 (Runs a.after) (Runs b.after) (Runs c.after) b.step (ran_more e 0 (Runs b.after) (Runs c.after) (Runs c.after) c.step (ran_none e (Runs c.after))));
         at = record {
           pc = c.pc_is;
           sp = c.sp_is;
-          fp = ap (λ (x : ℕ → ℕ). x 29) (c.x_is ∙ b.x_is) ∙ set_same e.start.registers 29 (e.start.sp - 16);
-          kept = λ r least most. ap (λ (x : ℕ → ℕ). x r) (c.x_is ∙ b.x_is) ∙ set_other e.start.registers 29 (e.start.sp - 16) r (λ same. omega arith);
-          frame = subst (KeepsFrame e places) (sym (c.memory_is ∙ b.memory_is ∙ a.memory_is)) saved_keeps;
-          no_events = c.events_are ∙ b.events_are ∙ a.events_are;
+          fp = ap (λ (x : ℕ → ℕ). x 29) x ∙ set_same e.start.registers 29 (e.start.sp - 16);
+          kept = λ r least most. ap (λ (x : ℕ → ℕ). x r) x ∙ set_other e.start.registers 29 (e.start.sp - 16) r (λ same. omega arith);
+          frame = subst (KeepsFrame e places) (sym (chain_3 (saved_in e (entry_memory e.frame e.start)) a.after.memory b.after.memory c.after.memory a.memory_is b.memory_is c.memory_is)) saved_keeps;
+          no_events = chain_3 [] a.after.events b.after.events c.after.events a.events_are b.events_are c.events_are;
         };
-        x_is = c.x_is ∙ b.x_is;
+        x_is = x;
       }

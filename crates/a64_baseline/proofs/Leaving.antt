@@ -15,10 +15,10 @@ use Rattle.a64_inst.specs.declared.inst.BranchKind.TheVariants.{Ret}
 use Rattle.a64_inst.specs.declared.state.Outcome.TheVariants.{Next}
 use Rattle.stackmap.specs.declared.site.Returns.TheVariants.{W64}
 use Rattle.a64_run.specs.Placement.{in_frame, visible, entry_memory}
-use Rattle.a64_run.specs.Machine.{Entry, State, Runs, Stops, has_returned, keeps_registers, machine_step}
+use Rattle.a64_run.specs.Machine.{Entry, State, Config, Runs, Stops, has_returned, keeps_registers, machine_step}
 use Rattle.a64_run.proofs.Steps.{step_executes, touches_none}
 use Rattle.a64_baseline.specs.Code.{load_from, adjust, epilogue}
-use Rattle.a64_baseline.proofs.Machine.{RunsCode, Stands, StepTo, Ran, goes_to_next, ran_more, ran_none}
+use Rattle.a64_baseline.proofs.Machine.{RunsCode, Stands, StepTo, Ran, chain_2, chain_3, goes_to_next, ran_more, ran_none}
 use Rattle.a64_baseline.proofs.Frame.{HasFrame, KeepsFrame, address_of}
 use Rattle.a64_baseline.proofs.Steps.{StandsAt, set_x, load_step}
 use Rattle.a64_baseline.proofs.Pieces.{Spans}
@@ -84,6 +84,9 @@ same_visible e places memory apart none keeps = fun_ext (visible_byte e memory a
 abbrev pub returned_with : Entry → ℕ → Observation
 returned_with e w = record { status = Returned (Some w); events = []; memory = visible e.frame e.start (entry_memory e.frame e.start) }
 
+returned_same : (config : Config) (w : ℕ) (memory memory' : Memory) → config ≡ Stops (record { status = Returned (Some w); events = []; memory = memory }) → memory ≡ memory' → config ≡ Stops (record { status = Returned (Some w); events = []; memory = memory' })
+returned_same config w memory memory' stops same = rw (← same) stops
+
 module _ (e : Entry) (code : List Inst) (places : ℕ) (run : RunsCode e code) (has : HasFrame e places) where
   -- a RET to the caller
   returns : (s : State) (k w : ℕ) → s.registers.pc ≡ e.start.code + 4 * k → slice_get code k ≡ Some (BranchReg Ret 30) → e.frame.returns ≡ W64
@@ -95,7 +98,11 @@ module _ (e : Entry) (code : List Inst) (places : ℕ) (run : RunsCode e code) (
       step_executes e s k (BranchReg Ret 30) at (run.text k _ there) (run.decodes k _ there)
       ∙ rw (does, back, events, wide) (ap (λ (word : ℕ). Stops (record { status = Returned (Some word); events = []; memory = visible e.frame e.start s.memory })) value)
 
-  -- the registers once x0, x29 and x30 are loaded: x19 to x29 are as at the start
+  -- the registers once x0, x29 and x30 are loaded
+  loaded_all : (x a b c : ℕ → ℕ) (w fp lr : ℕ) → a ≡ set_x x 0 w → b ≡ a → c ≡ set_x (set_x b 29 fp) 30 lr → c ≡ set_x (set_x (set_x x 0 w) 29 fp) 30 lr
+  loaded_all x a b c w fp lr first second third = rw (← first, ← second) third
+
+  -- of them x19 to x29 are as at the start
   loaded_kept : (w : ℕ) (x : ℕ → ℕ) → ((r : ℕ) → 19 ≤ r → r ≤ 28 → x r ≡ e.start.registers r) → (q : ℕ) → q < 11
       → set_x (set_x (set_x x 0 w) 29 (e.start.registers 29)) 30 (e.start.registers 30) (19 + q) ≡ e.start.registers (19 + q)
   loaded_kept w x kept q lt =
@@ -109,6 +116,10 @@ module _ (e : Entry) (code : List Inst) (places : ℕ) (run : RunsCode e code) (
       let same : q ≡ 10 = omega arith in
       rw same refl)
       (cases_lt q 10)
+
+  loaded_back : (w : ℕ) (x after : ℕ → ℕ) → ((r : ℕ) → 19 ≤ r → r ≤ 28 → x r ≡ e.start.registers r) → after ≡ set_x (set_x (set_x x 0 w) 29 (e.start.registers 29)) 30 (e.start.registers 30)
+      → (q : ℕ) → q < 11 → after (19 + q) ≡ e.start.registers (19 + q)
+  loaded_back w x after kept same q lt = rw same (loaded_kept w x kept q lt)
 
   adjust_step : (s : State) (k : ℕ) → s.registers.pc ≡ e.start.code + 4 * k → slice_get code k ≡ Some (adjust false 31 29 0) → Stands code (k + 1) → s.registers.x 29 ≡ e.start.sp - 16
       → StepTo e s (k + 1) s.registers.x (e.start.sp - 16) s.memory
@@ -139,10 +150,10 @@ module _ (e : Entry) (code : List Inst) (places : ℕ) (run : RunsCode e code) (
       let a = load_step e code places run has s k i 0 w at i0 (_, i1) (omega arith) lt given in
       let b = adjust_step a.after (k + 1) a.at.pc i1 (_, i2) a.at.fp in
       let c = pair_step b.after (k + 1 + 1) b.pc_is i2 (_, i3) b.sp_is (subst (KeepsFrame e places) (sym b.memory_is) a.at.frame) in
-      let x : c.after.registers.x ≡ set_x (set_x (set_x s.registers.x 0 w) 29 (e.start.registers 29)) 30 (e.start.registers 30) = c.x_is ∙ ap (λ (x : ℕ → ℕ). set_x (set_x x 29 (e.start.registers 29)) 30 (e.start.registers 30)) (b.x_is ∙ a.x_is) in
-      let d = returns c.after (k + 1 + 1 + 1) w c.pc_is i3 wide (ap (λ (x : ℕ → ℕ). x 30) x) c.sp_is (λ q lt_q. ap (λ (x : ℕ → ℕ). x (19 + q)) x ∙ loaded_kept w s.registers.x at.kept q lt_q) (ap (λ (x : ℕ → ℕ). x 0) x)
-      (c.events_are ∙ b.events_are ∙ a.at.no_events) in
-      let seen : visible e.frame e.start c.after.memory ≡ visible e.frame e.start (entry_memory e.frame e.start) = same_visible e places c.after.memory apart none (subst (KeepsFrame e places) (sym (c.memory_is ∙ b.memory_is)) a.at.frame) in
-      let last : machine_step e (Runs c.after) ≡ Stops (returned_with e w) = d ∙ ap (λ (memory : Memory). Stops (record { status = Returned (Some w); events = []; memory = memory })) seen in
+      let x : c.after.registers.x ≡ set_x (set_x (set_x s.registers.x 0 w) 29 (e.start.registers 29)) 30 (e.start.registers 30) = loaded_all s.registers.x a.after.registers.x b.after.registers.x c.after.registers.x w (e.start.registers 29) (e.start.registers 30) a.x_is b.x_is c.x_is in
+      let d = returns c.after (k + 1 + 1 + 1) w c.pc_is i3 wide (ap (λ (x : ℕ → ℕ). x 30) x) c.sp_is (loaded_back w s.registers.x c.after.registers.x at.kept x) (ap (λ (x : ℕ → ℕ). x 0) x)
+      (chain_3 [] a.after.events b.after.events c.after.events a.at.no_events b.events_are c.events_are) in
+      let seen : visible e.frame e.start c.after.memory ≡ visible e.frame e.start (entry_memory e.frame e.start) = same_visible e places c.after.memory apart none (subst (KeepsFrame e places) (sym (chain_2 a.after.memory b.after.memory c.after.memory b.memory_is c.memory_is)) a.at.frame) in
+      let last : machine_step e (Runs c.after) ≡ Stops (returned_with e w) = returned_same (machine_step e (Runs c.after)) w (visible e.frame e.start c.after.memory) (visible e.frame e.start (entry_memory e.frame e.start)) d seen in
       ran_more e 3 (Runs s) (Runs a.after) (Stops (returned_with e w)) a.step (ran_more e 2 (Runs a.after) (Runs b.after) (Stops (returned_with e w)) b.step
       (ran_more e 1 (Runs b.after) (Runs c.after) (Stops (returned_with e w)) c.step (ran_more e 0 (Runs c.after) (Stops (returned_with e w)) (Stops (returned_with e w)) last (ran_none e (Stops (returned_with e w))))))

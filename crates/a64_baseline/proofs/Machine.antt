@@ -13,6 +13,16 @@ use Rattle.a64_inst.specs.declared.state.Outcome.TheVariants.{Next}
 use Rattle.a64_run.specs.Machine.{Entry, State, Config, Runs, touched, touches_empty_at, is_ret, machine_step}
 use Rattle.a64_run.proofs.Steps.{step_goes_on}
 
+-- what each of some steps keeps, all of them keep
+pub chain_2 : {X : Type 0} (a b c : X) → b ≡ a → c ≡ b → c ≡ a
+chain_2 a b c first second = second ∙ first
+
+pub chain_3 : {X : Type 0} (a b c d : X) → b ≡ a → c ≡ b → d ≡ c → d ≡ a
+chain_3 a b c d first second third = third ∙ second ∙ first
+
+pub chain_4 : {X : Type 0} (a b c d f : X) → b ≡ a → c ≡ b → d ≡ c → f ≡ d → f ≡ a
+chain_4 a b c d f first second third fourth = fourth ∙ third ∙ second ∙ first
+
 -- the text of an object begins with this code
 pub record RunsCode (e : Entry) (code : List Inst) : Type 0 where
   pub text : (k : ℕ) (inst : Inst) → slice_get code k ≡ Some inst → slice_get e.object.text k ≡ Some (word inst)
@@ -85,3 +95,6 @@ ran_more e n x y z first others = iterate-suc (machine_step e) n x ∙ ap (itera
 
 pub ran_both : (e : Entry) (m n : ℕ) (x y z : Config) → Ran e m x y → Ran e n y z → Ran e (m + n) x z
 ran_both e m n x y z first others = iterate-add (machine_step e) m n x ∙ ap (iterate (machine_step e) n) first ∙ others
+
+pub ran_same : (e : Entry) (m n : ℕ) (x y : Config) → m ≡ n → Ran e n x y → Ran e m x y
+ran_same e m n x y same ran = rw same ran

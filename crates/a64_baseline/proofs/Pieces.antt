@@ -3,13 +3,14 @@ use Rattle.std.proofs.Common.{◌≡◌, ◌≢◌, ℕ, pos, ◌+◌, ◌*◌, 
 use Rattle.std.specs.Prelude.{slice_get}
 use Rattle.b3_base.specs.Memory.{read_word, write_word}
 use Rattle.b3_base.specs.declared.word.Width.TheVariants.{W64}
+use Rattle.b3_meaning.specs.Observed.{Memory}
 use Rattle.a64_inst.specs.Step.{moved, low_bits}
 use Rattle.a64_inst.specs.declared.inst.Inst.{Inst}
 use Rattle.a64_inst.specs.declared.inst.Inst.TheVariants.{AddSubReg, BranchZero}
 use Rattle.a64_inst.specs.declared.inst.MoveOp.TheVariants.{Movz, Movk}
 use Rattle.a64_run.specs.Machine.{Entry, State, Runs}
 use Rattle.a64_baseline.specs.Code.{store_to, load_from, half_word, move_half, put_code, arith_code, copy_code, branch_from, branch_code}
-use Rattle.a64_baseline.proofs.Machine.{RunsCode, Stands, Ran, ran_none, ran_more}
+use Rattle.a64_baseline.proofs.Machine.{RunsCode, Stands, Ran, ran_none, ran_more, chain_3, chain_4}
 use Rattle.a64_baseline.proofs.Frame.{HasFrame, address_of}
 use Rattle.a64_baseline.proofs.Steps.{StandsAt, set_x, set_same, set_other, arith_word, load_step, store_step, move_step, arith_step, branch_step, taken_step, not_taken_step}
 
@@ -55,6 +56,10 @@ set_is x x' reg w v e same = ap (λ (f : ℕ → ℕ). f reg) e ∙ set_same x r
 set_keeps : (x x' : ℕ → ℕ) (reg w q v : ℕ) → x' ≡ set_x x reg w → q ≢ reg → x q ≡ v → x' q ≡ v
 set_keeps x x' reg w q v e differ same = ap (λ (f : ℕ → ℕ). f q) e ∙ set_other x reg w q differ ∙ same
 
+-- the memory after some steps of which only the last stores
+stored_after : (before between after : Memory) (address word : ℕ) → between ≡ before → after ≡ write_word between address 8 word → after ≡ write_word before address 8 word
+stored_after before between after address word same stored = rw (← same) stored
+
 module _ (e : Entry) (code : List Inst) (places : ℕ) (run : RunsCode e code) (has : HasFrame e places) where
   -- a constant
   pub put_run : (s : State) (k u w : ℕ) → StandsAt e places k s → Spans code k (put_code u w) → Stands code (k + 5) → u < 2 * places → w < 2 ^ 64 → Writes e places s 5 (k + 5) u w
@@ -80,7 +85,7 @@ module _ (e : Entry) (code : List Inst) (places : ℕ) (run : RunsCode e code) (
         ran = ran_more e 4 (Runs s) (Runs a.after) (Runs f.after) a.step (ran_more e 3 (Runs a.after) (Runs b.after) (Runs f.after) b.step (ran_more e 2 (Runs b.after) (Runs c.after) (Runs f.after) c.step
             (ran_more e 1 (Runs c.after) (Runs d.after) (Runs f.after) d.step (ran_more e 0 (Runs d.after) (Runs f.after) (Runs f.after) f.step (ran_none e (Runs f.after))))));
         at = subst (λ n. StandsAt e places n f.after) (sym five) f.at;
-        memory_is = f.memory_is ∙ ap (λ memory. write_word memory (address_of e places u) 8 w) (d.memory_is ∙ c.memory_is ∙ b.memory_is ∙ a.memory_is);
+        memory_is = stored_after s.memory d.after.memory f.after.memory (address_of e places u) w (chain_4 s.memory a.after.memory b.after.memory c.after.memory d.after.memory a.memory_is b.memory_is c.memory_is d.memory_is) f.memory_is;
       }
 
   -- a sum or a difference
@@ -105,7 +110,7 @@ module _ (e : Entry) (code : List Inst) (places : ℕ) (run : RunsCode e code) (
         ran = ran_more e 3 (Runs s) (Runs p.after) (Runs f.after) p.step (ran_more e 2 (Runs p.after) (Runs q.after) (Runs f.after) q.step
             (ran_more e 1 (Runs q.after) (Runs r.after) (Runs f.after) r.step (ran_more e 0 (Runs r.after) (Runs f.after) (Runs f.after) f.step (ran_none e (Runs f.after)))));
         at = subst (λ n. StandsAt e places n f.after) (sym four) f.at;
-        memory_is = f.memory_is ∙ ap (λ memory. write_word memory (address_of e places u) 8 (arith_word sub a b)) (r.memory_is ∙ q.memory_is ∙ p.memory_is);
+        memory_is = stored_after s.memory r.after.memory f.after.memory (address_of e places u) (arith_word sub a b) (chain_3 s.memory p.after.memory q.after.memory r.after.memory p.memory_is q.memory_is r.memory_is) f.memory_is;
       }
 
   -- a copy
@@ -122,7 +127,7 @@ module _ (e : Entry) (code : List Inst) (places : ℕ) (run : RunsCode e code) (
         after = f.after;
         ran = ran_more e 1 (Runs s) (Runs p.after) (Runs f.after) p.step (ran_more e 0 (Runs p.after) (Runs f.after) (Runs f.after) f.step (ran_none e (Runs f.after)));
         at = subst (λ n. StandsAt e places n f.after) (sym two) f.at;
-        memory_is = f.memory_is ∙ ap (λ memory. write_word memory (address_of e places u) 8 w) p.memory_is;
+        memory_is = stored_after s.memory p.after.memory f.after.memory (address_of e places u) w p.memory_is f.memory_is;
       }
 
   -- a jump
@@ -146,7 +151,7 @@ module _ (e : Entry) (code : List Inst) (places : ℕ) (run : RunsCode e code) (
         after = r.after;
         ran = ran_more e 2 (Runs s) (Runs p.after) (Runs r.after) p.step (ran_more e 1 (Runs p.after) (Runs q.after) (Runs r.after) q.step (ran_more e 0 (Runs q.after) (Runs r.after) (Runs r.after) r.step (ran_none e (Runs r.after))));
         at = r.at;
-        memory_is = r.memory_is ∙ q.memory_is ∙ p.memory_is;
+        memory_is = chain_3 s.memory p.after.memory q.after.memory r.after.memory p.memory_is q.memory_is r.memory_is;
       }
 
   pub nonzero_run : (s : State) (k i t f w : ℕ) → StandsAt e places k s → Spans code k (branch_code k i t f) → Stands code t → i < 2 * places
@@ -163,5 +168,5 @@ module _ (e : Entry) (code : List Inst) (places : ℕ) (run : RunsCode e code) (
         after = r.after;
         ran = ran_more e 2 (Runs s) (Runs p.after) (Runs r.after) p.step (ran_more e 1 (Runs p.after) (Runs q.after) (Runs r.after) q.step (ran_more e 0 (Runs q.after) (Runs r.after) (Runs r.after) r.step (ran_none e (Runs r.after))));
         at = r.at;
-        memory_is = r.memory_is ∙ q.memory_is ∙ p.memory_is;
+        memory_is = chain_3 s.memory p.after.memory q.after.memory r.after.memory p.memory_is q.memory_is r.memory_is;
       }
