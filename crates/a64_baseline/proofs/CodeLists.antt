@@ -181,28 +181,6 @@ more_laid begins begins' values values' here here' returns returns' vs blocks al
   ap (λ b. b || list_any returns_some blocks) e_returns ∙ or_assoc returns (returns_some vs) (list_any returns_some blocks) ∙ is_returns,
 )
 
-pub laid_next : (p : Procedure) (begins begins' : List ℕ) (values values' here here' : ℕ) (returns returns' : Bool) (block : ℕ) → IsLaid p begins values here returns block → block < length p.blocks
-    → begins' ≡ begins ++ here ∷ [] → values' ≡ values + length (values_of p block) → here' ≡ here + words_of_values (values_of p block) → returns' ≡ (returns || returns_some (values_of p block))
-    → IsLaid p begins' values' here' returns' (block + 1)
-laid_next p begins begins' values values' here here' returns returns' block laid lt e_begins e_values e_here e_returns =
-    let step : drop block p.blocks ≡ values_of p block ∷ drop (block + 1) p.blocks = drop_more p.blocks block [] lt in
-    let more = more_laid begins begins' values values' here here' returns returns' (values_of p block) (drop (block + 1) p.blocks) (begins_of p) (value_count p) (length (entry_code p) + sum_by words_of_values p.blocks) (has_return p) e_begins e_values e_here e_returns
-    (subst (λ l. begins ++ begins_from here l ≡ begins_of p) step laid.all_begins)
-    (subst (λ l. values + sum_by length l ≡ value_count p) step laid.all_values)
-    (subst (λ l. here + sum_by words_of_values l ≡ length (entry_code p) + sum_by words_of_values p.blocks) step laid.all_words)
-    (subst (λ l. (returns || list_any returns_some l) ≡ has_return p) step laid.all_returns) in
-    record { all_begins = more.0; all_values = more.1; all_words = more.2; all_returns = more.3 }
-
-pub laid_first : (p : Procedure) (here : ℕ) → here ≡ 3 + length (argument_stores 0 (values_of p 0)) → IsLaid p [] 0 here false 0
-laid_first p here e =
-    let entry : here ≡ length (entry_code p) = omega arith in
-    record {
-      all_begins = ap (λ w. begins_from w p.blocks) entry;
-      all_values = omega arith;
-      all_words = omega arith;
-      all_returns = refl;
-    }
-
 -- what is laid out before a block that is there leaves room for it
 pub laid_few : (p : Procedure) → IsBuilt p → (begins : List ℕ) (values here : ℕ) (returns : Bool) (block : ℕ) → IsLaid p begins values here returns block → block < length p.blocks
     → (values + length (values_of p block) ≤ 256) × (here + words_of_values (values_of p block) < 2 ^ 12)
@@ -228,28 +206,11 @@ or_false : (b : Bool) → (b || false) ≡ b
 or_false true = refl
 or_false false = refl
 
--- all is laid out
-pub laid_all : (p : Procedure) → IsBuilt p → (begins : List ℕ) (values here : ℕ) (returns : Bool) (block : ℕ) → IsLaid p begins values here returns block → block ≡ length p.blocks
-    → (begins ≡ begins_of p) × (values ≡ value_count p) × (returns ≡ has_return p)
-laid_all p built begins values here returns block laid e =
-    let none : drop block p.blocks ≡ [] = drop_blocks p.blocks block e in
-    let count : values + 0 ≡ value_count p = subst (λ l. values + sum_by length l ≡ value_count p) none laid.all_values in (
-      sym (append_nil begins) ∙ subst (λ l. begins ++ begins_from here l ≡ begins_of p) none laid.all_begins,
-      omega arith,
-      sym (or_false returns) ∙ subst (λ l. (returns || list_any returns_some l) ≡ has_return p) none laid.all_returns,
-    )
-
 -- ---- the stores of arguments
 -- the stores so far, with those that are left, are the stores of all
 pub record IsStored (p : Procedure) (before code : List Inst) (at : Option NodeId) : Type 0 where
   pub stands : StandsIn p 0 at
   pub whole : code ++ argument_stores (place_in at) (values_from p 0 at) ≡ before ++ argument_stores 0 (values_of p 0)
-
-pub stored_first : (p : Procedure) (code : List Inst) (at : Option NodeId) → IfNone at (values_of p 0 ≡ []) → IfSome at (λ n. (n.block ≡ 0) × (n.place ≡ 0)) → IfSome at (IsPlace p) → IsStored p code code at
-stored_first p code at empty first there =
-    let all : values_from p 0 at ≡ values_of p 0 = first_values p 0 at empty first in
-    let zero_is : place_in at ≡ 0 = first_place 0 at first in
-    record { stands = first_stands p 0 at first there; whole = ap (λ l. code ++ argument_stores (place_in at) l) all ∙ ap (λ k. code ++ argument_stores k (values_of p 0)) zero_is }
 
 -- the stores from the next place on
 stores_from_next : (p : Procedure) (n : NodeId) (next : Option NodeId) → IfSome next (λ m. (m.block ≡ n.block) × (m.place ≡ n.place + 1)) → argument_stores (place_in next) (values_from p 0 next) ≡ argument_stores (n.place + 1) (values_from p 0 next)
@@ -266,9 +227,6 @@ stored_next p before code code' n v next stored e more last after there =
       whole = joined code code' (argument_store n.place v.kind.opcode v.body) (argument_stores (place_in next) (values_from p 0 next)) (before ++ argument_stores 0 (values_of p 0)) more
           (ap (λ l. code ++ (argument_store n.place v.kind.opcode v.body ++ l)) (stores_from_next p n next after) ∙ whole);
     }
-
-pub stored_all : (p : Procedure) (before code : List Inst) → IsStored p before code None → code ≡ before ++ argument_stores 0 (values_of p 0)
-stored_all p before code stored = sym (append_nil code) ∙ stored.whole
 
 -- ---- the code of the values of a block
 -- what push_value asks of a value
@@ -298,15 +256,6 @@ pub record ArePushed (p : Procedure) (begins : List ℕ) (places block : ℕ) (b
   pub whole : code ++ values_code begins places (length code) (values_from p block at) ≡ before ++ values_code begins places (length before) (values_of p block)
   pub words : length code + words_of_values (values_from p block at) ≡ length before + words_of_values (values_of p block)
 
-pub pushed_first : (p : Procedure) (begins : List ℕ) (places block : ℕ) (code : List Inst) (at : Option NodeId) → IfNone at (values_of p block ≡ []) → IfSome at (λ n. (n.block ≡ block) × (n.place ≡ 0)) → IfSome at (IsPlace p) → ArePushed p begins places block code code at
-pushed_first p begins places block code at empty first there =
-    let all : values_from p block at ≡ values_of p block = first_values p block at empty first in
-    record {
-      stands = first_stands p block at first there;
-      whole = ap (λ l. code ++ values_code begins places (length code) l) all;
-      words = ap (λ l. length code + words_of_values l) all;
-    }
-
 -- the words with those of one more value
 pub pushed_room : (p : Procedure) (begins : List ℕ) (places block : ℕ) (before code : List Inst) (n : NodeId) (v : Value) → ArePushed p begins places block before code (Some n) → value_at p n ≡ Some v → length code + size_of v.kind.opcode ≤ length before + words_of_values (values_of p block)
 pushed_room p begins places block before code n v pushed e =
@@ -331,9 +280,6 @@ pushed_next p built begins places block before code code' n v next pushed e more
       words = omega (arith, sum_by-cons (λ (v : Value). size_of v.kind.opcode) v (values_from p block next));
     }
 
-pub pushed_all : (p : Procedure) (begins : List ℕ) (places block : ℕ) (before code : List Inst) → ArePushed p begins places block before code None → code ≡ before ++ values_code begins places (length before) (values_of p block)
-pushed_all p begins places block before code pushed = sym (append_nil code) ∙ pushed.whole
-
 -- ---- the code of the blocks
 -- the values of a block have their form
 block_are : (k row : ℕ) (blocks : List (List Value)) → AreBlocksAt k row blocks → (b : ℕ) → b < length blocks → (n : ℕ) × (line : ℕ) × AreValuesAt n line (slice_index_or blocks b [])
@@ -344,9 +290,6 @@ block_are k row (vs ∷ blocks) are (suc b) lt = block_are (k + length vs) (row 
 pub record AreLinked (p : Procedure) (begins : List ℕ) (places : ℕ) (before code : List Inst) (block : ℕ) : Type 0 where
   pub whole : code ++ blocks_code begins places (length code) (drop block p.blocks) ≡ before ++ blocks_code begins places (length before) p.blocks
   pub words : length code + sum_by words_of_values (drop block p.blocks) ≡ length before + sum_by words_of_values p.blocks
-
-pub linked_first : (p : Procedure) (begins : List ℕ) (places : ℕ) (code : List Inst) → AreLinked p begins places code code 0
-linked_first p begins places code = record { whole = refl; words = refl }
 
 -- the words with those of one more block
 pub linked_room : (p : Procedure) (begins : List ℕ) (places : ℕ) (before code : List Inst) (block : ℕ) → AreLinked p begins places before code block → block < length p.blocks → length code + words_of_values (values_of p block) ≤ length before + sum_by words_of_values p.blocks
@@ -369,11 +312,6 @@ linked_next p built begins places before code code' block linked lt more =
           (ap (λ w. code ++ (values_code begins places (length code) (values_of p block) ++ blocks_code begins places w (drop (block + 1) p.blocks))) long ∙ whole);
       words = omega (arith, blocks_cons (values_of p block) (drop (block + 1) p.blocks));
     }
-
-pub linked_all : (p : Procedure) (begins : List ℕ) (places : ℕ) (before code : List Inst) (block : ℕ) → AreLinked p begins places before code block → block ≡ length p.blocks → code ≡ before ++ blocks_code begins places (length before) p.blocks
-linked_all p begins places before code block linked e =
-    let none : drop block p.blocks ≡ [] = drop_blocks p.blocks block e in
-    sym (append_nil code) ∙ subst (λ l. code ++ blocks_code begins places (length code) l ≡ before ++ blocks_code begins places (length before) p.blocks) none linked.whole
 
 -- ---- the code of the procedure
 pub code_is : (p : Procedure) (begins : List ℕ) (places : ℕ) (a b c : List Inst) → begins ≡ begins_of p → places ≡ places_of p → a ≡ [] ++ prologue places → b ≡ a ++ argument_stores 0 (values_of p 0) → c ≡ b ++ blocks_code begins places (length b) p.blocks

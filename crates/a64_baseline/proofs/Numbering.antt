@@ -55,10 +55,6 @@ get_some [] k lt = absurd (omega arith)
 get_some (x ∷ xs) zero lt = (x, refl)
 get_some (x ∷ xs) (suc k) lt = get_some xs k (omega arith)
 
-some_in : (k row : ℕ) (blocks : List (List Value)) → 1 ≤ length blocks → AreBlocksAt k row blocks → 1 ≤ sum_by length blocks
-some_in k row [] some are = absurd (omega arith)
-some_in k row (vs ∷ blocks) some are = omega (arith, block_some vs are.1, sum_by-cons length vs blocks)
-
 few_from : (k row : ℕ) (blocks : List (List Value)) → 1 ≤ length blocks → AreBlocksAt k row blocks → ((b j : ℕ) (v : Value) → slice_get (slice_index_or blocks b []) j ≡ Some v → k + (first_id blocks b + j) < 256) → k + sum_by length blocks ≤ 256
 few_from k row [] some are below = absurd (omega arith)
 few_from k row (vs ∷ []) some are below =
@@ -74,9 +70,6 @@ pub few_values : (p : Procedure) → IsBuilt p → value_count p ≤ 256
 few_values p built =
     let all = few_from 0 2 p.blocks built.shape.some built.shape.blocks (λ b j v e. let is = (value_at_place p built.shape b j v e).1 in let h = (built.rules b j v e).number in omega (arith, is.id)) in
     omega arith
-
-pub some_values : (p : Procedure) → IsShaped p → 1 ≤ value_count p
-some_values p shaped = some_in 0 2 p.blocks shaped.some shaped.blocks
 
 -- the values of a block and of those before it are some of all
 sum_within : (blocks : List (List Value)) (b : ℕ) → b < length blocks → first_id blocks b + length (slice_index_or blocks b []) ≤ sum_by length blocks
