@@ -1,7 +1,6 @@
 -- Where the blocks and their values stand in the code.
 use Rattle.std.proofs.Common.{◌≡◌, ℕ, zero, suc, ◌+◌, ◌<◌, ◌≤◌, true, List, [], ◌∷◌, ◌++◌, Some, length, refl, ap, ◌∙◌, subst, arith}
 use Rattle.std.specs.Prelude.{slice_get, slice_index, slice_index_or}
-use Rattle.std.proofs.lemmas.List.Sums.{sum_by-cons}
 use Rattle.b3_ir.specs.Procedure.{Procedure, values_of}
 use Rattle.b3_ir.specs.Shape.{IsFormOf, AreValuesAt, AreBlocksAt, EndsBlock, is_terminal, lines_of_values, line_count}
 use Rattle.b3_ir.specs.Built.{IsBuilt}
@@ -15,7 +14,7 @@ use Rattle.a64_baseline.specs.Code.{places_of, entry_code, code_of, begins_of, b
 use Rattle.a64_baseline.proofs.Machine.{Stands}
 use Rattle.a64_baseline.proofs.Numbering.{get_some}
 use Rattle.a64_baseline.proofs.Pieces.{Spans}
-use Rattle.a64_baseline.proofs.Sizes.{values_size}
+use Rattle.a64_baseline.proofs.Sizes.{values_size, words_cons}
 
 -- ---- pieces within pieces
 get_front : {X : Type 0} (a b : List X) (n : ℕ) (x : X) → slice_get a n ≡ Some x → slice_get (a ++ b) n ≡ Some x
@@ -61,9 +60,6 @@ terminal_size Sub k ty children body form ends = cc
 terminal_size Phi k ty children body form ends = cc
 terminal_size Upsilon k ty children body form ends = cc
 terminal_size _ k ty children body form ends = absurd form
-
-pub words_cons : (v : Value) (vs : List Value) → words_of_values (v ∷ vs) ≡ size_of v.kind.opcode + words_of_values vs
-words_cons v vs = sum_by-cons (λ (v : Value). size_of v.kind.opcode) v vs
 
 pub words_some : (k row : ℕ) (vs : List Value) → AreValuesAt k row vs → EndsBlock vs → 1 ≤ words_of_values vs
 words_some k row [] are ends = absurd ends

@@ -16,8 +16,8 @@ use Rattle.a64_baseline.proofs.Machine.{Stands, Ran, ran_both, ran_same}
 use Rattle.b3_ir.proofs.Numbering.{in_blocks}
 use Rattle.a64_baseline.proofs.Pieces.{Spans}
 use Rattle.a64_baseline.proofs.Begins as begins
-use Rattle.a64_baseline.proofs.Begins.{spans_front, spans_behind, first_stands, words_cons, words_some, values_of_block}
-use Rattle.a64_baseline.proofs.Sizes.{value_size, values_size}
+use Rattle.a64_baseline.proofs.Begins.{spans_front, spans_behind, first_stands, words_some, values_of_block}
+use Rattle.a64_baseline.proofs.Sizes.{value_size, values_size, words_cons}
 use Rattle.a64_baseline.proofs.Steps as steps
 use Rattle.a64_baseline.proofs.Steps.{set_x, set_other}
 use Rattle.a64_baseline.proofs.Entering.{entering}

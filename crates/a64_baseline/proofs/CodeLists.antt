@@ -44,14 +44,6 @@ first_stands p block (Some m) first there = record {
   there = λ n e. let same : m ≡ n = cc in subst (IsPlace p) same there;
 }
 
-pub first_values : (p : Procedure) (block : ℕ) (at : Option NodeId) → IfNone at (values_of p block ≡ []) → IfSome at (λ n. (n.block ≡ block) × (n.place ≡ 0)) → values_from p block at ≡ values_of p block
-first_values p block None empty first = sym empty
-first_values p block (Some m) empty first = ap (λ i. drop i (values_of p block)) first.1
-
-pub first_place : (block : ℕ) (at : Option NodeId) → IfSome at (λ n. (n.block ≡ block) × (n.place ≡ 0)) → place_in at ≡ 0
-first_place block None first = refl
-first_place block (Some m) first = first.1
-
 -- the next place
 pub next_stands : (p : Procedure) (block : ℕ) (n : NodeId) (next : Option NodeId) → StandsIn p block (Some n) → IfSome next (λ m. (m.block ≡ n.block) × (m.place ≡ n.place + 1)) → IfSome next (IsPlace p) → StandsIn p block next
 next_stands p block n None stands after there = record { block_is = λ k e. cc; there = λ k e. cc }
@@ -169,18 +161,6 @@ pub record IsLaid (p : Procedure) (begins : List ℕ) (values here : ℕ) (retur
 joined : {X : Type 0} (xs xs' a b whole : List X) → xs' ≡ xs ++ a → xs ++ (a ++ b) ≡ whole → xs' ++ b ≡ whole
 joined xs xs' a b whole e same = ap (λ l. l ++ b) e ∙ append_assoc xs a b ∙ same
 
--- one more block
-more_laid : (begins begins' : List ℕ) (values values' here here' : ℕ) (returns returns' : Bool) (vs : List Value) (blocks : List (List Value)) (all_begins : List ℕ) (all_values all_words : ℕ) (all_returns : Bool)
-    → begins' ≡ begins ++ here ∷ [] → values' ≡ values + length vs → here' ≡ here + words_of_values vs → returns' ≡ (returns || returns_some vs)
-    → begins ++ begins_from here (vs ∷ blocks) ≡ all_begins → values + sum_by length (vs ∷ blocks) ≡ all_values → here + sum_by words_of_values (vs ∷ blocks) ≡ all_words → (returns || list_any returns_some (vs ∷ blocks)) ≡ all_returns
-    → (begins' ++ begins_from here' blocks ≡ all_begins) × (values' + sum_by length blocks ≡ all_values) × (here' + sum_by words_of_values blocks ≡ all_words) × ((returns' || list_any returns_some blocks) ≡ all_returns)
-more_laid begins begins' values values' here here' returns returns' vs blocks all_begins all_values all_words all_returns e_begins e_values e_here e_returns is_begins is_values is_words is_returns = (
-  joined begins begins' (here ∷ []) (begins_from here' blocks) all_begins e_begins (ap (λ w. begins ++ here ∷ begins_from w blocks) e_here ∙ is_begins),
-  omega (arith, sum_by-cons length vs blocks),
-  omega (arith, blocks_cons vs blocks),
-  ap (λ b. b || list_any returns_some blocks) e_returns ∙ or_assoc returns (returns_some vs) (list_any returns_some blocks) ∙ is_returns,
-)
-
 -- what is laid out before a block that is there leaves room for it
 pub laid_few : (p : Procedure) → IsBuilt p → (begins : List ℕ) (values here : ℕ) (returns : Bool) (block : ℕ) → IsLaid p begins values here returns block → block < length p.blocks
     → (values + length (values_of p block) ≤ 256) × (here + words_of_values (values_of p block) < 2 ^ 12)
@@ -191,20 +171,6 @@ laid_few p built begins values here returns block laid lt =
       omega (arith, few_values p built, sum_by-cons length (values_of p block) (drop (block + 1) p.blocks)),
       omega (arith, few_values p built, end_most p, blocks_cons (values_of p block) (drop (block + 1) p.blocks)),
     )
-
-drop_blocks : (blocks : List (List Value)) (k : ℕ) → k ≡ length blocks → drop k blocks ≡ []
-drop_blocks [] zero e = refl
-drop_blocks [] (suc k) e = refl
-drop_blocks (vs ∷ blocks) zero e = absurd (omega arith)
-drop_blocks (vs ∷ blocks) (suc k) e = drop_blocks blocks k (omega arith)
-
-append_nil : {X : Type 0} (xs : List X) → xs ++ [] ≡ xs
-append_nil [] = refl
-append_nil (x ∷ xs) = ap (λ l. x ∷ l) (append_nil xs)
-
-or_false : (b : Bool) → (b || false) ≡ b
-or_false true = refl
-or_false false = refl
 
 -- ---- the stores of arguments
 -- the stores so far, with those that are left, are the stores of all

@@ -45,7 +45,7 @@ pub value_size : (begins : List ℕ) (places here k : ℕ) (v : Value) (row : �
 value_size begins places here k v row is = form_size begins places here v.id k v.kind.opcode v.ty v.children v.body is.form
 
 -- ---- the code of values and of blocks
-words_cons : (v : Value) (vs : List Value) → words_of_values (v ∷ vs) ≡ size_of v.kind.opcode + words_of_values vs
+pub words_cons : (v : Value) (vs : List Value) → words_of_values (v ∷ vs) ≡ size_of v.kind.opcode + words_of_values vs
 words_cons v vs = sum_by-cons (λ (v : Value). size_of v.kind.opcode) v vs
 
 pub blocks_cons : (vs : List Value) (blocks : List (List Value)) → sum_by words_of_values (vs ∷ blocks) ≡ words_of_values vs + sum_by words_of_values blocks

@@ -1,6 +1,6 @@
 -- One step of the machine at a word of the text that is the word of an instruction.
-use Rattle.std.proofs.Common.{◌≡◌, ℕ, zero, suc, ◌+◌, ◌-◌, ◌*◌, ◌/◌, ◌%◌, Bool, true, false, Some, refl, ap, ◌∙◌, arith, nat_eq, eq-eqb}
-use Rattle.std.specs.Prelude.{slice_get, nat_le, ◌&&◌, is_some}
+use Rattle.std.proofs.Common.{◌≡◌, ℕ, zero, suc, ◌+◌, ◌-◌, ◌*◌, ◌/◌, ◌%◌, true, false, Some, refl, ap, ◌∙◌, arith, nat_eq, eq-eqb}
+use Rattle.std.specs.Prelude.{slice_get, nat_le, is_some}
 use Rattle.std.proofs.lemmas.Bool.Decides.{nat_tests}
 use Rattle.b3_base.specs.Memory.{byte_address, is_mapped}
 use Rattle.b3_meaning.specs.Observed.{Memory}
@@ -9,6 +9,7 @@ use Rattle.a64_inst.specs.Word.{word}
 use Rattle.a64_inst.specs.declared.inst.Inst.{Inst}
 use Rattle.a64_inst.specs.declared.state.Outcome.TheVariants.{Next}
 use Rattle.a64_inst.specs.Decode.{decode}
+use Rattle.std.proofs.lemmas.Bool.{and_parts}
 use Rattle.std.proofs.Math.Bool.{and-false}
 use Rattle.a64_run.specs.Placement.{in_frame}
 use Rattle.a64_run.specs.Machine.{Entry, State, Runs, word_at, touched, touches_empty, touches_empty_at, execute, decoded, fetched, is_ret, machine_step}
@@ -41,16 +42,10 @@ step_goes_on e s k next w inst at there decodes whole outcome no_ret leads stand
     step_executes e s k inst at there decodes
     ∙ rw (whole, outcome, no_ret, word_at-word e next (step_of inst s.registers s.memory).registers.pc w leads stands) refl
 
--- both parts of a conjunction that is true
-both : (a b : Bool) → (a && b) ≡ true → (a ≡ true) × (b ≡ true)
-both true true h = (refl, refl)
-both true false h = cc
-both false b h = cc
-
 -- an access whose bytes all hold something touches no empty byte of the frame
 pub touches_none : (e : Entry) (m : Memory) (address n : ℕ) → is_mapped m address n ≡ true → touches_empty e m address n ≡ false
 unfolding is_mapped
 touches_none e m address zero mapped = refl
 touches_none e m address (suc n) mapped =
-    let parts = both (is_mapped m address n) (is_some (m (byte_address address n))) mapped in
+    let parts = and_parts (is_mapped m address n) (is_some (m (byte_address address n))) mapped in
     rw (touches_none e m address n parts.0, parts.1) (and-false (in_frame e.frame e.start (byte_address address n)))

@@ -1,5 +1,6 @@
 -- Procedures of the right shape, built value after value.
 use Rattle.std.proofs.Common.{◌≡◌, ℕ, ◌+◌, ◌-◌, ◌*◌, ◌≤◌, Bool, true, false, not, List, [], ◌∷◌, ◌++◌, length, refl, sym, ap, subst, ◌∙◌, append_assoc, length-set, arith}
+use Rattle.std.proofs.lemmas.List.{append-nil}
 use Rattle.std.specs.Prelude.{codes, slice_index_or, slice_set}
 use Rattle.std.proofs.lemmas.List.{length-append}
 use Rattle.std.proofs.lemmas.List.Sums.{sum_by-cons}
@@ -34,10 +35,6 @@ not_true false h = refl
 
 f_is_name : IsName (codes "f")
 f_is_name = record { begin = refl; all = refl; short = omega arith }
-
-append_nil : {X : Type 0} (xs : List X) → xs ++ [] ≡ xs
-append_nil [] = refl
-append_nil (x ∷ xs) = ap (λ l. x ∷ l) (append_nil xs)
 
 pub block_opened : (blocks more : List (List Value)) (id row : ℕ) → IsEnded blocks id row → more ≡ blocks ++ [] ∷ [] → IsOpen more id (row + 1)
 block_opened blocks more id row ended e = record {
@@ -160,7 +157,7 @@ draft_whole p id row count h some = record {
   line = h.line;
   slots = h.slots;
   some = some;
-  blocks = subst (AreBlocksAt 0 2) (append_nil p.blocks) (h.ended refl [] tt);
+  blocks = subst (AreBlocksAt 0 2) (append-nil p.blocks) (h.ended refl [] tt);
 }
 
 pub draft_is : (p q : Procedure) (id id' row row' count : ℕ) (open_ open' : Bool) → IsDraft p id row count open_ → q ≡ p → id' ≡ id → row' ≡ row → open' ≡ open_ → IsDraft q id' row' count open'

@@ -1,5 +1,6 @@
 -- Canonical digits.
-use Rattle.std.proofs.Common.{◌++◌, ◌≡◌, ◌≢◌, ℕ, ◌+◌, ◌-◌, ◌*◌, ◌^◌, ◌<◌, ◌≤◌, Bool, true, false, ◌&&◌, List, [], ◌∷◌, length, get_or, inl, inr, refl, sym, ap, subst, ◌∙◌, arith, rules, suc, zero}
+use Rattle.std.proofs.Common.{◌++◌, ◌≡◌, ◌≢◌, ℕ, ◌+◌, ◌-◌, ◌*◌, ◌^◌, ◌<◌, ◌≤◌, true, List, [], ◌∷◌, length, get_or, inl, inr, refl, sym, ap, subst, ◌∙◌, arith, rules, suc, zero}
+use Rattle.std.proofs.lemmas.Bool.{and_parts}
 use Rattle.std.specs.Str.{all_ascii_digits}
 use Rattle.std.specs.Char.{is_ascii_digit}
 use Rattle.std.specs.Fmt.{decimal, signed_decimal}
@@ -56,10 +57,6 @@ decimal-value first rest all high small = decimal-digits_value own (first ∷ re
 -- digits are none of the bytes below 48
 digit_is_high : (c stop : ℕ) → is_ascii_digit c ≡ true → stop < 48 → c ≢ stop
 digit_is_high c stop h low = grind (arith, nat_tests)
-
-and_parts : (a b : Bool) → (a && b) ≡ true → (a ≡ true) × (b ≡ true)
-and_parts true b h = (refl, h)
-and_parts false b h = absurd cc
 
 digits_lack : (ds : List ℕ) (stop : ℕ) → all_ascii_digits ds ≡ true → stop < 48 → Lacks stop ds
 digits_lack [] stop h low = search rules
