@@ -1,3 +1,4 @@
 pub mod Memory
 pub mod Ranged
+pub mod Word
 pub mod Run
