@@ -8,8 +8,9 @@ ghost use Rattle.ir_arena.specs.Chains.{list_at, item_in, Has, IsInUse, IsItemOf
 use crate::chunk::CHUNK;
 use crate::links;
 use crate::links::Ends;
-use crate::node::{ChainId, Link, NoMemory, Node, NodeId, link, linked};
+use crate::node::{ChainId, Link, Node, NodeId, link, linked};
 use crate::nodes::Nodes;
+use b3_base::NoMemory;
 use std::alloc::Global;
 use std::marker::Model;
 
@@ -168,6 +169,14 @@ impl<T: Drop> Chains<T> {
             Some(item) => item,
             None => unreachable!(),
         }
+    }
+
+    /// Tells that no id is in use twice, and that 32 bits count the nodes. It takes no memory.
+    pub fn ids_differ(&self)
+        ensures differ { IdsDiffer self.now.lists }
+        ensures few { in_use self.now.lists + self.now.spare ≤ 2 ^ 32 }
+    {
+        let _ = &self.spare;
     }
 
     /// The item of a node.

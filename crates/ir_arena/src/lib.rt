@@ -12,4 +12,4 @@ mod raw;
 mod tests;
 
 pub use chains::Chains;
-pub use node::{ChainId, NoMemory, NodeId};
+pub use node::{ChainId, NodeId};

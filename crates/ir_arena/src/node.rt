@@ -1,31 +1,14 @@
-//! The nodes, their ids, and the one refusal.
+//! The nodes and their ids.
 
 ghost use Rattle.std.specs.Prelude.{◌≡◌, ℕ, Some, IsSome};
 ghost use Rattle.std.specs.Borrow.{sem};
 
-use std::alloc::{AllocError, AllocFailed};
 use std::marker::Model;
-
-/// Want of memory: an allocation was refused.
-#[derive(Clone, Copy, Debug, PartialEq, Eq)]
-pub struct NoMemory;
-
-impl From<AllocError> for NoMemory {
-    fn from(_refusal: AllocError) -> NoMemory {
-        NoMemory
-    }
-}
-
-impl<T: Drop> From<AllocFailed<T>> for NoMemory {
-    fn from(_refusal: AllocFailed<T>) -> NoMemory {
-        NoMemory
-    }
-}
 
 /// The id of a node: its number among the nodes of its `Chains`, below 2^32. It may be handed out
 /// again once its item is removed.
 #[derive(Clone, Copy, Debug, PartialEq, Eq)]
-pub struct NodeId(pub u32);
+pub struct NodeId(pub(crate) u32);
 
 impl Model for NodeId {
     ghost Value = { ℕ };
@@ -60,7 +43,7 @@ pub(crate) fn linked(link: Link) -> Option<NodeId>
 
 /// The id of a chain: its number in the order in which the chains were added, below 2^32.
 #[derive(Clone, Copy, Debug, PartialEq, Eq)]
-pub struct ChainId(pub u32);
+pub struct ChainId(pub(crate) u32);
 
 impl Model for ChainId {
     ghost Value = { ℕ };

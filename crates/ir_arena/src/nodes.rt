@@ -5,7 +5,8 @@ ghost use Rattle.std.specs.Borrow.{sem};
 ghost use Rattle.ir_arena.specs.Layout.{free_head, free_nodes};
 
 use crate::chunk::{CHUNK, Chunk};
-use crate::node::{Link, NoMemory, Node};
+use crate::node::{Link, Node};
+use b3_base::NoMemory;
 use std::alloc::Global;
 use std::marker::Model;
 use std::mem;
