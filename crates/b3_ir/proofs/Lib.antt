@@ -1,1 +1,12 @@
+pub mod Entries
+pub mod Fitting
+pub mod Spots
+pub mod Changes
+pub mod Counts
+pub mod Emptying
+pub mod Idle
+pub mod Keeping
+pub mod Moves
 pub mod Numbering
+pub mod Typing
+pub mod TableExamples

@@ -1,8 +1,9 @@
--- Ids and lines of a procedure of the right shape: both rise with the places of its values.
-use Rattle.std.proofs.Common.{◌≡◌, ◌≢◌, ℕ, zero, suc, ◌+◌, ◌<◌, ◌≤◌, inl, inr, List, [], ◌∷◌, length, take, Some, refl, sym, ap, subst, ◌∙◌, add-one, arith}
+-- Ids of a procedure of the right shape: they rise with the places of its values.
+use Rattle.std.proofs.Common.{◌≡◌, ◌≢◌, ℕ, zero, suc, ◌+◌, ◌<◌, ◌≤◌, inl, inr, List, [], ◌∷◌, length, map, take, Some, refl, sym, ap, subst, ◌∙◌, add-one, arith}
 use Rattle.std.specs.Prelude.{All, slice_get, slice_index_or}
 use Rattle.std.proofs.Math.ListN.{get_or-eq_default}
 use Rattle.std.proofs.lemmas.Bool.{cases_lt}
+use Rattle.std.proofs.lemmas.List.{length-map}
 use Rattle.std.proofs.lemmas.List.Elements.{All-nil, All-cons}
 use Rattle.std.proofs.lemmas.List.Sums.{sum_by-cons}
 use Rattle.std.proofs.lemmas.Option.{slice_get_within}
@@ -10,11 +11,21 @@ use Rattle.b3_ir.specs.declared.opcode.Opcode.{Opcode}
 use Rattle.b3_ir.specs.declared.opcode.Opcode.TheVariants.{ArgumentReg, Const64, Add, Sub, Phi, Upsilon, Jump, Branch, Return}
 use Rattle.b3_ir.specs.declared.opcode.Ty.{Ty}
 use Rattle.b3_ir.specs.declared.value.Body.{Body}
-use Rattle.b3_ir.specs.declared.value.Body.TheVariants.{Targets}
 use Rattle.b3_ir.specs.declared.value.Value.{Value}
-use Rattle.b3_ir.specs.Built.{StandsAt}
-use Rattle.b3_ir.specs.Procedure.{Procedure, values_of}
-use Rattle.b3_ir.specs.Shape.{AreBlocksAt, AreValuesAt, IsFormOf, IsShaped, IsValueAt, first_id, line_count, lines_of_values}
+use Rattle.b3_ir.specs.Procedure.{Block, Procedure, StandsAt, no_block, values_by_block, values_of}
+use Rattle.b3_ir.specs.Shape.{AreBlocksFrom, EndsBlock, AreValuesFrom, IsFormOf, IsShaped, IsValueAt, first_id}
+
+-- the values of a block, in the list of all blocks' values
+pub by_block : (blocks : List Block) (b : ℕ) → slice_index_or (map (λ (x : Block). x.values) blocks) b [] ≡ (slice_index_or blocks b no_block).values
+by_block [] b = refl
+by_block (x ∷ blocks) zero = refl
+by_block (x ∷ blocks) (suc b) = by_block blocks b
+
+pub values_are : (p : Procedure) (b : ℕ) → slice_index_or (values_by_block p) b [] ≡ values_of p b
+values_are p b = by_block p.blocks b
+
+pub blocks_are : (p : Procedure) → length (values_by_block p) ≡ length p.blocks
+blocks_are p = length-map p.blocks (λ (x : Block). x.values)
 
 -- ---- the first ids of blocks
 
@@ -52,84 +63,61 @@ first_above blocks b c h = omega (arith, first_suc blocks b, first_rises blocks 
 
 -- ---- the values of a block
 
-line_counted : (body : Body) → 1 ≤ line_count body
-line_counted (Targets blocks) = omega arith
-line_counted _ = omega arith
-
--- a value of a block has the id of its place, and stands on a line of the block
-value_in : (k line j : ℕ) (vs : List Value) (v : Value) → AreValuesAt k line vs → slice_get vs j ≡ Some v → (row : ℕ) × IsValueAt (k + j) row v × (line ≤ row) × (row < line + lines_of_values vs)
-value_in k line j [] v h e = absurd cc
-value_in k line zero (w ∷ vs) v h e =
+-- a value of a block has the id of its place
+value_in : (k j : ℕ) (vs : List Value) (v : Value) → AreValuesFrom k vs → slice_get vs j ≡ Some v → IsValueAt (k + j) v
+value_in k j [] v h e = absurd cc
+value_in k zero (w ∷ vs) v h e =
     let same : w ≡ v = cc in
     let number : k ≡ k + 0 = omega arith in
-    let is : IsValueAt k line v = subst (λ (u : Value). IsValueAt k line u) same h.0 in
-    let more = sum_by-cons (λ (u : Value). line_count u.body) w vs in
-    let some = line_counted w.body in
-    (line, subst (λ (n : ℕ). IsValueAt n line v) number is, omega arith, omega arith)
-value_in k line (suc j) (w ∷ vs) v h e =
-    let r = value_in (k + 1) (line + line_count w.body) j vs v h.1 e in
+    subst (λ (n : ℕ). IsValueAt n v) number (subst (λ (u : Value). IsValueAt k u) same h.0)
+value_in k (suc j) (w ∷ vs) v h e =
     let number : k + 1 + j ≡ k + suc j = omega arith in
-    let more = sum_by-cons (λ (u : Value). line_count u.body) w vs in
-    (r.0, subst (λ (n : ℕ). IsValueAt n r.0 v) number r.1, omega (arith, r.2), omega (arith, r.3))
-
--- an earlier value of a block stands on no later line
-block_lines : (k line j m : ℕ) (vs : List Value) (v w : Value) → AreValuesAt k line vs → slice_get vs j ≡ Some v → slice_get vs m ≡ Some w → m ≤ j → w.line ≤ v.line
-block_lines k line j m [] v w h e f less = absurd cc
-block_lines k line j zero (u ∷ vs) v w h e f less =
-    let same : u ≡ w = cc in
-    let at : w.line ≡ line = subst (λ (x : Value). x.line ≡ line) same h.0.line in
-    let r = value_in k line j (u ∷ vs) v h e in
-    omega (arith, r.1.line, r.2)
-block_lines k line zero (suc m) (u ∷ vs) v w h e f less = absurd (omega arith)
-block_lines k line (suc j) (suc m) (u ∷ vs) v w h e f less = block_lines (k + 1) (line + line_count u.body) j m vs v w h.1 e f (omega arith)
+    subst (λ (n : ℕ). IsValueAt n v) number (value_in (k + 1) j vs v h.1 e)
 
 -- ---- the values of all blocks
 
-pub value_of_blocks : (k line b j : ℕ) (blocks : List (List Value)) (v : Value) → AreBlocksAt k line blocks → slice_get (slice_index_or blocks b []) j ≡ Some v → (row : ℕ) × IsValueAt (k + (first_id blocks b + j)) row v × (line ≤ row)
-value_of_blocks k line b j [] v h e = absurd cc
-value_of_blocks k line zero j (vs ∷ blocks) v h e =
-    let r = value_in k (line + 1) j vs v h.0 e in
-    let number : k + j ≡ k + (first_id (vs ∷ blocks) 0 + j) = omega (arith, first_zero (vs ∷ blocks)) in
-    (r.0, subst (λ (n : ℕ). IsValueAt n r.0 v) number r.1, omega (arith, r.2))
-value_of_blocks k line (suc b) j (vs ∷ blocks) v h e =
-    let r = value_of_blocks (k + length vs) (line + 1 + lines_of_values vs) b j blocks v h.2 e in
-    let number : k + length vs + (first_id blocks b + j) ≡ k + (first_id (vs ∷ blocks) (suc b) + j) = omega (arith, first_cons vs blocks b) in
-    (r.0, subst (λ (n : ℕ). IsValueAt n r.0 v) number r.1, omega (arith, r.2))
+pub value_of_blocks : (n k b j : ℕ) (blocks : List Block) (v : Value) → AreBlocksFrom n k blocks → slice_get (slice_index_or blocks b no_block).values j ≡ Some v → IsValueAt (k + (first_id (map (λ (x : Block). x.values) blocks) b + j)) v
+value_of_blocks n k b j [] v h e = absurd cc
+value_of_blocks n k zero j (x ∷ blocks) v h e =
+    let number : k + j ≡ k + (first_id (map (λ (y : Block). y.values) (x ∷ blocks)) 0 + j) = omega (arith, first_zero (map (λ (y : Block). y.values) (x ∷ blocks))) in
+    subst (λ (i : ℕ). IsValueAt i v) number (value_in k j x.values v h.1 e)
+value_of_blocks n k (suc b) j (x ∷ blocks) v h e =
+    let vss = map (λ (y : Block). y.values) blocks in
+    let number : k + length x.values + (first_id vss b + j) ≡ k + (first_id (x.values ∷ vss) (suc b) + j) = omega (arith, first_cons x.values vss b) in
+    subst (λ (i : ℕ). IsValueAt i v) number (value_of_blocks (n + 1) (k + length x.values) b j blocks v h.3 e)
 
--- an earlier value stands on no later line
-lines_rise : (k line b j c m : ℕ) (blocks : List (List Value)) (v w : Value) → AreBlocksAt k line blocks → slice_get (slice_index_or blocks b []) j ≡ Some v → slice_get (slice_index_or blocks c []) m ≡ Some w → c ≤ b → (c ≡ b → m ≤ j) → w.line ≤ v.line
-lines_rise k line b j c m [] v w h e f less order = absurd cc
-lines_rise k line zero j zero m (vs ∷ blocks) v w h e f less order = block_lines k (line + 1) j m vs v w h.0 e f (order refl)
-lines_rise k line zero j (suc c) m (vs ∷ blocks) v w h e f less order = absurd (omega arith)
-lines_rise k line (suc b) j zero m (vs ∷ blocks) v w h e f less order =
-    let r = value_of_blocks (k + length vs) (line + 1 + lines_of_values vs) b j blocks v h.2 e in
-    let s = value_in k (line + 1) m vs w h.0 f in
-    omega (arith, r.1.line, r.2, s.1.line, s.3)
-lines_rise k line (suc b) j (suc c) m (vs ∷ blocks) v w h e f less order = lines_rise (k + length vs) (line + 1 + lines_of_values vs) b j c m blocks v w h.2 e f (omega arith) (λ same. order (ap suc same))
+-- the number of a block is its place
+pub number_of_block : (n k b : ℕ) (blocks : List Block) → AreBlocksFrom n k blocks → b < length blocks → (slice_index_or blocks b no_block).number ≡ n + b
+number_of_block n k b [] h within = absurd (omega arith)
+number_of_block n k zero (x ∷ blocks) h within = omega (arith, h.0)
+number_of_block n k (suc b) (x ∷ blocks) h within = omega (arith, number_of_block (n + 1) (k + length x.values) b blocks h.3 (omega arith))
 
 -- no block is empty
-blocks_some : (k line b : ℕ) (blocks : List (List Value)) → AreBlocksAt k line blocks → b < length blocks → slice_index_or blocks b [] ≢ []
-blocks_some k line b [] h within = absurd (omega arith)
-blocks_some k line zero ([] ∷ blocks) h within = absurd h.1
-blocks_some k line zero ((v ∷ vs) ∷ blocks) h within = λ none. cc
-blocks_some k line (suc b) (vs ∷ blocks) h within = blocks_some (k + length vs) (line + 1 + lines_of_values vs) b blocks h.2 (omega arith)
+blocks_some : (n k b : ℕ) (blocks : List Block) → AreBlocksFrom n k blocks → b < length blocks → (slice_index_or blocks b no_block).values ≢ []
+blocks_some n k b [] h within = absurd (omega arith)
+blocks_some n k zero (x ∷ blocks) h within = ends x.values h.2
+  where
+    ends : (vs : List Value) → EndsBlock vs → vs ≢ []
+    ends [] h = absurd h
+    ends (v ∷ vs) h = λ none. cc
+blocks_some n k (suc b) (x ∷ blocks) h within = blocks_some (n + 1) (k + length x.values) b blocks h.3 (omega arith)
 
 -- ---- the values of a procedure
 
 pub block_some : (p : Procedure) (b : ℕ) → IsShaped p → b < length p.blocks → values_of p b ≢ []
-block_some p b shape within = blocks_some 0 2 b p.blocks shape.blocks within
+block_some p b shape within = blocks_some 0 0 b p.blocks shape.blocks within
 
 -- the id of the value at a place
-pub id_at : (p : Procedure) (b j : ℕ) (v : Value) → IsShaped p → StandsAt p b j v → v.id ≡ first_id p.blocks b + j
+pub id_at : (p : Procedure) (b j : ℕ) (v : Value) → IsShaped p → StandsAt p b j v → v.id ≡ first_id (values_by_block p) b + j
 id_at p b j v shape there =
-    let r = value_of_blocks 0 2 b j p.blocks v shape.blocks there in
-    omega (arith, r.1.id)
+    let r = value_of_blocks 0 0 b j p.blocks v shape.blocks there in
+    omega (arith, r.id)
 
-pub form_at : (p : Procedure) (b j : ℕ) (v : Value) → IsShaped p → StandsAt p b j v → IsFormOf v.kind.opcode (first_id p.blocks b + j) v.ty v.children v.body
+pub form_at : (p : Procedure) (b j : ℕ) (v : Value) → IsShaped p → StandsAt p b j v → IsFormOf v.kind.opcode (first_id (values_by_block p) b + j) v.ty v.children v.body
 form_at p b j v shape there =
-    let r = value_of_blocks 0 2 b j p.blocks v shape.blocks there in
-    let number : 0 + (first_id p.blocks b + j) ≡ first_id p.blocks b + j = omega arith in
-    subst (λ (n : ℕ). IsFormOf v.kind.opcode n v.ty v.children v.body) number r.1.form
+    let r = value_of_blocks 0 0 b j p.blocks v shape.blocks there in
+    let number : 0 + (first_id (values_by_block p) b + j) ≡ first_id (values_by_block p) b + j = omega arith in
+    subst (λ (n : ℕ). IsFormOf v.kind.opcode n v.ty v.children v.body) number r.form
 
 -- a value's block is one of the procedure
 pub in_blocks : (p : Procedure) (b j : ℕ) (v : Value) → StandsAt p b j v → b < length p.blocks
@@ -137,13 +125,25 @@ in_blocks p b j v there =
     elim (cases_lt b (length p.blocks)) [
       | inl less ↦ less
       | inr past ↦
-          let none : values_of p b ≡ [] = get_or-eq_default p.blocks [] past in
+          let none : values_of p b ≡ [] = ap (λ (x : Block). x.values) (get_or-eq_default p.blocks no_block past) in
           absurd (let e : slice_get [] j ≡ Some v = subst (λ (vs : List Value). slice_get vs j ≡ Some v) none there in cc)
     ]
 
+-- the number of values of a block
+block_length : (p : Procedure) (b : ℕ) → length (slice_index_or (values_by_block p) b []) ≡ length (values_of p b)
+block_length p b = ap length (values_are p b)
+
+-- one block more
+pub next_first : (p : Procedure) (b : ℕ) → first_id (values_by_block p) (b + 1) ≡ first_id (values_by_block p) b + length (values_of p b)
+next_first p b = omega (arith, first_next (values_by_block p) b, block_length p b)
+
+-- the ids of a block are below the first id of each later block
+pub later_first : (p : Procedure) (b c : ℕ) → b < c → first_id (values_by_block p) b + length (values_of p b) ≤ first_id (values_by_block p) c
+later_first p b c h = omega (arith, first_above (values_by_block p) b c h, block_length p b)
+
 -- each id is below the number of values
-pub id_below : (p : Procedure) (b j : ℕ) (v : Value) → IsShaped p → StandsAt p b j v → v.id < first_id p.blocks (length p.blocks)
-id_below p b j v shape there = omega (arith, id_at p b j v shape there, slice_get_within (values_of p b) j v there, first_above p.blocks b (length p.blocks) (in_blocks p b j v there))
+pub id_below : (p : Procedure) (b j : ℕ) (v : Value) → IsShaped p → StandsAt p b j v → v.id < first_id (values_by_block p) (length p.blocks)
+id_below p b j v shape there = omega (arith, id_at p b j v shape there, slice_get_within (values_of p b) j v there, later_first p b (length p.blocks) (in_blocks p b j v there))
 
 -- ids in order are places in order
 ordered : (p : Procedure) (b j c m : ℕ) (v w : Value) → IsShaped p → StandsAt p b j v → StandsAt p c m w → w.id ≤ v.id → (c ≤ b) × (c ≡ b → m ≤ j)
@@ -151,18 +151,8 @@ ordered p b j c m v w shape there other less =
     let at_v = id_at p b j v shape there in
     let at_w = id_at p c m w shape other in
     elim (cases_lt b c) [
-      | inl before ↦ absurd (omega (arith, first_above p.blocks b c before, slice_get_within (values_of p b) j v there))
-      | inr after ↦ (after, λ same. let first : first_id p.blocks c ≡ first_id p.blocks b = ap (first_id p.blocks) same in omega arith)
-    ]
-
--- values in the order of their lines are in the order of their ids
-pub line_order : (p : Procedure) (b j c m : ℕ) (v w : Value) → IsShaped p → StandsAt p b j v → StandsAt p c m w → w.line < v.line → w.id < v.id
-line_order p b j c m v w shape there other less =
-    elim (cases_lt w.id v.id) [
-      | inl before ↦ before
-      | inr after ↦
-          let order = ordered p c m b j w v shape other there after in
-          absurd (omega (arith, lines_rise 0 2 c m b j p.blocks w v shape.blocks other there order.0 order.1))
+      | inl before ↦ absurd (omega (arith, later_first p b c before, slice_get_within (values_of p b) j v there))
+      | inr after ↦ (after, λ same. let first : first_id (values_by_block p) c ≡ first_id (values_by_block p) b = ap (first_id (values_by_block p)) same in omega arith)
     ]
 
 -- two values with one id are the same value at one place
@@ -191,5 +181,5 @@ children_earlier Return k ty children body h = rw h.1.1 (All-cons (λ i. i < k) 
 children_earlier _ k ty children body h = absurd h
 
 -- a value's children have earlier ids
-pub children_before : (p : Procedure) (b j : ℕ) (v : Value) → IsShaped p → StandsAt p b j v → All (λ i. i < first_id p.blocks b + j) v.children
-children_before p b j v shape there = children_earlier v.kind.opcode (first_id p.blocks b + j) v.ty v.children v.body (form_at p b j v shape there)
+pub children_before : (p : Procedure) (b j : ℕ) (v : Value) → IsShaped p → StandsAt p b j v → All (λ i. i < first_id (values_by_block p) b + j) v.children
+children_before p b j v shape there = children_earlier v.kind.opcode (first_id (values_by_block p) b + j) v.ty v.children v.body (form_at p b j v shape there)

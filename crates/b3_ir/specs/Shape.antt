@@ -1,5 +1,5 @@
 -- The shape of a procedure of the forms that are built: what each value is by itself, how values
--- are numbered, on which lines they stand, and how blocks end.
+-- and blocks are numbered, and how blocks end.
 use Rattle.std.specs.Prelude.{◌≡◌, ℕ, ◌+◌, ◌^◌, ◌<◌, ◌≤◌, Bool, true, false, List, [], ◌∷◌, length, sum_by, take}
 use Rattle.b3_ir.specs.declared.opcode.Ty.{Ty}
 use Rattle.b3_ir.specs.declared.opcode.Ty.TheVariants.{Void, Int64}
@@ -10,7 +10,7 @@ use Rattle.b3_ir.specs.declared.value.Body.TheVariants.{Argument, Targets}
 use Rattle.b3_ir.specs.declared.value.Value.{Value}
 use Rattle.b3_ir.specs.Fits.{IsPlain, IsConstantBelow, IsTarget}
 use Rattle.b3_ir.specs.Names.{IsName}
-use Rattle.b3_ir.specs.Procedure.{Procedure}
+use Rattle.b3_ir.specs.Procedure.{Block, Procedure}
 
 -- a register that carries an argument: x0 to x7
 abbrev pub IsArgumentBody : Body → Type 0
@@ -47,10 +47,9 @@ IsFormOf Branch k ty children body = (ty ≡ Void) × IsOneBelow k children × A
 IsFormOf Return k ty children body = (ty ≡ Void) × IsOneBelow k children × IsPlain body
 IsFormOf _ k ty children body = ⊥
 
--- a value of number k, counted from 0 over all blocks, which is its id, on line `row`
-pub record IsValueAt (k row : ℕ) (v : Value) : Type 0 where
+-- a value of number k, counted from 0 over all blocks, which is its id
+pub record IsValueAt (k : ℕ) (v : Value) : Type 0 where
   pub id : v.id ≡ k
-  pub line : v.line ≡ row
   pub chill : v.kind.chill ≡ false
   pub traps : v.kind.traps ≡ false
   pub form : IsFormOf v.kind.opcode k v.ty v.children v.body
@@ -64,22 +63,14 @@ is_terminal Switch = true
 is_terminal Return = true
 is_terminal _ = false
 
--- the lines of a value: its own, and that of its successors where it has some
-abbrev pub line_count : Body → ℕ
-line_count (Targets blocks) = 2
-line_count _ = 1
-
-abbrev pub lines_of_values : List Value → ℕ
-lines_of_values vs = sum_by (λ (v : Value). line_count v.body) vs
-
 -- how many values stand in the blocks before block b: the id of its first value
 unfoldable pub first_id : List (List Value) → ℕ → ℕ
 first_id blocks b = sum_by length (take b blocks)
 
--- values one after the other, the first of number k and on this line
-abbrev pub AreValuesAt : ℕ → ℕ → List Value → Type 0
-AreValuesAt k line [] = Unit {0}
-AreValuesAt k line (v ∷ vs) = IsValueAt k line v × AreValuesAt (k + 1) (line + line_count v.body) vs
+-- values one after the other, the first of number k
+abbrev pub AreValuesFrom : ℕ → List Value → Type 0
+AreValuesFrom k [] = Unit {0}
+AreValuesFrom k (v ∷ vs) = IsValueAt k v × AreValuesFrom (k + 1) vs
 
 -- the last value of a block is a terminal, and no other is
 abbrev pub EndsBlock : List Value → Type 0
@@ -87,16 +78,14 @@ EndsBlock [] = ⊥
 EndsBlock (v ∷ []) = is_terminal v.kind.opcode ≡ true
 EndsBlock (v ∷ w ∷ vs) = (is_terminal v.kind.opcode ≡ false) × EndsBlock (w ∷ vs)
 
--- blocks one after the other, the heading of the first on this line and its first value of
--- number k
-abbrev pub AreBlocksAt : ℕ → ℕ → List (List Value) → Type 0
-AreBlocksAt k line [] = Unit {0}
-AreBlocksAt k line (vs ∷ blocks) = AreValuesAt k (line + 1) vs × EndsBlock vs × AreBlocksAt (k + length vs) (line + 1 + lines_of_values vs) blocks
+-- blocks one after the other, the first of number n, and its first value of number k
+abbrev pub AreBlocksFrom : ℕ → ℕ → List Block → Type 0
+AreBlocksFrom n k [] = Unit {0}
+AreBlocksFrom n k (b ∷ blocks) = (b.number ≡ n) × AreValuesFrom k b.values × EndsBlock b.values × AreBlocksFrom (n + 1) (k + length b.values) blocks
 
--- a procedure without slots whose header is line 1, with one block or more, of built forms
+-- a procedure without slots, with one block or more, of built forms
 pub record IsShaped (p : Procedure) : Type 0 where
   pub name : IsName p.name
-  pub line : p.line ≡ 1
   pub slots : p.slots ≡ []
   pub some : 1 ≤ length p.blocks
-  pub blocks : AreBlocksAt 0 2 p.blocks
+  pub blocks : AreBlocksFrom 0 0 p.blocks

@@ -1,12 +1,21 @@
-//! B3 procedures: types, opcodes, values, and procedures and modules as lists of lists.
+//! B3 procedures: types, opcodes and their table, values, and procedures and modules as lists of lists.
 #![tactic(auto)]
 
+mod children;
 mod opcode;
 mod procedure;
+mod reg_set;
+mod table;
 #[cfg(test)]
 mod tests;
+mod types;
 mod value;
 
+pub use children::Children;
+pub use ir_arena::NodeId;
 pub use opcode::{Kind, Opcode, Ty};
-pub use procedure::{Module, NodeId, Proc};
-pub use value::{Body, Constraint, Reg, Value};
+pub use procedure::{BlockLine, Module, Proc, SlotLine};
+pub use reg_set::RegSet;
+pub use table::{Carries, Flag, Gives, More, Takes};
+pub use types::allows_types;
+pub use value::{Body, Constraint, Constraints, Reg, Stackmap, Value};
