@@ -4,15 +4,15 @@ use Rattle.std.proofs.lemmas.List.{append-nil, length-append}
 use Rattle.b3_ir.specs.declared.value.Body.{Body}
 use Rattle.b3_ir.specs.declared.value.Body.TheVariants.{Plain, Constant, Targets}
 use Rattle.b3_ir.specs.declared.value.Value.{Value}
-use Rattle.b3_ir.specs.Procedure.{Procedure}
-use Rattle.b3_ir.specs.Shape.{IsOneTarget, AreTwoTargets, AreValuesAt, EndsBlock}
+use Rattle.b3_ir.specs.Procedure.{Block, Procedure}
+use Rattle.b3_ir.specs.Shape.{IsOneTarget, AreTwoTargets, EndsBlock}
 use Rattle.b3_text.specs.declared.form.Form.{Form}
 use Rattle.b3_text.specs.declared.form.Form.TheVariants as forms
 use Rattle.b3_text.specs.declared.place.Place.{Place}
 use Rattle.b3_text.specs.declared.place.Place.TheVariants as places
 use Rattle.b3_text.specs.Spelling.{successors_of, blocks_text}
 use Rattle.b3_text.specs.Forms.{value_of, IsBodyFor}
-use Rattle.b3_text.specs.Places.{with_blocks, with_values, FollowsTerminal, Follows, MayEnd}
+use Rattle.b3_text.specs.Places.{with_blocks, with_rest, AreValuesAt, FollowsTerminal, Follows, MayEnd}
 use Rattle.b3_text.proofs.ValueLemmas.{value_of_is_value}
 
 -- ---- each place can be gone on from
@@ -30,23 +30,24 @@ closing_ends k line = (refl, refl)
 
 pub can_follow : (p : Procedure) (place : Place) (k row : ℕ) → (q : Procedure) × (tail : List (List ℕ)) × Follows p place k row q tail
 can_follow p places.Heading k row =
-    let vs = closing k (row + 1 + 1) in
-    let q = with_blocks p (vs ∷ []) in
-    let long : length q.blocks ≡ length p.blocks + 1 = length-append p.blocks (vs ∷ []) in
-    (q, _, (vs ∷ [], refl, omega arith, (closing_values k (row + 1 + 1), closing_ends k (row + 1 + 1), tt), refl))
+    let vs : List Value = closing k (row + 1 + 1) in
+    let new : Block = record { number = length p.blocks; line = row + 1; values = vs } in
+    let q : Procedure = with_blocks p (new ∷ []) in
+    let long : length q.blocks ≡ length p.blocks + 1 = length-append p.blocks (new ∷ []) in
+    (q, _, (new ∷ [], refl, omega arith, (refl, refl, closing_values k (row + 1 + 1), closing_ends k (row + 1 + 1), tt), refl))
 can_follow p places.Value k row =
-    let vs = closing k (row + 1) in
-    (with_values p vs [], _, (vs, [], refl, (closing_values k (row + 1), closing_ends k (row + 1), tt), refl))
+    let vs : List Value = closing k (row + 1) in
+    (with_rest p vs [], _, (vs, [], refl, (closing_values k (row + 1), closing_ends k (row + 1), tt), refl))
 can_follow p places.Jump k row = (_, _, (Targets (0 ∷ []), [], refl, omega arith, tt, refl))
 can_follow p (places.Branch child) k row = (_, _, (Targets (0 ∷ 0 ∷ []), [], refl, (omega arith, omega arith), tt, refl))
 
 -- ---- ends
 
 nothing_more : (p : Procedure) → with_blocks p [] ≡ p
-nothing_more p = ap (λ (bs : List (List Value)). record p { blocks = bs }) (append-nil p.blocks)
+nothing_more p = ap (λ (bs : List Block). record p { blocks = bs }) (append-nil p.blocks)
 
 pub end_follows : (p : Procedure) (place : Place) (k row : ℕ) → MayEnd p place → Follows p place k row p []
-end_follows p places.Heading k row some = ([], ap (λ (bs : List (List Value)). record p { blocks = bs }) (sym (append-nil p.blocks)), some, tt, refl)
+end_follows p places.Heading k row some = ([], ap (λ (bs : List Block). record p { blocks = bs }) (sym (append-nil p.blocks)), some, tt, refl)
 end_follows p _ k row some = absurd some
 
 only_end_in : (p q : Procedure) (k row : ℕ) → Follows p places.Heading k row q [] → q ≡ p

@@ -6,13 +6,14 @@ use Rattle.b3_ir.specs.declared.value.Body.{Body}
 use Rattle.b3_ir.specs.declared.value.Body.TheVariants.{Targets}
 use Rattle.b3_ir.specs.declared.value.Value.{Value}
 use Rattle.b3_ir.specs.Procedure.{Procedure}
-use Rattle.b3_ir.specs.Shape.{IsOneTarget, AreTwoTargets, IsValueAt, line_count}
+use Rattle.b3_ir.specs.Shape.{IsOneTarget, AreTwoTargets}
+use Rattle.b3_text.specs.Written.{line_count}
 use Rattle.b3_text.specs.declared.form.Form.{Form}
 use Rattle.b3_text.specs.declared.form.Form.TheVariants as forms
 use Rattle.b3_text.specs.declared.place.Place.TheVariants as places
 use Rattle.b3_text.specs.Spelling.{line_of, successors_of}
 use Rattle.b3_text.specs.Forms.{value_of, spelled, IsForm, IsBodyFor, body_of, has_successors}
-use Rattle.b3_text.specs.Places.{with_value, Follows, Leads, NoneFollows, place_after}
+use Rattle.b3_text.specs.Places.{with_value, IsValueOn, Follows, Leads, NoneFollows, place_after}
 use Rattle.b3_text.proofs.FormLemmas.{same_spelled}
 use Rattle.b3_text.proofs.ValueLemmas.{value_of_is_value, line_of_value, value_form}
 use Rattle.b3_text.proofs.PlaceLemmas.{value_leads, end_leads, terminal_into, terminal_out, successors_into, successors_out}
@@ -20,7 +21,7 @@ use Rattle.b3_text.proofs.PlaceLemmas.{value_leads, end_leads, terminal_into, te
 -- ---- the line of a value
 
 -- a value on this line is one that the form makes
-form_only : (k row : ℕ) (form : Form) (line : List ℕ) → k < 2 ^ 32 → IsForm k form → line ≡ spelled k form → (w : Value) → IsValueAt k row w → line ≡ line_of w → IsBodyFor form w.body × (w ≡ value_of k row form w.body)
+form_only : (k row : ℕ) (form : Form) (line : List ℕ) → k < 2 ^ 32 → IsForm k form → line ≡ spelled k form → (w : Value) → IsValueOn k row w → line ≡ line_of w → IsBodyFor form w.body × (w ≡ value_of k row form w.body)
 form_only k row form line small ok found w is e =
     let made = value_form k row w is in
     let same = same_spelled k form made.0 small ok made.1 (sym found ∙ e ∙ ap line_of made.3 ∙ line_of_value k row made.0 w.body made.2) in
@@ -37,7 +38,7 @@ pub no_value : (p : Procedure) (k row : ℕ) (line : List ℕ) → ((form : Form
 no_value p k row line none q tail h = no_value_in p q k row line tail none h
 
 -- the form makes one value
-made_only : (k row : ℕ) (form : Form) (line : List ℕ) → k < 2 ^ 32 → IsForm k form → line ≡ spelled k form → ((body : Body) → IsBodyFor form body → body ≡ body_of form) → (w : Value) → IsValueAt k row w → line ≡ line_of w → w ≡ value_of k row form (body_of form)
+made_only : (k row : ℕ) (form : Form) (line : List ℕ) → k < 2 ^ 32 → IsForm k form → line ≡ spelled k form → ((body : Body) → IsBodyFor form body → body ≡ body_of form) → (w : Value) → IsValueOn k row w → line ≡ line_of w → w ≡ value_of k row form (body_of form)
 made_only k row form line small ok found one w is e =
     let made = form_only k row form line small ok found w is e in
     made.1 ∙ ap (value_of k row form) (one w.body made.0)
@@ -59,7 +60,7 @@ two_lines_also : (body : Body) → AreTwoTargets body → line_count body ≡ 2
 two_lines_also (Targets (block ∷ other ∷ [])) h = refl
 two_lines_also _ h = absurd h
 
-good_value : (k row : ℕ) (form : Form) (line : List ℕ) → IsForm k form → line ≡ spelled k form → (body : Body) → IsBodyFor form body → IsValueAt k row (value_of k row form body) × (line ≡ line_of (value_of k row form body))
+good_value : (k row : ℕ) (form : Form) (line : List ℕ) → IsForm k form → line ≡ spelled k form → (body : Body) → IsBodyFor form body → IsValueOn k row (value_of k row form body) × (line ≡ line_of (value_of k row form body))
 good_value k row form line ok found body h =
     (value_of_is_value k row form body ok h, found ∙ sym (line_of_value k row form body h))
 

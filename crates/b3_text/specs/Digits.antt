@@ -1,4 +1,4 @@
--- The number that digits stand for.
+-- The number that digits stand for. No public clause cites this module.
 use Rattle.std.specs.Prelude.{ℕ, ◌+◌, ◌-◌, ◌*◌, List, [], ◌∷◌}
 
 -- the number of these digits behind a number

@@ -1,4 +1,4 @@
--- Values by what their lines say.
+-- Values by what their lines say. No public clause cites this module.
 use Rattle.std.specs.Prelude.{◌≡◌, ℕ, ◌^◌, ◌<◌, ◌≤◌, Bool, true, false, List, [], ◌∷◌, ◌++◌, codes}
 use Rattle.std.specs.Fmt.{decimal}
 use Rattle.b3_ir.specs.declared.opcode.Ty.{Ty}

@@ -10,7 +10,7 @@ use Rattle.b3_ir.specs.declared.opcode.Opcode.TheVariants.{ArgumentReg, Const64,
 use Rattle.b3_ir.specs.declared.value.Body.{Body}
 use Rattle.b3_ir.specs.declared.value.Body.TheVariants.{Constant, Argument, Target, Targets}
 use Rattle.b3_ir.specs.declared.value.Value.{Value}
-use Rattle.b3_ir.specs.Procedure.{Procedure}
+use Rattle.b3_ir.specs.Procedure.{Block, Procedure}
 
 abbrev pub type_text : Ty → List ℕ
 type_text Void = codes "Void"
@@ -77,9 +77,9 @@ abbrev pub heading_of : ℕ → List ℕ
 heading_of block = codes "BB#" ++ (decimal block ++ codes ":")
 
 -- the lines of blocks, the first of which has this number
-abbrev pub blocks_text : ℕ → List (List Value) → List (List ℕ)
+abbrev pub blocks_text : ℕ → List Block → List (List ℕ)
 blocks_text number [] = []
-blocks_text number (vs ∷ blocks) = heading_of number ∷ (values_text vs ++ blocks_text (number + 1) blocks)
+blocks_text number (b ∷ blocks) = heading_of number ∷ (values_text b.values ++ blocks_text (number + 1) blocks)
 
 -- the lines of a procedure
 abbrev pub text_of : Procedure → List (List ℕ)

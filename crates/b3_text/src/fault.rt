@@ -1,15 +1,18 @@
 //! Why a text is refused.
 
 use b3_base::NoMemory;
+use thiserror::Error;
 
 /// Why a text is refused.
-#[derive(Clone, Copy, Debug, PartialEq, Eq)]
+#[derive(Clone, Copy, Debug, PartialEq, Eq, Error)]
 pub enum TextFault {
     /// The bytes are no text of a procedure of the forms that are built; `line` is the bad line,
     /// counted from 1: the least with which the lines no longer begin such a text, or one more than
     /// the number of lines where the text ends too early.
+    #[error("line {line}: not built")]
     NotBuilt { line: u32 },
     /// An allocation was refused.
+    #[error("no memory")]
     NoMemory,
 }
 

@@ -3,8 +3,8 @@
 ghost use Rattle.std.specs.Prelude.{◌≡◌, IfOk};
 ghost use Rattle.b3_text.specs.Forms.{type_of, opcode_of, children_of, body_of, value_of, has_successors};
 
-use b3_base::{Ids, NoMemory};
-use b3_ir::{Body, Kind, Opcode, Reg, Ty, Value};
+use b3_base::NoMemory;
+use b3_ir::{Body, Children, Kind, Opcode, Reg, Ty, Value};
 use std::alloc::Global;
 
 /// What the line of a value says beside its number.
@@ -56,10 +56,10 @@ impl Form {
         }
     }
 
-    fn children(self, alloc: Global) -> Result<Ids, NoMemory>
+    fn children(self, alloc: Global) -> Result<Children, NoMemory>
         ensures { IfOk result (λ ids. ids ≡ children_of self) }
     {
-        let mut ids = Ids::new(alloc);
+        let mut ids = Children::new(alloc);
         match self {
             Form::Sum(left, right) | Form::Difference(left, right) => {
                 ids.push(left)?;

@@ -1,11 +1,12 @@
 //! Reading a text.
 
-ghost use Rattle.std.specs.Prelude.{◌≡◌, ℕ, ◌+◌, ◌<◌, ◌≤◌, ◌^◌, ◌-◌, ◌↔◌, [], ◌∷◌, length, IsTrue, IfOk, OnOk, IfErr};
-ghost use Rattle.b3_ir.specs.Procedure.{Procedure, values_of};
+ghost use Rattle.std.specs.Prelude.{◌≡◌, ℕ, ◌+◌, ◌<◌, ◌≤◌, ◌^◌, ◌-◌, ◌↔◌, [], ◌∷◌, length, slice_get, Some, IsTrue, IfOk, OnOk, IfErr};
+ghost use Rattle.b3_ir.specs.Procedure.{Kept, Procedure, procedures, total};
+ghost use Rattle.b3_ir.specs.Shape.{IsShaped};
 ghost use Rattle.b3_text.specs.declared.place.Place.TheVariants as places;
 ghost use Rattle.b3_text.specs.Lines.{trimmed_lines};
 ghost use Rattle.b3_text.specs.Forms.{value_of, IsForm, IsBodyFor};
-ghost use Rattle.b3_text.specs.Places.{with_value, last_of, Follows, Leads, NoneFollows, IsReachable, MayEnd, IsBadAmong, IsOnly};
+ghost use Rattle.b3_text.specs.Places.{with_value, Follows, Leads, NoneFollows, IsReachable, MayEnd, IsBadAmong, IsOnly};
 ghost use Rattle.b3_text.specs.Texts.{Spells, BadLine, IfNotBuilt, Gives};
 
 use crate::blocks::{is_heading, successor_in, successors_in};
@@ -28,12 +29,14 @@ fn push(
     line: u32,
     body: Body,
 ) -> Result<(), NoMemory>
-    requires some { 1 ≤ length proc.old.blocks }
-    requires few { length proc.old.blocks < 2 ^ 32 - 2 }
-    requires short { length (values_of proc.old (last_of proc.old)) < 2 ^ 32 - 2 }
+    requires some { 1 ≤ length proc.old.procedure.blocks }
+    requires few_blocks { length proc.old.procedure.blocks < 2 ^ 32 - 2 }
+    requires few { total proc.old.procedure < 2 ^ 32 - 2 }
     requires form { IsForm number form }
     requires body { IsBodyFor form body }
-    ensures { OnOk result (proc.new ≡ with_value proc.old (value_of number line form body)) }
+    ensures value { OnOk result (proc.new.procedure ≡ with_value proc.old.procedure (value_of number line form body)) }
+    ensures blocks { OnOk result (length proc.new.procedure.blocks ≡ length proc.old.procedure.blocks) }
+    ensures total { OnOk result (total proc.new.procedure ≡ total proc.old.procedure + 1) }
 {
     let last = proc.blocks() - 1;
     proc.push(last as u32, form.value(alloc, number, line, body)?)
@@ -41,17 +44,18 @@ fn push(
 
 /// Reads the line of a heading.
 fn read_heading(proc: &mut Proc, number: u32, row: u32, line: &[u8]) -> Result<Progress, TextFault>
-    requires reachable { IsReachable proc.old places.Heading number row }
+    requires reachable { IsReachable proc.old.procedure places.Heading number row }
     requires few { row < 2 ^ 32 - 2 }
-    ensures leads { IfOk result (λ next. Leads proc.old places.Heading number row (line.now ∷ []) proc.new next) }
-    ensures reachable { IfOk result (λ next. IsReachable proc.new next.place next.number next.row) }
+    ensures leads { IfOk result (λ next. Leads proc.old.procedure places.Heading number row (line.now ∷ []) proc.new.procedure next) }
+    ensures reachable { IfOk result (λ next. IsReachable proc.new.procedure next.place next.number next.row) }
     ensures row { IfOk result (λ next. next.row ≡ row + 1) }
-    ensures bad { IfErr result (λ fault. IfNotBuilt fault (λ n. (n ≡ row + 1) × NoneFollows proc.old places.Heading number row line.now)) }
+    ensures bad { IfErr result (λ fault. IfNotBuilt fault (λ n. (n ≡ row + 1) × NoneFollows proc.old.procedure places.Heading number row line.now)) }
 {
-    if !is_heading(line, proc.blocks() as u32) {
+    let block = proc.blocks() as u32;
+    if !is_heading(line, block) {
         return Err(TextFault::NotBuilt { line: row + 1 });
     }
-    proc.add_block()?;
+    proc.add_block_at(block, row + 1)?;
     Ok(Progress {
         place: Place::Value,
         number,
@@ -67,12 +71,12 @@ fn read_value(
     row: u32,
     line: &[u8],
 ) -> Result<Progress, TextFault>
-    requires reachable { IsReachable proc.old places.Value number row }
+    requires reachable { IsReachable proc.old.procedure places.Value number row }
     requires few { row < 2 ^ 32 - 2 }
-    ensures leads { IfOk result (λ next. Leads proc.old places.Value number row (line.now ∷ []) proc.new next) }
-    ensures reachable { IfOk result (λ next. IsReachable proc.new next.place next.number next.row) }
+    ensures leads { IfOk result (λ next. Leads proc.old.procedure places.Value number row (line.now ∷ []) proc.new.procedure next) }
+    ensures reachable { IfOk result (λ next. IsReachable proc.new.procedure next.place next.number next.row) }
     ensures row { IfOk result (λ next. next.row ≡ row + 1) }
-    ensures bad { IfErr result (λ fault. IfNotBuilt fault (λ n. (n ≡ row + 1) × NoneFollows proc.old places.Value number row line.now)) }
+    ensures bad { IfErr result (λ fault. IfNotBuilt fault (λ n. (n ≡ row + 1) × NoneFollows proc.old.procedure places.Value number row line.now)) }
 {
     let Some(form) = form_in(line, number) else {
         return Err(TextFault::NotBuilt { line: row + 1 });
@@ -101,12 +105,12 @@ fn read_successor(
     row: u32,
     line: &[u8],
 ) -> Result<Progress, TextFault>
-    requires reachable { IsReachable proc.old places.Jump number row }
+    requires reachable { IsReachable proc.old.procedure places.Jump number row }
     requires few { row < 2 ^ 32 - 2 }
-    ensures leads { IfOk result (λ next. Leads proc.old places.Jump number row (line.now ∷ []) proc.new next) }
-    ensures reachable { IfOk result (λ next. IsReachable proc.new next.place next.number next.row) }
+    ensures leads { IfOk result (λ next. Leads proc.old.procedure places.Jump number row (line.now ∷ []) proc.new.procedure next) }
+    ensures reachable { IfOk result (λ next. IsReachable proc.new.procedure next.place next.number next.row) }
     ensures row { IfOk result (λ next. next.row ≡ row + 1) }
-    ensures bad { IfErr result (λ fault. IfNotBuilt fault (λ n. (n ≡ row + 1) × NoneFollows proc.old places.Jump number row line.now)) }
+    ensures bad { IfErr result (λ fault. IfNotBuilt fault (λ n. (n ≡ row + 1) × NoneFollows proc.old.procedure places.Jump number row line.now)) }
 {
     let Some(block) = successor_in(line) else {
         return Err(TextFault::NotBuilt { line: row + 1 });
@@ -130,12 +134,12 @@ fn read_successors(
     row: u32,
     line: &[u8],
 ) -> Result<Progress, TextFault>
-    requires reachable { IsReachable proc.old (places.Branch child) number row }
+    requires reachable { IsReachable proc.old.procedure (places.Branch child) number row }
     requires few { row < 2 ^ 32 - 2 }
-    ensures leads { IfOk result (λ next. Leads proc.old (places.Branch child) number row (line.now ∷ []) proc.new next) }
-    ensures reachable { IfOk result (λ next. IsReachable proc.new next.place next.number next.row) }
+    ensures leads { IfOk result (λ next. Leads proc.old.procedure (places.Branch child) number row (line.now ∷ []) proc.new.procedure next) }
+    ensures reachable { IfOk result (λ next. IsReachable proc.new.procedure next.place next.number next.row) }
     ensures row { IfOk result (λ next. next.row ≡ row + 1) }
-    ensures bad { IfErr result (λ fault. IfNotBuilt fault (λ n. (n ≡ row + 1) × NoneFollows proc.old (places.Branch child) number row line.now)) }
+    ensures bad { IfErr result (λ fault. IfNotBuilt fault (λ n. (n ≡ row + 1) × NoneFollows proc.old.procedure (places.Branch child) number row line.now)) }
 {
     let Some((then_block, else_block)) = successors_in(line) else {
         return Err(TextFault::NotBuilt { line: row + 1 });
@@ -165,12 +169,12 @@ fn read_line(
     at: Progress,
     line: &[u8],
 ) -> Result<Progress, TextFault>
-    requires reachable { IsReachable proc.old at.place at.number at.row }
+    requires reachable { IsReachable proc.old.procedure at.place at.number at.row }
     requires few { at.row < 2 ^ 32 - 2 }
-    ensures leads { IfOk result (λ next. Leads proc.old at.place at.number at.row (line.now ∷ []) proc.new next) }
-    ensures reachable { IfOk result (λ next. IsReachable proc.new next.place next.number next.row) }
+    ensures leads { IfOk result (λ next. Leads proc.old.procedure at.place at.number at.row (line.now ∷ []) proc.new.procedure next) }
+    ensures reachable { IfOk result (λ next. IsReachable proc.new.procedure next.place next.number next.row) }
     ensures row { IfOk result (λ next. next.row ≡ at.row + 1) }
-    ensures bad { IfErr result (λ fault. IfNotBuilt fault (λ n. (n ≡ at.row + 1) × NoneFollows proc.old at.place at.number at.row line.now)) }
+    ensures bad { IfErr result (λ fault. IfNotBuilt fault (λ n. (n ≡ at.row + 1) × NoneFollows proc.old.procedure at.place at.number at.row line.now)) }
 {
     match at.place {
         Place::Heading => read_heading(proc, at.number, at.row, line),
@@ -182,18 +186,18 @@ fn read_line(
 
 /// Whether a text may end there.
 fn may_end(proc: &Proc, place: Place) -> bool
-    ensures { IsTrue result ↔ MayEnd proc.now place }
+    ensures { IsTrue result ↔ MayEnd proc.now.procedure place }
 {
     matches!(place, Place::Heading) && proc.blocks() > 0
 }
 
 /// Reads the lines behind the header into a procedure that has no block.
 fn read_blocks(alloc: Global, proc: &mut Proc, bytes: &[u8]) -> Result<(), TextFault>
-    requires none { proc.old.blocks ≡ [] }
+    requires none { proc.old.procedure.blocks ≡ [] }
     requires short { length (trimmed_lines bytes.now) < 2 ^ 32 - 2 }
-    ensures read { OnOk result (Follows proc.old places.Heading 0 1 proc.new (trimmed_lines bytes.now)) }
-    ensures only { OnOk result (IsOnly proc.old (trimmed_lines bytes.now) proc.new) }
-    ensures bad { IfErr result (λ fault. IfNotBuilt fault (λ line. (n : ℕ) × (line ≡ n + 2) × IsBadAmong proc.old (trimmed_lines bytes.now) n)) }
+    ensures read { OnOk result (Follows proc.old.procedure places.Heading 0 1 proc.new.procedure (trimmed_lines bytes.now)) }
+    ensures only { OnOk result (IsOnly proc.old.procedure (trimmed_lines bytes.now) proc.new.procedure) }
+    ensures bad { IfErr result (λ fault. IfNotBuilt fault (λ line. (n : ℕ) × (line ≡ n + 2) × IsBadAmong proc.old.procedure (trimmed_lines bytes.now) n)) }
 {
     let mut at = Progress {
         place: Place::Heading,
@@ -215,8 +219,8 @@ fn read_blocks(alloc: Global, proc: &mut Proc, bytes: &[u8]) -> Result<(), TextF
 /// Reads the lines of a text.
 fn read_text(alloc: Global, bytes: &[u8]) -> Result<Module, TextFault>
     requires { length bytes.now < 2 ^ 32 - 1 }
-    ensures ok { IfOk result (λ module_. (p : Procedure) × (module_ ≡ p ∷ []) × Spells bytes.now p) }
-    ensures only { IfOk result (λ module_. (p : Procedure) → Spells bytes.now p → module_ ≡ p ∷ []) }
+    ensures ok { IfOk result (λ module_. (k : Kept) × (module_ ≡ k ∷ []) × Spells bytes.now k.procedure) }
+    ensures only { IfOk result (λ module_. (p : Procedure) → Spells bytes.now p → procedures module_ ≡ p ∷ []) }
     ensures bad_line { IfErr result (λ fault. IfNotBuilt fault (λ line. BadLine bytes.now line)) }
 {
     let Some((header, rest)) = next_line(bytes) else {
@@ -237,7 +241,8 @@ pub fn read(alloc: Global, bytes: &[u8]) -> Result<Module, TextFault>
     // 32 bits count the lines.
     requires { length bytes.now < 2 ^ 32 - 1 }
     // What is read is spelled so.
-    ensures ok { IfOk result (λ module_. (p : Procedure) × (module_ ≡ p ∷ []) × Spells bytes.now p) }
+    ensures ok { IfOk result (λ module_. (k : Kept) × (module_ ≡ k ∷ []) × Spells bytes.now k.procedure) }
+    ensures shaped { IfOk result (λ module_. (at : ℕ) (k : Kept) → slice_get module_ at ≡ Some k → IsShaped k.procedure) }
     // The line of a refusal is the bad line.
     ensures bad_line { IfErr result (λ fault. IfNotBuilt fault (λ line. BadLine bytes.now line)) }
     // Bytes that are refused spell no procedure.

@@ -65,6 +65,18 @@ fn has_targets(value: &Value, blocks: &[u32]) -> bool {
     }
 }
 
+/// The value at a place of a block, or None where none stands there.
+fn value_at(p: &Proc, block: usize, place: usize) -> Option<&Value> {
+    if block >= p.blocks() {
+        return None;
+    }
+    let mut node = p.first(block)?;
+    for _step in 0..place {
+        node = p.next(node)?;
+    }
+    Some(p.value(node))
+}
+
 #[test]
 fn example(rt: HostRuntime) -> Result<(), Fail> {
     let module = read(rt.alloc(), EXAMPLE.as_bytes()).ok().ok_or("refused")?;
@@ -73,18 +85,19 @@ fn example(rt: HostRuntime) -> Result<(), Fail> {
     assert_eq!(rt; p.name(), "f");
     assert_eq!(rt; p.line(), 1);
     assert_eq!(rt; p.blocks(), 1);
-    let argument = p.first(0).ok_or("no value")?;
-    let constant = p.next(argument).ok_or("one value")?;
-    let sum = p.next(constant).ok_or("two values")?;
-    let end = p.next(sum).ok_or("three values")?;
-    assert_eq!(rt; p.next(end), None);
-    assert!(rt; is_value(p.value(argument), 0, Ty::Int64, Opcode::ArgumentReg, &[]));
-    assert!(rt; matches!(p.value(argument).body, Body::Argument(Reg(0))));
-    assert!(rt; is_value(p.value(constant), 1, Ty::Int64, Opcode::Const64, &[]));
-    assert!(rt; matches!(p.value(constant).body, Body::Constant(1)));
-    assert!(rt; is_value(p.value(sum), 2, Ty::Int64, Opcode::Add, &[0, 1]));
-    assert!(rt; is_value(p.value(end), 3, Ty::Void, Opcode::Return, &[2]));
-    assert_eq!(rt; p.value(end).line, 6);
+    assert_eq!(rt; p.block(0).line, 2);
+    let argument = value_at(p, 0, 0).ok_or("no value")?;
+    let constant = value_at(p, 0, 1).ok_or("one value")?;
+    let sum = value_at(p, 0, 2).ok_or("two values")?;
+    let end = value_at(p, 0, 3).ok_or("three values")?;
+    assert!(rt; value_at(p, 0, 4).is_none());
+    assert!(rt; is_value(argument, 0, Ty::Int64, Opcode::ArgumentReg, &[]));
+    assert!(rt; matches!(argument.body, Body::Argument(Reg(0))));
+    assert!(rt; is_value(constant, 1, Ty::Int64, Opcode::Const64, &[]));
+    assert!(rt; matches!(constant.body, Body::Constant(1)));
+    assert!(rt; is_value(sum, 2, Ty::Int64, Opcode::Add, &[0, 1]));
+    assert!(rt; is_value(end, 3, Ty::Void, Opcode::Return, &[2]));
+    assert_eq!(rt; end.line, 6);
     Ok(())
 }
 
@@ -96,30 +109,29 @@ fn blocks(rt: HostRuntime) -> Result<(), Fail> {
     assert_eq!(rt; module.procs(), 1);
     let p = module.proc(0);
     assert_eq!(rt; p.blocks(), 3);
-    let argument = p.first(0).ok_or("no value")?;
-    let constant = p.next(argument).ok_or("one value")?;
-    let upsilon = p.next(constant).ok_or("two values")?;
-    let jump = p.next(upsilon).ok_or("three values")?;
-    assert_eq!(rt; p.next(jump), None);
-    assert!(rt; is_value(p.value(upsilon), 2, Ty::Void, Opcode::Upsilon, &[0]));
-    assert!(rt; matches!(p.value(upsilon).body, Body::Target(4)));
-    assert!(rt; is_value(p.value(jump), 3, Ty::Void, Opcode::Jump, &[]));
-    assert!(rt; has_targets(p.value(jump), &[1]));
-    assert_eq!(rt; p.value(jump).line, 6);
-    let phi = p.first(1).ok_or("no value")?;
-    let difference = p.next(phi).ok_or("one value")?;
-    let second = p.next(difference).ok_or("two values")?;
-    let branch = p.next(second).ok_or("three values")?;
-    assert_eq!(rt; p.next(branch), None);
-    assert!(rt; is_value(p.value(phi), 4, Ty::Int64, Opcode::Phi, &[]));
-    assert_eq!(rt; p.value(phi).line, 9);
-    assert!(rt; is_value(p.value(difference), 5, Ty::Int64, Opcode::Sub, &[4, 1]));
-    assert!(rt; is_value(p.value(branch), 7, Ty::Void, Opcode::Branch, &[5]));
-    assert!(rt; has_targets(p.value(branch), &[1, 2]));
-    assert_eq!(rt; p.value(branch).line, 12);
-    let end = p.first(2).ok_or("no value")?;
-    assert!(rt; is_value(p.value(end), 8, Ty::Void, Opcode::Return, &[1]));
-    assert_eq!(rt; p.value(end).line, 15);
+    assert_eq!(rt; p.block(1).number, 1);
+    assert_eq!(rt; p.block(1).line, 8);
+    let upsilon = value_at(p, 0, 2).ok_or("two values")?;
+    let jump = value_at(p, 0, 3).ok_or("three values")?;
+    assert!(rt; value_at(p, 0, 4).is_none());
+    assert!(rt; is_value(upsilon, 2, Ty::Void, Opcode::Upsilon, &[0]));
+    assert!(rt; matches!(upsilon.body, Body::Target(4)));
+    assert!(rt; is_value(jump, 3, Ty::Void, Opcode::Jump, &[]));
+    assert!(rt; has_targets(jump, &[1]));
+    assert_eq!(rt; jump.line, 6);
+    let phi = value_at(p, 1, 0).ok_or("no value")?;
+    let difference = value_at(p, 1, 1).ok_or("one value")?;
+    let branch = value_at(p, 1, 3).ok_or("three values")?;
+    assert!(rt; value_at(p, 1, 4).is_none());
+    assert!(rt; is_value(phi, 4, Ty::Int64, Opcode::Phi, &[]));
+    assert_eq!(rt; phi.line, 9);
+    assert!(rt; is_value(difference, 5, Ty::Int64, Opcode::Sub, &[4, 1]));
+    assert!(rt; is_value(branch, 7, Ty::Void, Opcode::Branch, &[5]));
+    assert!(rt; has_targets(branch, &[1, 2]));
+    assert_eq!(rt; branch.line, 12);
+    let end = value_at(p, 2, 0).ok_or("no value")?;
+    assert!(rt; is_value(end, 8, Ty::Void, Opcode::Return, &[1]));
+    assert_eq!(rt; end.line, 15);
     Ok(())
 }
 

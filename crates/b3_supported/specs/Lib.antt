@@ -1,0 +1,3 @@
+pub mod Supported
+pub mod Faults
+pub mod Table
