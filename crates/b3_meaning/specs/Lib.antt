@@ -1,4 +1,5 @@
-pub mod Access
-pub mod Observed
 pub mod Opcodes
+pub mod Roles
+pub mod Access
 pub mod Run
+pub mod Foldable

@@ -3,7 +3,10 @@
 #![tactic(auto)]
 
 mod opcodes;
+mod role;
 #[cfg(test)]
 mod tests;
+mod words;
 
 pub use opcodes::fold;
+pub use role::{Checked, Extent, Role, role_of};

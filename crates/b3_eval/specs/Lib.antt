@@ -1,0 +1,4 @@
+pub mod Lookup
+pub mod Stands
+pub mod Signs
+pub mod Writes

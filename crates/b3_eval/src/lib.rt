@@ -1,0 +1,17 @@
+//! The run of a B3 procedure, block step by block step.
+#![tactic(auto)]
+
+mod access;
+mod calls;
+mod checks;
+mod children;
+mod effect;
+mod run;
+mod state;
+mod terminals;
+#[cfg(test)]
+mod tests;
+mod types;
+mod words;
+
+pub use run::eval;
