@@ -12,7 +12,7 @@ use Rattle.stackmap.specs.declared.site.SavedRow.{SavedRow}
 use Rattle.exit_table.specs.declared.tables.FrameRow.{FrameRow}
 use Rattle.exit_table.specs.declared.tables.SiteRow.{SiteRow}
 use Rattle.exit_table.specs.declared.tables.Tables.{Tables}
-use Rattle.exit_table.specs.Fields.{halves, words, xwords}
+use Rattle.b3_base.specs.Fields.{halves, words, xwords}
 use Rattle.exit_table.specs.Spelling.{slot_spelling, saved_spelling, frame_spelling, frame_section, place_spelling, site_spelling, exit_section}
 use Rattle.elf_obj.specs.declared.object.Symbol.{Symbol}
 use Rattle.elf_obj.specs.declared.object.Object.{Object}

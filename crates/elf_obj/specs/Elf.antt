@@ -2,7 +2,7 @@
 -- for the Arm 64-bit Architecture).
 use Rattle.std.specs.Prelude.{◌≡◌, ℕ, ◌+◌, List, [], ◌∷◌, ◌++◌, length, take, codes}
 use Rattle.std.specs.List.{flat_map}
-use Rattle.exit_table.specs.Fields.{halves, words, xwords}
+use Rattle.b3_base.specs.Fields.{halves, words, xwords}
 use Rattle.exit_table.specs.Spelling.{frame_section, exit_section}
 use Rattle.elf_obj.specs.declared.section.Section.{Section}
 use Rattle.elf_obj.specs.declared.object.Symbol.{Symbol}

@@ -1,15 +1,15 @@
 //! The sections of an object and their bytes.
 
 ghost use Rattle.std.specs.Prelude.{◌≡◌, ◌+◌, ◌^◌, ◌<◌, ◌++◌, length, sum_by, OnOk, IfOk};
-ghost use Rattle.exit_table.specs.Fields.{words};
+ghost use Rattle.b3_base.specs.Fields.{words};
 ghost use Rattle.exit_table.specs.Good.{IsWritable};
 ghost use Rattle.elf_obj.specs.Good.{names_of};
 ghost use Rattle.elf_obj.specs.Elf.{string_table, symbol_entry, symbol_entries, symbol_table, section_names, sections_of};
 
 use crate::object::{Object, Symbol, Symbols};
 use crate::section::{Section, Sections};
-use b3_base::{Bytes, NoMemory};
-use exit_table::{put_u16s, put_u32s, put_u64s, write_exits, write_frames};
+use b3_base::{Bytes, NoMemory, put_u16s, put_u32s, put_u64s};
+use exit_table::{write_exits, write_frames};
 use std::alloc::Global;
 
 /// The words of code, each least byte first.

@@ -4,8 +4,7 @@ ghost use Rattle.std.specs.Prelude.{◌≡◌, ◌++◌, OnOk};
 ghost use Rattle.elf_obj.specs.Sections.{section_header};
 ghost use Rattle.elf_obj.specs.Elf.{file_header};
 
-use b3_base::{Bytes, NoMemory, Seq};
-use exit_table::{put_u16s, put_u32s, put_u64s};
+use b3_base::{Bytes, NoMemory, Seq, put_u16s, put_u32s, put_u64s};
 
 /// A section: what its section header says of it, and its bytes. `name` is the byte of
 /// `.shstrtab` at which its name begins.

@@ -94,7 +94,7 @@ site_of sizes frames row k (Some size) None is stands = absurd stands
 site_of sizes frames row k None frame is stands = absurd stands
 
 -- a good site has a word, and ends within the text
-site_within : (sizes : List ℕ) (frames : List FrameRow) (row : SiteRow) → IsGoodSite sizes frames row → (1 ≤ row.site.size) × (row.pc + 4 * row.site.size ≤ sum sizes)
+pub site_within : (sizes : List ℕ) (frames : List FrameRow) (row : SiteRow) → IsGoodSite sizes frames row → (1 ≤ row.site.size) × (row.pc + 4 * row.site.size ≤ sum sizes)
 site_within sizes frames row good = site_of sizes frames row good.procedure (slice_get sizes good.procedure) (slice_get frames good.procedure) refl good.stands
 
 -- the sites of the tables of a text are at most its words

@@ -1,6 +1,7 @@
 -- Good tables: what the tables of a text meet, but for the words of the text itself.
 use Rattle.std.specs.Prelude.{◌≡◌, ℕ, ◌+◌, ◌*◌, ◌/◌, ◌%◌, ◌^◌, ◌<◌, ◌≤◌, ◌⊎◌, ◌↔◌, List, [], ◌∷◌, ◌++◌, None, length, map, sum, take, slice_get, IfSome, IsSomeAnd, IsBitSet, All, AllPairs}
 use Rattle.std.specs.List.Sorted.{IsStrictlyIncreasing}
+use Rattle.b3_base.specs.Word.{bits}
 use Rattle.b3_base.specs.declared.word.Width.{Width}
 use Rattle.stackmap.specs.declared.site.Rep.{Rep}
 use Rattle.stackmap.specs.declared.site.Rep.TheVariants.{Register, Slot, Constant}
@@ -13,7 +14,6 @@ use Rattle.stackmap.specs.declared.site.Site.{Site}
 use Rattle.exit_table.specs.declared.tables.FrameRow.{FrameRow}
 use Rattle.exit_table.specs.declared.tables.SiteRow.{SiteRow}
 use Rattle.exit_table.specs.declared.tables.Tables.{Tables}
-use Rattle.exit_table.specs.Spelling.{width_number}
 
 -- The text of procedures with these sizes, in bytes: they follow each other without gaps.
 
@@ -40,7 +40,7 @@ saved_span saved = record { offset = saved.offset; size = 8 }
 
 -- a reported word has the bytes of its width
 abbrev pub word_span : Width → ℕ → Span
-word_span width offset = record { offset = offset; size = width_number width / 8 }
+word_span width offset = record { offset = offset; size = bits width / 8 }
 
 -- the slots of a frame and its saved registers
 abbrev pub spans_of : FrameRow → List Span
@@ -88,7 +88,7 @@ pub record HasFewRows (frame : FrameRow) : Type 0 where
 abbrev pub IsGoodRep : FrameRow → Width → Rep → Type 0
 IsGoodRep frame width (Register reg) = (reg.0 ≤ 14) ⊎ ((19 ≤ reg.0) × (reg.0 ≤ 28))
 IsGoodRep frame width (Slot offset) = IsWordOffset frame.bytes offset × All (AreDisjoint (word_span width offset)) (spans_of frame)
-IsGoodRep frame width (Constant value) = value < 2 ^ width_number width
+IsGoodRep frame width (Constant value) = value < 2 ^ bits width
 
 -- the places are the registers from x k on, in order
 abbrev pub AreRegistersFrom : ℕ → List Place → Type 0
@@ -130,10 +130,12 @@ IsGoodKind Patchpoint site = IsGoodPatchpoint site
 IsGoodKind Exit site = IsGoodExit site
 IsGoodKind Trap site = IsGoodTrap site
 
--- a site of a procedure that begins at a byte of the text, has so many bytes and this frame
+-- a site of a procedure that begins at a byte of the text, has so many bytes and this frame; the id of
+-- its value is a number of 32 bits
 pub record StandsIn (start size : ℕ) (frame : FrameRow) (row : SiteRow) : Type 0 where
   pub begins : start ≤ row.pc
   pub ends : row.pc + 4 * row.site.size ≤ start + size
+  pub value : row.site.value < 2 ^ 32
   pub kind : IsGoodKind row.site.kind row.site
   pub places : All (λ place. IsGoodRep frame place.width place.rep) row.site.reps
 

@@ -1,3 +1,10 @@
-pub mod Fields
 pub mod Spelling
 pub mod Good
+pub mod Reading
+pub mod FrameReading
+pub mod Taken
+pub mod Rooms
+pub mod Homes
+pub mod ExitReading
+pub mod Read
+pub mod Told

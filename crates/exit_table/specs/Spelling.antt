@@ -1,6 +1,7 @@
 -- How the frame section and the exit section are spelled.
 use Rattle.std.specs.Prelude.{ℕ, ◌+◌, List, [], ◌∷◌, ◌++◌, Option, Some, None, length, codes}
 use Rattle.std.specs.List.{flat_map}
+use Rattle.b3_base.specs.Word.{bits}
 use Rattle.b3_base.specs.declared.word.Width.{Width}
 use Rattle.b3_base.specs.declared.word.Width.TheVariants.{W32, W64}
 use Rattle.b3_ir.specs.declared.value.Reg.{Reg}
@@ -16,12 +17,7 @@ use Rattle.stackmap.specs.declared.site.SavedRow.{SavedRow}
 use Rattle.exit_table.specs.declared.tables.FrameRow.{FrameRow}
 use Rattle.exit_table.specs.declared.tables.SiteRow.{SiteRow}
 use Rattle.exit_table.specs.declared.tables.Tables.{Tables}
-use Rattle.exit_table.specs.Fields.{words, xwords}
-
--- the bits of a width
-abbrev pub width_number : Width → ℕ
-width_number W32 = 32
-width_number W64 = 64
+use Rattle.b3_base.specs.Fields.{words, xwords}
 
 -- the bits of what is returned, 0 for nothing
 abbrev pub returns_number : Returns → ℕ
@@ -75,7 +71,7 @@ frame_section tables =
     ++ flat_map frame_spelling tables.frames
 
 abbrev pub place_spelling : Place → List ℕ
-place_spelling place = words (rep_number place.rep ∷ width_number place.width ∷ []) ++ xwords (rep_value place.rep ∷ [])
+place_spelling place = words (rep_number place.rep ∷ bits place.width ∷ []) ++ xwords (rep_value place.rep ∷ [])
 
 -- a site: where it stands, its kind, its value's id, its words, how many words it reports, its
 -- result, what it may change, a zero, and the reported words

@@ -2,18 +2,18 @@
 
 ghost use Rattle.std.specs.Prelude.{◌≡◌, ◌++◌, All, OnOk, IfOk};
 ghost use Rattle.std.specs.List.{flat_map};
-ghost use Rattle.exit_table.specs.Spelling.{width_number, kind_number, result_number, rep_number, rep_value, place_spelling, site_spelling, exit_section};
+ghost use Rattle.b3_base.specs.Word.{bits};
+ghost use Rattle.exit_table.specs.Spelling.{kind_number, result_number, rep_number, rep_value, place_spelling, site_spelling, exit_section};
 ghost use Rattle.exit_table.specs.Good.{HasFewPlaces, IsWritable};
 
-use crate::fields::{put_u32s, put_u64s};
 use crate::tables::{SiteRow, SiteRows, Tables};
-use b3_base::{Bytes, NoMemory, Width};
+use b3_base::{Bytes, NoMemory, Width, put_u32s, put_u64s};
 use b3_ir::Reg;
 use stackmap::{Place, Places, Rep, SiteKind};
 use std::alloc::Global;
 
 fn width_bits(width: Width) -> u32
-    ensures { result ≡ width_number width }
+    ensures { result ≡ bits width }
 {
     match width {
         Width::W32 => 32,

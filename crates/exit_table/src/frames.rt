@@ -5,9 +5,8 @@ ghost use Rattle.std.specs.List.{flat_map};
 ghost use Rattle.exit_table.specs.Spelling.{returns_number, slot_spelling, saved_spelling, frame_spelling, frame_section};
 ghost use Rattle.exit_table.specs.Good.{HasFewRows, IsWritable};
 
-use crate::fields::put_u32s;
 use crate::tables::{FrameRow, FrameRows, Tables};
-use b3_base::{Bytes, NoMemory};
+use b3_base::{Bytes, NoMemory, put_u32s};
 use stackmap::{Returns, Saved, SlotRows};
 use std::alloc::Global;
 
