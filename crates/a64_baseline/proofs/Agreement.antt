@@ -5,30 +5,35 @@ use Rattle.std.specs.List.{list_any}
 use Rattle.std.proofs.lemmas.List.{length-map}
 use Rattle.std.proofs.lemmas.List.Sums.{sum_by-cons}
 use Rattle.std.proofs.lemmas.Option.{slice_get_within, get_or_from_slice_get}
-use Rattle.b3_base.specs.Run.{iterate, SimulatesFrom}
+use Rattle.b3_base.specs.Run.{iterate, Follows, SimulatesFrom}
 use Rattle.b3_base.specs.declared.observation.Status.TheVariants.{Undefined}
-use Rattle.b3_base.proofs.Run.{iterate-zero, iterate-one, iterate-add, run_simulated_from}
-use Rattle.b3_ir.specs.Procedure.{Procedure, values_of}
-use Rattle.b3_ir.specs.Built.{StandsAt, IsBuilt, IsChildAt}
+use Rattle.b3_base.proofs.Run.{iterate-zero, iterate-one, iterate-add, iterate-stays, moments_joined, run_simulated_from}
+use Rattle.b3_ir.specs.Naming.{type_of}
+use Rattle.b3_ir.specs.Procedure.{Procedure, values_by_block, values_of}
+use Rattle.b3_ir.specs.declared.procedure.SlotLine.{SlotLine}
+use Rattle.b3_supported.specs.Supported.{IsSupported, IsChildAt}
+use Rattle.b3_ir.specs.Procedure.{StandsAt}
 use Rattle.b3_ir.specs.Shape.{IsFormOf}
 use Rattle.b3_ir.specs.declared.opcode.Opcode.{Opcode}
 use Rattle.b3_ir.specs.declared.opcode.Opcode.TheVariants.{Return}
 use Rattle.b3_ir.specs.declared.opcode.Ty.TheVariants.{Int64}
 use Rattle.b3_ir.specs.declared.value.Value.{Value}
-use Rattle.b3_meaning.specs.Observed.{Answer, MachineStart}
+use Rattle.b3_base.specs.Observed.{Answer, MachineStart}
 use Rattle.b3_meaning.specs.Run as b3
 use Rattle.a64_inst.specs.WellFormed.{IsWellFormed}
-use Rattle.a64_inst.specs.Word.{word}
+use Rattle.a64_word.specs.Word.{word}
 use Rattle.a64_inst.specs.declared.inst.Inst.{Inst}
-use Rattle.a64_inst.proofs.Inverse.{decode-word}
+use Rattle.a64_word.proofs.Inverse.{decode-word}
 use Rattle.stackmap.specs.declared.site.Returns.TheVariants.{Nothing, W32, W64}
-use Rattle.a64_run.specs.Agrees.{RunsAlike, Agrees, ReturnsType, word_count}
-use Rattle.a64_run.specs.Machine.{Entry, State, Config, Runs, Stops, machine_step, machine_run, observe, first}
+use Rattle.a64_run.specs.Agrees.{Agrees, AgreesFrom, ReturnsType, word_count}
+use Rattle.a64_run.specs.Machine.{Entry, State, Config, Runs, Stops, machine_step, machine_run, run_of, observe, first}
+use Rattle.a64_run.specs.Moments.{IsProper}
 use Rattle.a64_run.specs.Placement.{Places}
+use Rattle.b3_ir.proofs.Numbering.{values_are}
 use Rattle.a64_baseline.specs.Code.{places_of, entry_code, code_of, begins_of, words_of_values}
 use Rattle.a64_baseline.specs.Object.{has_return, is_return, object_of, symbol_of, frame_of}
 use Rattle.a64_baseline.proofs.Leaving.{same_visible}
-use Rattle.a64_baseline.proofs.Numbering.{few_values, value_at_place, number_of}
+use Rattle.a64_baseline.proofs.Numbering.{few_values, value_at_place, number_of, stands_in}
 use Rattle.a64_baseline.proofs.Steps as steps
 use Rattle.a64_baseline.proofs.Arguments.{ArgumentsBelow}
 use Rattle.a64_baseline.proofs.Blocks.{Reaches, block_run, entry_run}
@@ -44,16 +49,17 @@ word_of_code [] k inst e = cc
 word_of_code (x ∷ xs) zero inst e = let same : x ≡ inst = cc in ap (λ i. Some (word i)) same
 word_of_code (x ∷ xs) (suc k) inst e = word_of_code xs k inst e
 
-setting : (p : Procedure) (m : MachineStart) → IsBuilt p → Places (object_of p) (symbol_of p) (frame_of p) m → Setting p (entry_of p m)
+setting : (p : Procedure) (m : MachineStart) → IsSupported p → Places (object_of p) (symbol_of p) (frame_of p) m → Setting p (entry_of p m)
 setting p m built placed = record {
   built = built;
   run = record {
+    no_sites = refl;
     text = word_of_code (code_of p);
     decodes = λ k inst there. decode-word inst (subst IsWellFormed (get_or_from_slice_get (code_of p) k inst inst there) (code_well_formed p built k inst (slice_get_within (code_of p) k inst there)));
     ends = omega (arith, placed.code_ends, length-map (code_of p) word);
     short = code_short p built;
   };
-  frame = record { bytes = refl; room = placed.room; small = placed.ranged.sp; few = omega (arith, few_values p built) };
+  frame = record { bytes = refl; room = placed.room; small = placed.ranged.sp; few = omega (arith, few_values p built); aligned = placed.aligned };
   wide = λ returns. rw returns refl;
   slots = refl;
   ranged = placed.ranged;
@@ -64,13 +70,30 @@ setting p m built placed = record {
 Alike : Procedure → Entry → b3.Config → Config → Type 0
 Alike p e (b3.At block bs) c = (block < length p.blocks) × (s : State) × (c ≡ Runs s) × steps.StandsAt e (places_of p) (slice_index (begins_of p) block) s × Holds p e bs s.memory
 Alike p e (b3.Over seen) c = c ≡ Stops seen
-Alike p e b3.Lost c = Unit {0}
+Alike p e (b3.Lost loss) c = Unit {0}
 
 reaches_alike : (p : Procedure) (e : Entry) (s : State) (n : ℕ) (config : b3.Config) → Reaches p e s n config → Alike p e config (iterate (machine_step e) n (Runs s))
 unfolding Alike
-reaches_alike p e s n (b3.At block bs) reaches = (reaches.0, reaches.1.after, reaches.1.ran, reaches.1.at, reaches.1.holds)
-reaches_alike p e s n (b3.Over seen) reaches = reaches
-reaches_alike p e s n b3.Lost reaches = tt
+reaches_alike p e s n (b3.At block bs) reaches = (reaches.0, reaches.1.after, reaches.1.ran.0, reaches.1.at, reaches.1.holds)
+reaches_alike p e s n (b3.Over seen) reaches = reaches.0
+reaches_alike p e s n (b3.Lost loss) reaches = tt
+
+-- and each moment of these steps is proper, but for a run that is lost
+abbrev pub IsProperFor : Entry → b3.Config → Config → Type 0
+IsProperFor e (b3.At block bs) c = IsProper e c
+IsProperFor e (b3.Over seen) c = IsProper e c
+IsProperFor e (b3.Lost loss) c = Unit {0}
+
+reaches_proper : (p : Procedure) (e : Entry) (s : State) (n : ℕ) (config : b3.Config) → Reaches p e s n config → (i : ℕ) → i < n → IsProperFor e config (iterate (machine_step e) i (Runs s))
+reaches_proper p e s n (b3.At block bs) reaches = reaches.1.ran.1
+reaches_proper p e s n (b3.Over seen) reaches = reaches.1
+reaches_proper p e s n (b3.Lost loss) reaches = λ i below. tt
+
+-- what is proper is so for any run
+proper_for : (e : Entry) (config : b3.Config) (c : Config) → IsProper e c → IsProperFor e config c
+proper_for e (b3.At block bs) c proper = proper
+proper_for e (b3.Over seen) c proper = proper
+proper_for e (b3.Lost loss) c proper = tt
 
 -- what is seen of related configurations is the same, where nothing is undefined
 alike_seen : (p : Procedure) (e : Entry) → Setting p e → (config : b3.Config) (c : Config) → Alike p e config c → (b3.observe config).status ≢ Undefined → observe e c ≡ b3.observe config
@@ -80,7 +103,7 @@ alike_seen p e set (b3.At block bs) c alike defined =
     let seen = same_visible e (places_of p) s.memory set.apart set.slots alike.3.frame in
     rw (alike.2, alike.3.no_events, alike.4.no_events, alike.4.seen, seen) refl
 alike_seen p e set (b3.Over seen) c alike defined = rw alike refl
-alike_seen p e set b3.Lost c alike defined = absurd (defined refl)
+alike_seen p e set (b3.Lost loss) c alike defined = absurd (defined refl)
 
 -- ---- the bounds
 block_within : (blocks : List (List Value)) (b : ℕ) → words_of_values (slice_index_or blocks b []) ≤ sum_by words_of_values blocks
@@ -93,21 +116,32 @@ code_some p = omega arith
 
 module _ (p : Procedure) (e : Entry) (set : Setting p e) where
   block_most : (b : ℕ) → length (entry_code p) + words_of_values (values_of p b) ≤ length (code_of p)
-  block_most b = omega (arith, code_size p set.built, block_within p.blocks b)
+  block_most b = omega (arith, code_size p set.built, block_within (values_by_block p) b, ap words_of_values (values_are p b))
 
   -- one block step
   one_step : (config : b3.Config) (c : Config) → Alike p e config c
-      → (j : ℕ) × (j ≤ 2 * length (code_of p)) × (j ≡ 0 → 0 < 0) × Alike p e (b3.block_step p (b3_start e) config) (iterate (machine_step e) j c)
+      → (j : ℕ) × (j ≤ 2 * length (code_of p)) × (j ≡ 0 → 0 < 0) × ((i : ℕ) → i < j → IsProperFor e (b3.block_step p (b3_start e) config) (iterate (machine_step e) i c)) × Alike p e (b3.block_step p (b3_start e) config) (iterate (machine_step e) j c)
   unfolding Alike
   one_step (b3.At block bs) c alike =
-      let comes = block_run p e set block bs alike.1 alike.0 alike.3 alike.4 in (
+      let comes = block_run p e set block bs alike.1 alike.0 alike.3 alike.4 in
+      let after = b3.run_values (type_of p) (b3_start e) (values_of p block) bs in (
         comes.0,
         omega (arith, comes.2, block_most block),
         (λ none. omega (arith, comes.1)),
-        subst (λ x. Alike p e (b3.run_values (b3_start e) (values_of p block) bs) (iterate (machine_step e) comes.0 x)) (sym alike.2) (reaches_alike p e alike.1 comes.0 (b3.run_values (b3_start e) (values_of p block) bs) comes.3),
+        subst (λ x. (i : ℕ) → i < comes.0 → IsProperFor e after (iterate (machine_step e) i x)) (sym alike.2) (reaches_proper p e alike.1 comes.0 after comes.3),
+        subst (λ x. Alike p e after (iterate (machine_step e) comes.0 x)) (sym alike.2) (reaches_alike p e alike.1 comes.0 after comes.3),
       )
-  one_step (b3.Over seen) c alike = (1, omega (arith, code_some p), (λ none. omega arith), ap (iterate (machine_step e) 1) alike ∙ iterate-one (machine_step e) (Stops seen))
-  one_step b3.Lost c alike = (1, omega (arith, code_some p), (λ none. omega arith), tt)
+  one_step (b3.Over seen) c alike = (
+    1,
+    omega (arith, code_some p),
+    (λ none. omega arith),
+    (λ i below. let first : iterate (machine_step e) i c ≡ Stops seen = ap (λ n. iterate (machine_step e) n c) (zero_of i below) ∙ iterate-zero (machine_step e) c ∙ alike in subst (IsProper e) (sym first) tt),
+    ap (iterate (machine_step e) 1) alike ∙ iterate-one (machine_step e) (Stops seen),
+  )
+    where
+      zero_of : (i : ℕ) → i < 1 → i ≡ 0
+      zero_of i below = omega arith
+  one_step (b3.Lost loss) c alike = (1, omega (arith, code_some p), (λ none. omega arith), (λ i below. tt), tt)
 
   -- nothing has a word yet
   first_holds : (s : State) (answers : List Answer) → ((j : ℕ) (v : Value) → StandsAt p 0 j v → j < length (values_of p 0)) → ArgumentsBelow p e (length (values_of p 0)) s.memory
@@ -122,20 +156,24 @@ module _ (p : Procedure) (e : Entry) (set : Setting p e) where
 
   -- the first block step
   first_step : (answers : List Answer) → e.symbol.offset ≡ 0
-      → (j : ℕ) × (1 ≤ j) × (j ≤ 2 * length (code_of p)) × Alike p e (b3.block_step p (b3_start e) (b3.first (b3_start e) answers)) (iterate (machine_step e) j (first e answers))
+      → (j : ℕ) × (1 ≤ j) × (j ≤ 2 * length (code_of p)) × ((i : ℕ) → i < j → IsProperFor e (b3.block_step p (b3_start e) (b3.first (b3_start e) answers)) (iterate (machine_step e) i (first e answers)))
+      × Alike p e (b3.block_step p (b3_start e) (b3.first (b3_start e) answers)) (iterate (machine_step e) j (first e answers))
   first_step answers offset =
       let entered = entry_run p e set answers offset in
       let s = entered.0 in
       let bs : b3.State = record { words = λ _. None; locations = λ _. None; memory = (b3_start e).memory; events = []; answers = answers } in
+      let after = b3.run_values (type_of p) (b3_start e) (values_of p 0) bs in
       let comes = block_run p e set 0 bs s (omega (arith, set.built.shape.some)) entered.2 (first_holds s answers (λ j v there. slice_get_within (values_of p 0) j v there) entered.3) in
-      let joined : iterate (machine_step e) (length (entry_code p) + comes.0) (first e answers) ≡ iterate (machine_step e) comes.0 (Runs s) = iterate-add (machine_step e) (length (entry_code p)) comes.0 (first e answers) ∙ ap (iterate (machine_step e) comes.0) entered.1 in (
+      let joined : iterate (machine_step e) (length (entry_code p) + comes.0) (first e answers) ≡ iterate (machine_step e) comes.0 (Runs s) = iterate-add (machine_step e) (length (entry_code p)) comes.0 (first e answers) ∙ ap (iterate (machine_step e) comes.0) entered.1.0 in (
         length (entry_code p) + comes.0,
         omega (arith, comes.1),
         omega (arith, comes.2, block_most 0),
-        subst (Alike p e (b3.run_values (b3_start e) (values_of p 0) bs)) (sym joined) (reaches_alike p e s comes.0 (b3.run_values (b3_start e) (values_of p 0) bs) comes.3),
+        moments_joined (machine_step e) (IsProperFor e after) (length (entry_code p)) comes.0 (first e answers) (λ i below. proper_for e after (iterate (machine_step e) i (first e answers)) (entered.1.1 i below))
+            (λ i below. subst (λ x. IsProperFor e after (iterate (machine_step e) i x)) (sym entered.1.0) (reaches_proper p e s comes.0 after comes.3 i below)),
+        subst (Alike p e after) (sym joined) (reaches_alike p e s comes.0 after comes.3),
       )
 
-  simulates : (answers : List Answer) → e.symbol.offset ≡ 0 → SimulatesFrom (b3.block_step p (b3_start e)) (machine_step e) (Alike p e) (λ _. 0) 1 (2 * length (code_of p)) (b3.first (b3_start e) answers) (first e answers)
+  simulates : (answers : List Answer) → e.symbol.offset ≡ 0 → SimulatesFrom (b3.block_step p (b3_start e)) (machine_step e) (Alike p e) (IsProperFor e) (λ _. 0) 1 (2 * length (code_of p)) (b3.first (b3_start e) answers) (first e answers)
   simulates answers offset = record {
     first = first_step answers offset;
     onward = record { below = λ a s r. omega arith; step = one_step };
@@ -145,36 +183,59 @@ module _ (p : Procedure) (e : Entry) (set : Setting p e) where
 words_counted : (p : Procedure) → word_count (symbol_of p) ≡ length (code_of p)
 words_counted p = omega (arith, length-map (code_of p) word)
 
-twice : (n w v : ℕ) → v ≡ w → n * (2 * w) ≡ 2 * n * v
-twice n w v e = rw e (grind arith)
+same_count : (n w v : ℕ) → v ≡ w → n * (2 * w) ≡ n * (2 * v)
+same_count n w v e = rw e refl
 
 fewer : (n b k : ℕ) → 1 ≤ b → n / 1 ≤ k → n / b ≤ k
 fewer n b k some le = let whole : n / 1 ≡ n = omega arith in omega (arith, div-le_self n b)
 
+-- a run that was lost stays so
+lost_stays : (p : Procedure) (e : Entry) (m n : ℕ) (config : b3.Config) (loss : b3.Loss) → m ≤ n → iterate (b3.block_step p (b3_start e)) m config ≡ b3.Lost loss → iterate (b3.block_step p (b3_start e)) n config ≡ b3.Lost loss
+lost_stays p e m n config loss le lost = iterate-stays (b3.block_step p (b3_start e)) m n config le (ap (b3.block_step p (b3_start e)) lost ∙ sym lost) ∙ lost
+
+-- so where it isn't lost after n steps, what is proper for a run of fewer is proper
+proper_by : (e : Entry) (config : b3.Config) (c : Config) → ((loss : b3.Loss) → config ≡ b3.Lost loss → ⊥) → IsProperFor e config c → IsProper e c
+proper_by e (b3.At block bs) c kept proper = proper
+proper_by e (b3.Over seen) c kept proper = proper
+proper_by e (b3.Lost loss) c kept proper = absurd (kept loss refl)
+
 AlikeAt : Procedure → MachineStart → List Answer → ℕ → Type 0
-AlikeAt p m answers n = (k : ℕ) × (n / length p.blocks ≤ k) × (k ≤ 2 * n * word_count (symbol_of p)) × (machine_run (entry_of p m) answers k ≡ b3.b3_run p (b3_start (entry_of p m)) answers n)
+AlikeAt p m answers n = Follows {J = Unit {0}} {K = Unit {0}} (λ _. b3.b3_run p (b3_start (entry_of p m)) answers) (λ _. machine_run (entry_of p m) answers)
+    (λ _ moment. IsProper (entry_of p m) (run_of (entry_of p m) answers moment)) (length p.blocks) (2 * word_count (symbol_of p)) tt n
 
 alike_at : (p : Procedure) (m : MachineStart) (answers : List Answer) (n : ℕ) → Setting p (entry_of p m) → (b3.b3_run p (b3_start (entry_of p m)) answers n).status ≢ Undefined → AlikeAt p m answers n
 unfolding AlikeAt
 alike_at p m answers zero set defined =
-    let e = entry_of p m in (
-      0,
-      fewer 0 (length p.blocks) 0 set.built.shape.some (omega arith),
-      omega arith,
-      ap (observe e) (iterate-zero (machine_step e) (first e answers)) ∙ sym (ap b3.observe (iterate-zero (b3.block_step p (b3_start e)) (b3.first (b3_start e) answers))),
-    )
+    let e = entry_of p m in
+    record {
+      choice = tt;
+      steps = 0;
+      least = fewer 0 (length p.blocks) 0 set.built.shape.some (omega arith);
+      most = omega arith;
+      same = ap (observe e) (iterate-zero (machine_step e) (first e answers)) ∙ sym (ap b3.observe (iterate-zero (b3.block_step p (b3_start e)) (b3.first (b3_start e) answers)));
+      proper = λ moment below. absurd (omega arith);
+    }
 alike_at p m answers (suc n) set defined =
     let e = entry_of p m in
-    let r = run_simulated_from (b3.block_step p (b3_start e)) (machine_step e) (Alike p e) (λ _. 0) 1 (2 * length (code_of p)) (b3.first (b3_start e) answers) (first e answers) (simulates p e set answers refl) (suc n) (omega arith) in (
-      r.0,
-      fewer (suc n) (length p.blocks) r.0 set.built.shape.some r.1,
-      subst (λ d. r.0 ≤ d) (twice (suc n) (length (code_of p)) (word_count (symbol_of p)) (words_counted p)) r.2,
-      alike_seen p e set (iterate (b3.block_step p (b3_start e)) (suc n) (b3.first (b3_start e) answers)) (iterate (machine_step e) r.0 (first e answers)) r.3 defined,
-    )
+    let up = b3.block_step p (b3_start e) in
+    let from = b3.first (b3_start e) answers in
+    let r = run_simulated_from (b3.block_step p (b3_start e)) (machine_step e) (Alike p e) (IsProperFor e) (λ _. 0) 1 (2 * length (code_of p)) (b3.first (b3_start e) answers) (first e answers) (simulates p e set answers refl) (suc n) (omega arith) in
+    record {
+      choice = tt;
+      steps = r.0;
+      least = fewer (suc n) (length p.blocks) r.0 set.built.shape.some r.1;
+      most = subst (λ d. r.0 ≤ d) (same_count (suc n) (length (code_of p)) (word_count (symbol_of p)) (words_counted p)) r.2;
+      same = alike_seen p e set (iterate (b3.block_step p (b3_start e)) (suc n) (b3.first (b3_start e) answers)) (iterate (machine_step e) r.0 (first e answers)) r.4 defined;
+      proper = λ moment below.
+          let passes = r.3 moment below in
+          proper_by e (iterate (b3.block_step p (b3_start e)) passes.0 (b3.first (b3_start e) answers)) (iterate (machine_step e) moment (first e answers))
+          (λ loss lost. defined (ap (λ (config : b3.Config). (b3.observe config).status) (lost_stays p e passes.0 (suc n) (b3.first (b3_start e) answers) loss passes.1 lost)))
+          passes.2;
+    }
 
-runs_alike : (p : Procedure) → IsBuilt p → RunsAlike p (object_of p) (symbol_of p) (frame_of p)
+runs_alike : (p : Procedure) → IsSupported p → (m : MachineStart) (answers : List Answer) → Places (object_of p) (symbol_of p) (frame_of p) m → AgreesFrom p (object_of p) (symbol_of p) (frame_of p) m answers
 unfolding AlikeAt
-runs_alike p built = record { steps = λ m answers n placed ranged defined. alike_at p m answers n (setting p m built placed) defined }
+runs_alike p built m answers placed = record { alike = λ junk n defined. alike_at p m answers n (setting p m built placed) (defined tt) }
 
 -- ---- what is returned
 returns_by : (some : Bool) → (if some then W64 else Nothing) ≡ W64 → some ≡ true
@@ -205,28 +266,28 @@ block_at (ws ∷ blocks) (suc b) vs e = block_at blocks b vs e
 wide_returns : (p : Procedure) → (frame_of p).returns ≡ W64 → has_return p ≡ true
 wide_returns p e = returns_by (has_return p) e
 
-returns_wide : (p : Procedure) → IsBuilt p → has_return p ≡ true → ReturnsType p Int64
+returns_wide : (p : Procedure) → IsSupported p → has_return p ≡ true → ReturnsType p Int64
 returns_wide p built some =
-    let block = any_found (λ vs. list_any (λ (w : Value). is_return w.kind.opcode) vs) p.blocks some in
+    let block = any_found (λ vs. list_any (λ (w : Value). is_return w.kind.opcode) vs) (values_by_block p) some in
     let value = any_found (λ (w : Value). is_return w.kind.opcode) block.1 block.3 in
     let b = block.0 in
     let j = value.0 in
     let v = value.1 in
-    let there : StandsAt p b j v = subst (λ vs. slice_get vs j ≡ Some v) (sym (block_at p.blocks b block.1 block.2)) value.2 in
+    let there : StandsAt p b j v = stands_in p b j v (subst (λ vs. slice_get vs j ≡ Some v) (sym (block_at (values_by_block p) b block.1 block.2)) value.2) in
     let op : v.kind.opcode ≡ Return = is_a_return v.kind.opcode value.3 in
-    let is = (value_at_place p built.shape b j v there).1 in
+    let is = value_at_place p built.shape b j v there in
     let form = subst (λ o. IsFormOf o (number_of p b j) v.ty v.children v.body) op is.form in
     let child = form.1.0 in
     let named = built.rules b j v there in
     let one = subst (λ cs. All (IsChildAt p b j) cs) form.1.1 named.children 0 0 (omega arith) in
     (b, j, v, child, one.0, one.1, one.2, there, op, form.1.1, one.3, one.4, one.5)
 
-pub agrees : (p : Procedure) → IsBuilt p → Agrees p (object_of p) (symbol_of p) (frame_of p)
+pub agrees : (p : Procedure) → IsSupported p → Agrees p (object_of p) (symbol_of p) (frame_of p)
 agrees p built = record {
-  runs = runs_alike p built;
+  runs = λ m answers placed ranged. runs_alike p built m answers placed;
   returns_32 = λ e. absurd (never_narrow (has_return p) e);
   returns_64 = λ e. returns_wide p built (wide_returns p e);
-  slots = sym built.shape.slots;
+  slots = sym (ap (map (λ (slot : SlotLine). slot.bytes)) built.shape.slots);
   words = omega (arith, words_counted p, code_length p built);
   bytes = omega arith;
 }

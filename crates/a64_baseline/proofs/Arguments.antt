@@ -2,8 +2,8 @@
 use Rattle.std.proofs.Common.{◌≡◌, ◌≢◌, ℕ, suc, ◌+◌, ◌<◌, ◌≤◌, ◌⊎◌, inl, inr, List, [], ◌∷◌, ◌++◌, Some, length, refl, sym, ap, ◌∙◌, subst, arith, ⊎_elim, length-append}
 use Rattle.std.specs.Prelude.{slice_get}
 use Rattle.b3_base.specs.Memory.{write_word}
-use Rattle.b3_ir.specs.Procedure.{Procedure}
-use Rattle.b3_ir.specs.Built.{StandsAt}
+use Rattle.b3_ir.specs.Procedure.{Procedure, values_by_block}
+use Rattle.b3_ir.specs.Procedure.{StandsAt}
 use Rattle.b3_ir.specs.Shape.{IsFormOf, IsArgumentBody}
 use Rattle.b3_ir.specs.declared.opcode.Opcode.{Opcode}
 use Rattle.b3_ir.specs.declared.opcode.Opcode.TheVariants.{ArgumentReg}
@@ -11,7 +11,7 @@ use Rattle.b3_ir.specs.declared.value.Body.{Body}
 use Rattle.b3_ir.specs.declared.value.Body.TheVariants.{Argument}
 use Rattle.b3_ir.specs.declared.value.Reg.{Reg}
 use Rattle.b3_ir.specs.declared.value.Value.{Value}
-use Rattle.b3_meaning.specs.Observed.{Memory}
+use Rattle.b3_base.specs.Observed.{Memory}
 use Rattle.a64_inst.specs.declared.inst.Inst.{Inst}
 use Rattle.a64_run.specs.Machine.{Entry, State, Runs}
 use Rattle.b3_ir.proofs.Numbering.{first_zero}
@@ -58,8 +58,8 @@ module _ (p : Procedure) (e : Entry) (set : Setting p e) where
   argument_place j v reg there op body =
       let is = value_at_place p set.built.shape 0 j v there in
       let lt = has_place p set.built.shape 0 j v there (rw op refl) in
-      let form = subst (λ o. IsFormOf o (number_of p 0 j) v.ty v.children v.body) op is.1.form in
-      (omega (arith, first_zero p.blocks), argument_below v.body reg body form.2)
+      let form = subst (λ o. IsFormOf o (number_of p 0 j) v.ty v.children v.body) op is.form in
+      (omega (arith, first_zero (values_by_block p)), argument_below v.body reg body form.2)
 
   -- one more argument
   one_more : (memory : Memory) (j : ℕ) (v : Value) (reg : Reg) → StandsAt p 0 j v → v.kind.opcode ≡ ArgumentReg → v.body ≡ Argument reg → ArgumentsBelow p e j memory
@@ -121,7 +121,7 @@ module _ (p : Procedure) (e : Entry) (set : Setting p e) where
       (subst (ArgumentsBelow p e (j + 1)) (sym step.memory_is) (one_more s.memory j v is.0 here is.1 is.2 below)) in
       record {
         after = more.after;
-        ran = ran_same e (length one + length rest) (suc (length rest)) (Runs s) (Runs more.after) (omega (arith, len)) (ran_more e (length rest) (Runs s) (Runs step.after) (Runs more.after) step.step more.ran);
+        ran = ran_same e (length one + length rest) (suc (length rest)) (Runs s) (Runs more.after) (omega (arith, len)) (ran_more e (length rest) s (Runs step.after) (Runs more.after) step.step more.ran);
         at = subst (λ n. steps.StandsAt e (places_of p) n more.after) (omega (arith, len)) more.at;
         arguments = more.arguments;
       })

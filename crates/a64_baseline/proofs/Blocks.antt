@@ -2,18 +2,19 @@
 use Rattle.std.proofs.Common.{◌≡◌, ℕ, zero, suc, ◌+◌, ◌-◌, ◌<◌, ◌≤◌, Bool, true, false, List, [], ◌∷◌, Some, length, refl, sym, ap, ◌∙◌, subst, arith, length-append}
 use Rattle.std.specs.Prelude.{slice_get, slice_index, slice_index_or, ◌||◌}
 use Rattle.std.specs.List.{list_any}
-use Rattle.b3_ir.specs.Procedure.{Procedure, values_of}
-use Rattle.b3_ir.specs.Shape.{AreValuesAt, EndsBlock, is_terminal, line_count}
-use Rattle.b3_ir.specs.Built.{StandsAt}
+use Rattle.b3_ir.specs.Naming.{type_of}
+use Rattle.b3_ir.specs.Procedure.{Procedure, values_by_block, values_of}
+use Rattle.b3_ir.specs.Shape.{AreValuesFrom, EndsBlock, is_terminal}
+use Rattle.b3_ir.specs.Procedure.{StandsAt}
 use Rattle.b3_ir.specs.declared.opcode.Opcode.TheVariants.{Return}
 use Rattle.b3_ir.specs.declared.value.Value.{Value}
-use Rattle.b3_meaning.specs.Observed.{Answer}
+use Rattle.b3_base.specs.Observed.{Answer}
 use Rattle.b3_meaning.specs.Run as b3
 use Rattle.a64_run.specs.Machine.{Entry, State, Runs, Stops, first}
 use Rattle.a64_baseline.specs.Code.{places_of, prologue, argument_stores, entry_code, code_of, begins_of, size_of, words_of_values, value_code, values_code}
 use Rattle.a64_baseline.specs.Object.{has_return, is_return}
 use Rattle.a64_baseline.proofs.Machine.{Stands, Ran, ran_both, ran_same}
-use Rattle.b3_ir.proofs.Numbering.{in_blocks}
+use Rattle.b3_ir.proofs.Numbering.{blocks_are, in_blocks, values_are}
 use Rattle.a64_baseline.proofs.Pieces.{Spans}
 use Rattle.a64_baseline.proofs.Begins as begins
 use Rattle.a64_baseline.proofs.Begins.{spans_front, spans_behind, first_stands, words_some, values_of_block}
@@ -45,14 +46,15 @@ block_of (vs ∷ blocks) (suc b) lt = block_of blocks b (omega arith)
 
 pub returns_there : (p : Procedure) (b j : ℕ) (v : Value) → StandsAt p b j v → v.kind.opcode ≡ Return → has_return p ≡ true
 returns_there p b j v there op =
-    any_there (λ vs. list_any (λ (w : Value). is_return w.kind.opcode) vs) p.blocks b (values_of p b) (block_of p.blocks b (in_blocks p b j v there))
+    any_there (λ vs. list_any (λ (w : Value). is_return w.kind.opcode) vs) (values_by_block p) b (values_of p b)
+    (block_of (values_by_block p) b (omega (arith, in_blocks p b j v there, blocks_are p)) ∙ ap (λ (vs : List Value). Some vs) (values_are p b))
     (any_there (λ (w : Value). is_return w.kind.opcode) (values_of p b) j v there (ap is_return op))
 
 -- ---- what the steps for a block come to
 abbrev pub Reaches : Procedure → Entry → State → ℕ → b3.Config → Type 0
 Reaches p e s n (b3.At block bs) = (block < length p.blocks) × Follows p e s n (slice_index (begins_of p) block) bs
 Reaches p e s n (b3.Over seen) = Ran e n (Runs s) (Stops seen)
-Reaches p e s n b3.Lost = Unit {0}
+Reaches p e s n (b3.Lost loss) = Unit {0}
 
 -- some steps, at most so many, that come to what the B3 run does
 abbrev pub Comes : Procedure → Entry → State → ℕ → b3.Config → Type 0
@@ -62,7 +64,7 @@ Comes p e s most config = (n : ℕ) × (1 ≤ n) × (n ≤ most) × Reaches p e 
 reaches_after : (p : Procedure) (e : Entry) (s s' : State) (m n : ℕ) (config : b3.Config) → Ran e m (Runs s) (Runs s') → Reaches p e s' n config → Reaches p e s (m + n) config
 reaches_after p e s s' m n (b3.At block bs) ran reaches = (reaches.0, record { after = reaches.1.after; ran = ran_both e m n (Runs s) (Runs s') (Runs reaches.1.after) ran reaches.1.ran; at = reaches.1.at; holds = reaches.1.holds })
 reaches_after p e s s' m n (b3.Over seen) ran reaches = ran_both e m n (Runs s) (Runs s') (Stops seen) ran reaches
-reaches_after p e s s' m n b3.Lost ran reaches = tt
+reaches_after p e s s' m n (b3.Lost loss) ran reaches = tt
 
 -- after a value: what it comes to, or what the next ones do
 comes_on : (p : Procedure) (e : Entry) (s : State) (h size most : ℕ) (x : b3.Effect) (others : b3.State → b3.Config) → 1 ≤ most → size ≤ most → Does p e s h size x → ((bs : b3.State) → Follows p e s size (h + size) bs → Comes p e s most (others bs)) → Comes p e s most (b3.after x others)
@@ -70,51 +72,51 @@ comes_on p e s h size most (b3.Next bs) others some le does more = more bs does
 comes_on p e s h size most (b3.To block bs) others some le does more = (does.0, does.1, omega (arith, does.2), (does.3, does.4))
 comes_on p e s h size most (b3.End (b3.At block bs)) others some le does more = absurd does
 comes_on p e s h size most (b3.End (b3.Over seen)) others some le does more = (size, does.0, le, does.1)
-comes_on p e s h size most (b3.End b3.Lost) others some le does more = (most, some, omega arith, tt)
+comes_on p e s h size most (b3.End (b3.Lost loss)) others some le does more = (most, some, omega arith, tt)
 
 module _ (p : Procedure) (e : Entry) (set : Setting p e) where
   -- a value with its code, where the code of its block stands
-  here_first : (b j h k row : ℕ) (v : Value) (vs : List Value) → StandsAt p b j v → Spans (code_of p) h (values_code (begins_of p) (places_of p) h (v ∷ vs)) → (is_terminal v.kind.opcode ≡ false → Stands (code_of p) (h + size_of v.kind.opcode)) → IsHere p b j h v
-  here_first b j h k row v vs there spans next = record {
+  here_first : (b j h k : ℕ) (v : Value) (vs : List Value) → StandsAt p b j v → Spans (code_of p) h (values_code (begins_of p) (places_of p) h (v ∷ vs)) → (is_terminal v.kind.opcode ≡ false → Stands (code_of p) (h + size_of v.kind.opcode)) → IsHere p b j h v
+  here_first b j h k v vs there spans next = record {
     there = there;
     code = spans_front (code_of p) h (value_code (begins_of p) (places_of p) h v) (values_code (begins_of p) (places_of p) (h + size_of v.kind.opcode) vs) spans;
     next = next;
   }
 
-  values_run : (vs : List Value) (b j h k row : ℕ) (bs : b3.State) (s : State) → AreValuesAt k row vs → EndsBlock vs → ((i : ℕ) (v : Value) → slice_get vs i ≡ Some v → StandsAt p b (j + i) v)
+  values_run : (vs : List Value) (b j h k : ℕ) (bs : b3.State) (s : State) → AreValuesFrom k vs → EndsBlock vs → ((i : ℕ) (v : Value) → slice_get vs i ≡ Some v → StandsAt p b (j + i) v)
       → Spans (code_of p) h (values_code (begins_of p) (places_of p) h vs) → steps.StandsAt e (places_of p) h s → Holds p e bs s.memory
-      → Comes p e s (words_of_values vs) (b3.run_values (b3_start e) vs bs)
-  values_run [] b j h k row bs s are ends there spans at holds = absurd ends
-  values_run (v ∷ []) b j h k row bs s are ends there spans at holds =
+      → Comes p e s (words_of_values vs) (b3.run_values (type_of p) (b3_start e) vs bs)
+  values_run [] b j h k bs s are ends there spans at holds = absurd ends
+  values_run (v ∷ []) b j h k bs s are ends there spans at holds =
       let here : StandsAt p b j v = subst (λ n. StandsAt p b n v) (omega arith) (there 0 v refl) in
-      let is = here_first b j h k row v [] here spans (λ other. let bad : true ≡ false = sym ends ∙ other in cc) in
+      let is = here_first b j h k v [] here spans (λ other. let bad : true ≡ false = sym ends ∙ other in cc) in
       let does = value_does p e set (begins.begin_stands p set.built) b j h v is bs s at holds (returns_there p b j v here) in
-      let some = words_some k row (v ∷ []) are ends in
-      comes_on p e s h (size_of v.kind.opcode) (words_of_values (v ∷ [])) (b3.effect (b3_start e) bs v) (b3.run_values (b3_start e) []) some (omega (arith, words_cons v [])) does
+      let some = words_some k (v ∷ []) are ends in
+      comes_on p e s h (size_of v.kind.opcode) (words_of_values (v ∷ [])) (b3.effect (type_of p) (b3_start e) bs v) (b3.run_values (type_of p) (b3_start e) []) some (omega (arith, words_cons v [])) does
       (λ bs' follows. (words_of_values (v ∷ []), some, omega arith, tt))
-  values_run (v ∷ w ∷ vs) b j h k row bs s are ends there spans at holds =
+  values_run (v ∷ w ∷ vs) b j h k bs s are ends there spans at holds =
       let here : StandsAt p b j v = subst (λ n. StandsAt p b n v) (omega arith) (there 0 v refl) in
       let behind : (i : ℕ) (x : Value) → slice_get (w ∷ vs) i ≡ Some x → StandsAt p b (j + 1 + i) x = λ i x e1. subst (λ n. StandsAt p b n x) (omega arith) (there (suc i) x e1) in
-      let size : length (value_code (begins_of p) (places_of p) h v) ≡ size_of v.kind.opcode = value_size (begins_of p) (places_of p) h k v row are.0 in
+      let size : length (value_code (begins_of p) (places_of p) h v) ≡ size_of v.kind.opcode = value_size (begins_of p) (places_of p) h k v are.0 in
       let h' : ℕ = h + size_of v.kind.opcode in
       let tail : Spans (code_of p) h' (values_code (begins_of p) (places_of p) h' (w ∷ vs)) =
       spans_behind (code_of p) h (size_of v.kind.opcode) (value_code (begins_of p) (places_of p) h v) (values_code (begins_of p) (places_of p) h' (w ∷ vs)) spans size in
-      let more_words = words_some (k + 1) (row + line_count v.body) (w ∷ vs) are.1 ends.1 in
-      let next : Stands (code_of p) h' = first_stands (code_of p) h' (values_code (begins_of p) (places_of p) h' (w ∷ vs)) tail (omega (arith, more_words, values_size (begins_of p) (places_of p) h' (k + 1) (row + line_count v.body) (w ∷ vs) are.1)) in
-      let is = here_first b j h k row v (w ∷ vs) here spans (λ other. next) in
+      let more_words = words_some (k + 1) (w ∷ vs) are.1 ends.1 in
+      let next : Stands (code_of p) h' = first_stands (code_of p) h' (values_code (begins_of p) (places_of p) h' (w ∷ vs)) tail (omega (arith, more_words, values_size (begins_of p) (places_of p) h' (k + 1) (w ∷ vs) are.1)) in
+      let is = here_first b j h k v (w ∷ vs) here spans (λ other. next) in
       let does = value_does p e set (begins.begin_stands p set.built) b j h v is bs s at holds (returns_there p b j v here) in
       let total = words_cons v (w ∷ vs) in
-      comes_on p e s h (size_of v.kind.opcode) (words_of_values (v ∷ w ∷ vs)) (b3.effect (b3_start e) bs v) (b3.run_values (b3_start e) (w ∷ vs)) (omega (arith, more_words, total)) (omega (arith, total)) does
+      comes_on p e s h (size_of v.kind.opcode) (words_of_values (v ∷ w ∷ vs)) (b3.effect (type_of p) (b3_start e) bs v) (b3.run_values (type_of p) (b3_start e) (w ∷ vs)) (omega (arith, more_words, total)) (omega (arith, total)) does
       (λ bs' follows.
-      let more = values_run (w ∷ vs) b (j + 1) h' (k + 1) (row + line_count v.body) bs' follows.after are.1 ends.1 behind tail follows.at follows.holds in
-      (size_of v.kind.opcode + more.0, omega (arith, more.1), omega (arith, more.2, total), reaches_after p e s follows.after (size_of v.kind.opcode) more.0 (b3.run_values (b3_start e) (w ∷ vs) bs') follows.ran more.3))
+      let more = values_run (w ∷ vs) b (j + 1) h' (k + 1) bs' follows.after are.1 ends.1 behind tail follows.at follows.holds in
+      (size_of v.kind.opcode + more.0, omega (arith, more.1), omega (arith, more.2, total), reaches_after p e s follows.after (size_of v.kind.opcode) more.0 (b3.run_values (type_of p) (b3_start e) (w ∷ vs) bs') follows.ran more.3))
 
   -- a whole block
   pub block_run : (b : ℕ) (bs : b3.State) (s : State) → b < length p.blocks → steps.StandsAt e (places_of p) (slice_index (begins_of p) b) s → Holds p e bs s.memory
-      → Comes p e s (words_of_values (values_of p b)) (b3.run_values (b3_start e) (values_of p b) bs)
+      → Comes p e s (words_of_values (values_of p b)) (b3.run_values (type_of p) (b3_start e) (values_of p b) bs)
   block_run b bs s lt at holds =
-      let are = values_of_block 0 2 p.blocks set.built.shape.blocks b lt in
-      values_run (values_of p b) b 0 (slice_index (begins_of p) b) are.0 are.1 bs s are.2 are.3 (λ i v e1. subst (λ n. StandsAt p b n v) (omega arith) e1) (begins.block_at p set.built b lt) at holds
+      let are = values_of_block p set.built.shape b lt in
+      values_run (values_of p b) b 0 (slice_index (begins_of p) b) are.0 bs s are.1 are.2 (λ i v e1. subst (λ n. StandsAt p b n v) (omega arith) e1) (begins.block_at p set.built b lt) at holds
 
   -- the entry: from the start to block 0
   pub entry_run : (answers : List Answer) → e.symbol.offset ≡ 0

@@ -6,15 +6,17 @@ use Rattle.std.proofs.lemmas.Bool.Decides.{nat_tests}
 use Rattle.b3_base.specs.Memory.{byte_address, is_mapped, write_word, AreApart}
 use Rattle.b3_base.proofs.MemoryLaws.{is_mapped_all, write_word_keeps}
 use Rattle.b3_base.proofs.WordLaws.{write_word_other, read-write_apart}
-use Rattle.b3_meaning.specs.Observed.{Memory, Answer, IsRangedMachineStart}
-use Rattle.a64_inst.specs.Step.{Registers, step_of, moved_sp, goes_on, put, store_pair, add_sub_imm}
+use Rattle.b3_base.specs.Observed.{Memory, Answer}
+use Rattle.b3_base.specs.Ranged.{IsRangedMachineStart}
+use Rattle.a64_run.specs.Moments.{registers_next}
+use Rattle.a64_inst.specs.Step.{Registers, Stepped, step_of, moved_sp, goes_on, put, store_pair, add_sub_imm}
 use Rattle.a64_inst.specs.declared.inst.Inst.{Inst}
 use Rattle.a64_inst.specs.declared.inst.Inst.TheVariants.{PairSp}
 use Rattle.a64_run.specs.Placement.{in_frame, entry_memory}
 use Rattle.a64_run.specs.Machine.{Entry, State, Runs, touches_empty_at, first}
 use Rattle.a64_run.proofs.Steps.{touches_none}
 use Rattle.a64_baseline.specs.Code.{adjust, prologue}
-use Rattle.a64_baseline.proofs.Machine.{RunsCode, Stands, StepTo, Ran, chain_2, chain_3, goes_to_next, ran_more, ran_none}
+use Rattle.a64_baseline.proofs.Machine.{RunsCode, Stands, StepTo, Ran, chain_2, chain_3, goes_to_next, ran_more, ran_none, touches_above_after, touches_nothing}
 use Rattle.a64_baseline.proofs.Frame.{HasFrame, KeepsFrame, low_of, stored_word}
 use Rattle.a64_baseline.proofs.Steps.{StandsAt, set_x, set_other, set_same}
 use Rattle.a64_baseline.proofs.Pieces.{Spans}
@@ -41,6 +43,12 @@ copies r m small = ap (λ (a : ℕ). goes_on (put r 29 a) m) (same_word r.sp sma
 lowers : (r : Registers) (m : Memory) (b : ℕ) → r.sp < 2 ^ 64 → b ≤ r.sp → step_of (adjust true 31 31 b) r m ≡ goes_on (record r { sp = r.sp - b }) m
 unfolding step_of add_sub_imm
 lowers r m b small le = ap (λ (a : ℕ). goes_on (record r { sp = a }) m) (difference r.sp b small le)
+
+pub less_aligned : (sp : ℕ) → sp % 16 ≡ 0 → 16 ≤ sp → (sp - 16) % 16 ≡ 0
+less_aligned sp aligned le = omega arith
+
+pub low_byte : (sp i : ℕ) → 16 ≤ sp → sp < 2 ^ 64 → i < 16 → sp - 16 ≤ byte_address (sp - 16) i
+low_byte sp i le small lt = omega arith
 
 -- ---- bytes of the frame
 frame_byte : (sp room up i n : ℕ) → 16 ≤ room → room ≤ sp → sp < 2 ^ 64 → up ≤ 16 → n ≤ up → i < n → (nat_le (sp - room) (byte_address (sp - up) i) && nat_lt (byte_address (sp - up) i) (sp - room + room)) ≡ true
@@ -104,6 +112,10 @@ module _ (e : Entry) (code : List Inst) (places : ℕ) (run : RunsCode e code) (
     inside = saved_inside;
   }
 
+  -- ---- SP
+  saves_sp : (s : State) → moved_sp s.registers.sp (negsuc 1) ≡ e.start.sp - 16 → byte_address (e.start.sp - 16) 8 ≡ e.start.sp - 8 → is_mapped s.memory (e.start.sp - 16) 16 ≡ true → (registers_next s (PairSp false 29 30 (negsuc 1))).sp ≡ e.start.sp - 16
+  saves_sp s down above mapped = ap (λ (t : Stepped). t.registers.sp) (saves s.registers s.memory (e.start.sp - 16) (e.start.sp - 8) down above mapped)
+
   -- ---- the three steps
   first_step : (s : State) → Spans code 0 (prologue places) → s.registers.pc ≡ e.start.code + 4 * 0 → s.registers.x ≡ e.start.registers → s.registers.sp ≡ e.start.sp → s.memory ≡ entry_memory e.frame e.start
       → StepTo e s 1 e.start.registers (e.start.sp - 16) (saved_in e (entry_memory e.frame e.start))
@@ -113,7 +125,8 @@ module _ (e : Entry) (code : List Inst) (places : ℕ) (run : RunsCode e code) (
       let mapped : is_mapped s.memory (e.start.sp - 16) 16 ≡ true = rw memory saves_mapped in
       let whole : touches_empty_at e s.memory (Some (moved_sp s.registers.sp (negsuc 1), 16)) ≡ false = rw down (touches_none e s.memory (e.start.sp - 16) 16 mapped) in
       let to = goes_to_next e code run s 0 (PairSp false 29 30 (negsuc 1)) (record s.registers { sp = e.start.sp - 16 }) (write_word (write_word s.memory (e.start.sp - 16) 8 (s.registers.x 29)) (e.start.sp - 8) 8 (s.registers.x 30))
-      pc (spans 0 _ refl) (_, spans 1 _ refl) whole refl (saves s.registers s.memory (e.start.sp - 16) (e.start.sp - 8) down above mapped) refl in
+      pc (spans 0 _ refl) (_, spans 1 _ refl) whole refl (saves s.registers s.memory (e.start.sp - 16) (e.start.sp - 8) down above mapped) refl
+      (rw sp has.aligned) (touches_above_after e s (PairSp false 29 30 (negsuc 1)) (moved_sp s.registers.sp (negsuc 1)) 16 refl (λ i lt. rw (saves_sp s down above mapped, down) (low_byte e.start.sp i room has.small lt))) refl in
       record {
         after = to.after;
         step = to.step;
@@ -127,7 +140,8 @@ module _ (e : Entry) (code : List Inst) (places : ℕ) (run : RunsCode e code) (
   second_step : (s : State) → Spans code 0 (prologue places) → s.registers.pc ≡ e.start.code + 4 * 1 → s.registers.x ≡ e.start.registers → s.registers.sp ≡ e.start.sp - 16
       → StepTo e s 2 (set_x e.start.registers 29 (e.start.sp - 16)) (e.start.sp - 16) s.memory
   second_step s spans pc x sp =
-      let to = goes_to_next e code run s 1 (adjust false 29 31 0) (put s.registers 29 s.registers.sp) s.memory pc (spans 1 _ refl) (_, spans 2 _ refl) refl refl (copies s.registers s.memory (rw sp (omega (arith, has.small)))) refl in
+      let to = goes_to_next e code run s 1 (adjust false 29 31 0) (put s.registers 29 s.registers.sp) s.memory pc (spans 1 _ refl) (_, spans 2 _ refl) refl refl (copies s.registers s.memory (rw sp (omega (arith, has.small)))) refl
+      (rw sp (less_aligned e.start.sp has.aligned room)) (touches_nothing e s (adjust false 29 31 0) refl) (set_other s.registers.x 29 s.registers.sp 18 (λ e. omega arith)) in
       record {
         after = to.after;
         step = to.step;
@@ -142,7 +156,8 @@ module _ (e : Entry) (code : List Inst) (places : ℕ) (run : RunsCode e code) (
       → StepTo e s 3 s.registers.x (low_of e places) s.memory
   third_step s spans next pc sp =
       let to = goes_to_next e code run s 2 (adjust true 31 31 (16 * places)) (record s.registers { sp = s.registers.sp - 16 * places }) s.memory pc (spans 2 _ refl) next refl refl
-      (lowers s.registers s.memory (16 * places) (rw sp (omega (arith, has.small))) (rw sp (omega (arith, has.room)))) refl in
+      (lowers s.registers s.memory (16 * places) (rw sp (omega (arith, has.small))) (rw sp (omega (arith, has.room)))) refl
+      (rw sp (less_aligned e.start.sp has.aligned room)) (touches_nothing e s (adjust true 31 31 (16 * places)) refl) refl in
       record {
         after = to.after;
         step = to.step;
@@ -162,7 +177,7 @@ module _ (e : Entry) (code : List Inst) (places : ℕ) (run : RunsCode e code) (
       let x : c.after.registers.x ≡ set_x e.start.registers 29 (e.start.sp - 16) = chain_2 (set_x e.start.registers 29 (e.start.sp - 16)) b.after.registers.x c.after.registers.x b.x_is c.x_is in
       record {
         after = c.after;
-        ran = ran_more e 2 (Runs s) (Runs a.after) (Runs c.after) a.step (ran_more e 1 (Runs a.after) (Runs b.after) (Runs c.after) b.step (ran_more e 0 (Runs b.after) (Runs c.after) (Runs c.after) c.step (ran_none e (Runs c.after))));
+        ran = ran_more e 2 s (Runs a.after) (Runs c.after) a.step (ran_more e 1 a.after (Runs b.after) (Runs c.after) b.step (ran_more e 0 b.after (Runs c.after) (Runs c.after) c.step (ran_none e (Runs c.after))));
         at = record {
           pc = c.pc_is;
           sp = c.sp_is;

@@ -6,7 +6,7 @@ use Rattle.b3_base.specs.Memory.{is_mapped, read_word, write_word}
 use Rattle.b3_base.specs.Run.{iterate}
 use Rattle.b3_base.specs.declared.observation.Status.{Status}
 use Rattle.b3_base.specs.declared.observation.Status.TheVariants.{Going, Returned}
-use Rattle.b3_ir.specs.Procedure.{Procedure}
+use Rattle.b3_ir.specs.Procedure.{Block, Procedure}
 use Rattle.b3_ir.specs.declared.opcode.Opcode.{Opcode}
 use Rattle.b3_ir.specs.declared.opcode.Opcode.TheVariants.{Const64, ArgumentReg, Sub, Upsilon, Phi, Jump, Branch, Return}
 use Rattle.b3_ir.specs.declared.opcode.Ty.{Ty}
@@ -14,9 +14,10 @@ use Rattle.b3_ir.specs.declared.opcode.Ty.TheVariants.{Void, Int64}
 use Rattle.b3_ir.specs.declared.value.Body.{Body}
 use Rattle.b3_ir.specs.declared.value.Body.TheVariants.{Plain, Constant, Argument, Target, Targets}
 use Rattle.b3_ir.specs.declared.value.Value.{Value}
-use Rattle.b3_meaning.specs.Observed.{MachineStart, no_memory}
+use Rattle.b3_base.specs.Observed.{MachineStart, no_memory}
 use Rattle.b3_meaning.specs.Run.{b3_run}
-use Rattle.a64_inst.specs.Decode.{decode}
+use Rattle.a64_word.specs.Decode.{decode}
+use Rattle.a64_word.specs.Parts.{by_row}
 use Rattle.a64_inst.specs.Step.{step_of, add_sub_imm, add_sub_reg, move_wide, access, store_pair, load_pair, branch_reg, branch, branch_zero, shifted}
 use Rattle.a64_run.specs.Placement.{start_of}
 use Rattle.a64_run.specs.Machine.{machine_run}
@@ -24,6 +25,9 @@ use Rattle.a64_baseline.specs.Object.{object_of, symbol_of, frame_of}
 
 abbrev value : ℕ → ℕ → Ty → Opcode → List ℕ → Body → Value
 value id line ty opcode children body = record { id = id; ty = ty; kind = record { opcode = opcode; chill = false; traps = false }; children = children; body = body; line = line }
+
+abbrev block : ℕ → ℕ → List Value → Block
+block number line values = record { number = number; line = line; values = values }
 
 -- a start with three arguments and a return address outside the text
 abbrev start : ℕ → ℕ → ℕ → MachineStart
@@ -50,9 +54,9 @@ countdown = record {
   line = 1;
   slots = [];
   blocks =
-      (value 0 3 Int64 ArgumentReg [] (Argument (record { 0 = 0 })) ∷ value 1 4 Int64 Const64 [] (Constant 1) ∷ value 2 5 Void Upsilon (0 ∷ []) (Target 4) ∷ value 3 6 Void Jump [] (Targets (1 ∷ [])) ∷ [])
-      ∷ (value 4 9 Int64 Phi [] Plain ∷ value 5 10 Int64 Sub (4 ∷ 1 ∷ []) Plain ∷ value 6 11 Void Upsilon (5 ∷ []) (Target 4) ∷ value 7 12 Void Branch (5 ∷ []) (Targets (1 ∷ 2 ∷ [])) ∷ [])
-      ∷ (value 8 15 Void Return (1 ∷ []) Plain ∷ [])
+      block 0 2 (value 0 3 Int64 ArgumentReg [] (Argument (record { 0 = 0 })) ∷ value 1 4 Int64 Const64 [] (Constant 1) ∷ value 2 5 Void Upsilon (0 ∷ []) (Target 4) ∷ value 3 6 Void Jump [] (Targets (1 ∷ [])) ∷ [])
+      ∷ block 1 8 (value 4 9 Int64 Phi [] Plain ∷ value 5 10 Int64 Sub (4 ∷ 1 ∷ []) Plain ∷ value 6 11 Void Upsilon (5 ∷ []) (Target 4) ∷ value 7 12 Void Branch (5 ∷ []) (Targets (1 ∷ 2 ∷ [])) ∷ [])
+      ∷ block 2 14 (value 8 15 Void Return (1 ∷ []) Plain ∷ [])
       ∷ [];
 }
 
@@ -70,7 +74,7 @@ one_returned = refl
 
 -- ---- no end
 abbrev endless : Procedure
-endless = record { name = codes "f"; line = 1; slots = []; blocks = (value 0 3 Void Jump [] (Targets (0 ∷ [])) ∷ []) ∷ [] }
+endless = record { name = codes "f"; line = 1; slots = []; blocks = block 0 2 (value 0 3 Void Jump [] (Targets (0 ∷ [])) ∷ []) ∷ [] }
 
 endless_going : b3_status endless 0 0 0 100 ≡ Going
 unfolding iterate
@@ -83,12 +87,12 @@ swap = record {
   line = 1;
   slots = [];
   blocks =
-      (value 0 3 Int64 ArgumentReg [] (Argument (record { 0 = 0 })) ∷ value 1 4 Int64 ArgumentReg [] (Argument (record { 0 = 1 })) ∷ value 2 5 Int64 ArgumentReg [] (Argument (record { 0 = 2 }))
+      block 0 2 (value 0 3 Int64 ArgumentReg [] (Argument (record { 0 = 0 })) ∷ value 1 4 Int64 ArgumentReg [] (Argument (record { 0 = 1 })) ∷ value 2 5 Int64 ArgumentReg [] (Argument (record { 0 = 2 }))
       ∷ value 3 6 Int64 Const64 [] (Constant 1) ∷ value 4 7 Void Upsilon (0 ∷ []) (Target 8) ∷ value 5 8 Void Upsilon (1 ∷ []) (Target 9) ∷ value 6 9 Void Upsilon (2 ∷ []) (Target 10) ∷ value 7 10 Void Jump [] (Targets (1 ∷ [])) ∷ [])
-      ∷ (value 8 13 Int64 Phi [] Plain ∷ value 9 14 Int64 Phi [] Plain ∷ value 10 15 Int64 Phi [] Plain ∷ value 11 16 Void Upsilon (9 ∷ []) (Target 8) ∷ value 12 17 Int64 Sub (10 ∷ 3 ∷ []) Plain
+      ∷ block 1 12 (value 8 13 Int64 Phi [] Plain ∷ value 9 14 Int64 Phi [] Plain ∷ value 10 15 Int64 Phi [] Plain ∷ value 11 16 Void Upsilon (9 ∷ []) (Target 8) ∷ value 12 17 Int64 Sub (10 ∷ 3 ∷ []) Plain
       ∷ value 13 18 Void Upsilon (8 ∷ []) (Target 9) ∷ value 14 19 Void Upsilon (12 ∷ []) (Target 10) ∷ value 15 20 Void Upsilon (8 ∷ []) (Target 18) ∷ value 16 21 Void Upsilon (9 ∷ []) (Target 19)
       ∷ value 17 22 Void Branch (12 ∷ []) (Targets (1 ∷ 2 ∷ [])) ∷ [])
-      ∷ (value 18 25 Int64 Phi [] Plain ∷ value 19 26 Int64 Phi [] Plain ∷ value 20 27 Int64 Sub (18 ∷ 19 ∷ []) Plain ∷ value 21 28 Void Return (20 ∷ []) Plain ∷ [])
+      ∷ block 2 24 (value 18 25 Int64 Phi [] Plain ∷ value 19 26 Int64 Phi [] Plain ∷ value 20 27 Int64 Sub (18 ∷ 19 ∷ []) Plain ∷ value 21 28 Void Return (20 ∷ []) Plain ∷ [])
       ∷ [];
 }
 
@@ -106,9 +110,9 @@ twice_returned = refl
 
 -- ---- the code of the first
 one_code : (machine_status countdown 1 0 0 26 ≡ Going)
-unfolding iterate decode step_of add_sub_imm add_sub_reg move_wide access store_pair load_pair branch_reg branch branch_zero shifted is_mapped read_word write_word
+unfolding iterate decode by_row step_of add_sub_imm add_sub_reg move_wide access store_pair load_pair branch_reg branch branch_zero shifted is_mapped read_word write_word
 one_code = refl
 
 one_code_returned : (machine_status countdown 1 0 0 27 ≡ Returned (Some 1))
-unfolding iterate decode step_of add_sub_imm add_sub_reg move_wide access store_pair load_pair branch_reg branch branch_zero shifted is_mapped read_word write_word
+unfolding iterate decode by_row step_of add_sub_imm add_sub_reg move_wide access store_pair load_pair branch_reg branch branch_zero shifted is_mapped read_word write_word
 one_code_returned = refl

@@ -5,7 +5,7 @@ use Rattle.std.proofs.lemmas.Bool.Decides.{nat_tests}
 use Rattle.b3_base.specs.Memory.{byte_address, is_mapped, read_word, write_word, AreApart}
 use Rattle.b3_base.proofs.WordLaws.{read-write_same, read-write_apart, write_word_other}
 use Rattle.b3_base.proofs.MemoryLaws.{is_mapped_all, write_word_keeps}
-use Rattle.b3_meaning.specs.Observed.{Memory}
+use Rattle.b3_base.specs.Observed.{Memory}
 use Rattle.a64_run.specs.Placement.{is_within, in_frame}
 use Rattle.a64_run.specs.Machine.{Entry}
 
@@ -15,6 +15,7 @@ pub record HasFrame (e : Entry) (places : ℕ) : Type 0 where
   pub room : 16 * places + 16 ≤ e.start.sp
   pub small : e.start.sp < 2 ^ 64
   pub few : places < 256
+  pub aligned : e.start.sp % 16 ≡ 0
 
 -- SP once the frame is there, and the address of a word of the frame
 abbrev pub low_of : Entry → ℕ → ℕ
@@ -60,7 +61,7 @@ module _ (e : Entry) (places : ℕ) (has : HasFrame e places) where
   pub address_is : (sp k : ℕ) → sp ≡ low_of e places → k < 2 * places → (sp + k * 8) % 2 ^ 64 ≡ address_of e places k
   address_is sp k at lt = rw at (access_at e.start.sp places k has.small has.room lt)
 
-  byte_is : (k i : ℕ) → k < 2 * places → i < 8 → byte_address (address_of e places k) i ≡ address_of e places k + i
+  pub byte_is : (k i : ℕ) → k < 2 * places → i < 8 → byte_address (address_of e places k) i ≡ address_of e places k + i
   byte_is k i lt lt_i = byte_at e.start.sp places k i has.small has.room lt lt_i
 
   byte_in_frame : (k i : ℕ) → k < 2 * places → i < 8 → in_frame e.frame e.start (byte_address (address_of e places k) i) ≡ true

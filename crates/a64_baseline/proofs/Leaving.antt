@@ -7,8 +7,8 @@ use Rattle.std.proofs.lemmas.Bool.{cases_lt, ne_eqb}
 use Rattle.b3_base.specs.Memory.{byte_address, is_mapped, read_word}
 use Rattle.b3_base.proofs.MemoryLaws.{is_mapped_all}
 use Rattle.b3_base.specs.declared.observation.Status.TheVariants.{Returned}
-use Rattle.b3_meaning.specs.Observed.{Memory, Observation}
-use Rattle.a64_inst.specs.Step.{Registers, step_of, add_sub_imm, load_pair, branch_reg, goes_on, put}
+use Rattle.b3_base.specs.Observed.{Memory, Observation}
+use Rattle.a64_inst.specs.Step.{Registers, Stepped, step_of, add_sub_imm, load_pair, branch_reg, goes_on, put}
 use Rattle.a64_inst.specs.declared.inst.Inst.{Inst}
 use Rattle.a64_inst.specs.declared.inst.Inst.TheVariants.{PairSp, BranchReg}
 use Rattle.a64_inst.specs.declared.inst.BranchKind.TheVariants.{Ret}
@@ -16,11 +16,12 @@ use Rattle.a64_inst.specs.declared.state.Outcome.TheVariants.{Next}
 use Rattle.stackmap.specs.declared.site.Returns.TheVariants.{W64}
 use Rattle.a64_run.specs.Placement.{in_frame, visible, entry_memory}
 use Rattle.a64_run.specs.Machine.{Entry, State, Config, Runs, Stops, has_returned, keeps_registers, machine_step}
-use Rattle.a64_run.proofs.Steps.{step_executes, touches_none}
+use Rattle.a64_run.proofs.Steps.{is_proper, step_executes, touches_none}
 use Rattle.a64_baseline.specs.Code.{load_from, adjust, epilogue}
-use Rattle.a64_baseline.proofs.Machine.{RunsCode, Stands, StepTo, Ran, chain_2, chain_3, goes_to_next, ran_more, ran_none}
+use Rattle.a64_baseline.proofs.Machine.{RunsCode, Stands, StepTo, Takes, Ran, chain_2, chain_3, goes_to_next, ran_more, ran_none, touches_above, touches_nothing}
+use Rattle.a64_baseline.proofs.Entering.{less_aligned, low_byte}
 use Rattle.a64_baseline.proofs.Frame.{HasFrame, KeepsFrame, address_of}
-use Rattle.a64_baseline.proofs.Steps.{StandsAt, set_x, load_step}
+use Rattle.a64_baseline.proofs.Steps.{StandsAt, set_x, load_step, sp_aligned}
 use Rattle.a64_baseline.proofs.Pieces.{Spans}
 
 -- ---- what the instructions do
@@ -95,7 +96,7 @@ module _ (e : Entry) (code : List Inst) (places : ℕ) (run : RunsCode e code) (
   returns s k w at there wide lr sp each value events =
       let does = ret_back s.registers s.memory in
       let back : has_returned e (record s.registers { pc = s.registers.x 30 }) ≡ true = is_back e (record s.registers { pc = s.registers.x 30 }) lr sp each in
-      step_executes e s k (BranchReg Ret 30) at (run.text k _ there) (run.decodes k _ there)
+      step_executes e s k (BranchReg Ret 30) run.no_sites at (run.text k _ there) (run.decodes k _ there)
       ∙ rw (does, back, events, wide) (ap (λ (word : ℕ). Stops (record { status = Returned (Some word); events = []; memory = visible e.frame e.start s.memory })) value)
 
   -- the registers once x0, x29 and x30 are loaded
@@ -121,10 +122,11 @@ module _ (e : Entry) (code : List Inst) (places : ℕ) (run : RunsCode e code) (
       → (q : ℕ) → q < 11 → after (19 + q) ≡ e.start.registers (19 + q)
   loaded_back w x after kept same q lt = rw same (loaded_kept w x kept q lt)
 
-  adjust_step : (s : State) (k : ℕ) → s.registers.pc ≡ e.start.code + 4 * k → slice_get code k ≡ Some (adjust false 31 29 0) → Stands code (k + 1) → s.registers.x 29 ≡ e.start.sp - 16
+  adjust_step : (s : State) (k : ℕ) → s.registers.pc ≡ e.start.code + 4 * k → slice_get code k ≡ Some (adjust false 31 29 0) → Stands code (k + 1) → s.registers.x 29 ≡ e.start.sp - 16 → s.registers.sp % 16 ≡ 0
       → StepTo e s (k + 1) s.registers.x (e.start.sp - 16) s.memory
-  adjust_step s k at there next fp =
+  adjust_step s k at there next fp aligned =
       goes_to_next e code run s k (adjust false 31 29 0) (record s.registers { sp = e.start.sp - 16 }) s.memory at there next refl refl (sp_from_fp s.registers s.memory (e.start.sp - 16) (back_to_fp (s.registers.x 29) e.start.sp has.small fp)) refl
+      aligned (touches_nothing e s (adjust false 31 29 0) refl) refl
 
   pair_step : (s : State) (k : ℕ) → s.registers.pc ≡ e.start.code + 4 * k → slice_get code k ≡ Some (PairSp true 29 30 (pos 2)) → Stands code (k + 1) → s.registers.sp ≡ e.start.sp - 16 → KeepsFrame e places s.memory
       → StepTo e s (k + 1) (set_x (set_x s.registers.x 29 (e.start.registers 29)) 30 (e.start.registers 30)) e.start.sp s.memory
@@ -138,6 +140,7 @@ module _ (e : Entry) (code : List Inst) (places : ℕ) (run : RunsCode e code) (
       let back : (s.registers.sp + 16) % 2 ^ 64 ≡ e.start.sp = rw sp (sp_again e.start.sp has.small some) in
       goes_to_next e code run s k (PairSp true 29 30 (pos 2)) (record (put (put s.registers 29 (e.start.registers 29)) 30 (e.start.registers 30)) { sp = e.start.sp }) s.memory at there next
       (touches_none e s.memory s.registers.sp 16 mapped) refl (pair_back (e.start.registers 29) (e.start.registers 30) e.start.sp s.registers s.memory first second back) refl
+      (rw sp (less_aligned e.start.sp has.aligned some)) (touches_above e s (PairSp true 29 30 (pos 2)) s.registers.sp 16 refl (λ i lt. rw sp (low_byte e.start.sp i some has.small lt))) refl
 
   pub leaving : (s : State) (k i w : ℕ) → StandsAt e places k s → Spans code k (load_from i 0 ∷ epilogue) → i < 2 * places → read_word s.memory (address_of e places i) 8 ≡ Some w → e.frame.returns ≡ W64
       → ((q : ℕ) → is_some (e.start.memory q) ≡ true → in_frame e.frame e.start q ≡ false) → e.frame.slots ≡ []
@@ -148,12 +151,16 @@ module _ (e : Entry) (code : List Inst) (places : ℕ) (run : RunsCode e code) (
       let i2 : slice_get code (k + 1 + 1) ≡ Some (PairSp true 29 30 (pos 2)) = ap (slice_get code) (omega arith) ∙ spans 2 _ refl in
       let i3 : slice_get code (k + 1 + 1 + 1) ≡ Some (BranchReg Ret 30) = ap (slice_get code) (omega arith) ∙ spans 3 _ refl in
       let a = load_step e code places run has s k i 0 w at i0 (_, i1) (omega arith) lt given in
-      let b = adjust_step a.after (k + 1) a.at.pc i1 (_, i2) a.at.fp in
+      let b = adjust_step a.after (k + 1) a.at.pc i1 (_, i2) a.at.fp (sp_aligned e code places run has a.after (k + 1) a.at) in
       let c = pair_step b.after (k + 1 + 1) b.pc_is i2 (_, i3) b.sp_is (subst (KeepsFrame e places) (sym b.memory_is) a.at.frame) in
       let x : c.after.registers.x ≡ set_x (set_x (set_x s.registers.x 0 w) 29 (e.start.registers 29)) 30 (e.start.registers 30) = loaded_all s.registers.x a.after.registers.x b.after.registers.x c.after.registers.x w (e.start.registers 29) (e.start.registers 30) a.x_is b.x_is c.x_is in
       let d = returns c.after (k + 1 + 1 + 1) w c.pc_is i3 wide (ap (λ (x : ℕ → ℕ). x 30) x) c.sp_is (loaded_back w s.registers.x c.after.registers.x at.kept x) (ap (λ (x : ℕ → ℕ). x 0) x)
       (chain_3 [] a.after.events b.after.events c.after.events a.at.no_events b.events_are c.events_are) in
       let seen : visible e.frame e.start c.after.memory ≡ visible e.frame e.start (entry_memory e.frame e.start) = same_visible e places c.after.memory apart none (subst (KeepsFrame e places) (sym (chain_2 a.after.memory b.after.memory c.after.memory b.memory_is c.memory_is)) a.at.frame) in
-      let last : machine_step e (Runs c.after) ≡ Stops (returned_with e w) = returned_same (machine_step e (Runs c.after)) w (visible e.frame e.start c.after.memory) (visible e.frame e.start (entry_memory e.frame e.start)) d seen in
-      ran_more e 3 (Runs s) (Runs a.after) (Stops (returned_with e w)) a.step (ran_more e 2 (Runs a.after) (Runs b.after) (Stops (returned_with e w)) b.step
-      (ran_more e 1 (Runs b.after) (Runs c.after) (Stops (returned_with e w)) c.step (ran_more e 0 (Runs c.after) (Stops (returned_with e w)) (Stops (returned_with e w)) last (ran_none e (Stops (returned_with e w))))))
+      let last : Takes e c.after (Stops (returned_with e w)) = (
+        returned_same (machine_step e (Runs c.after)) w (visible e.frame e.start c.after.memory) (visible e.frame e.start (entry_memory e.frame e.start)) d seen,
+        is_proper e c.after (k + 1 + 1 + 1) (BranchReg Ret 30) run.no_sites c.pc_is (run.text (k + 1 + 1 + 1) _ i3) (run.decodes (k + 1 + 1 + 1) _ i3) (rw c.sp_is has.aligned) (touches_nothing e c.after (BranchReg Ret 30) refl)
+            (ap (λ (t : Stepped). t.registers.x 18) (ret_back c.after.registers c.after.memory)),
+      ) in
+      ran_more e 3 s (Runs a.after) (Stops (returned_with e w)) a.step (ran_more e 2 a.after (Runs b.after) (Stops (returned_with e w)) b.step
+      (ran_more e 1 b.after (Runs c.after) (Stops (returned_with e w)) c.step (ran_more e 0 c.after (Stops (returned_with e w)) (Stops (returned_with e w)) last (ran_none e (Stops (returned_with e w))))))

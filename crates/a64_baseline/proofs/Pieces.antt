@@ -3,7 +3,7 @@ use Rattle.std.proofs.Common.{◌≡◌, ◌≢◌, ℕ, pos, ◌+◌, ◌*◌, 
 use Rattle.std.specs.Prelude.{slice_get}
 use Rattle.b3_base.specs.Memory.{read_word, write_word}
 use Rattle.b3_base.specs.declared.word.Width.TheVariants.{W64}
-use Rattle.b3_meaning.specs.Observed.{Memory}
+use Rattle.b3_base.specs.Observed.{Memory}
 use Rattle.a64_inst.specs.Step.{moved, low_bits}
 use Rattle.a64_inst.specs.declared.inst.Inst.{Inst}
 use Rattle.a64_inst.specs.declared.inst.Inst.TheVariants.{AddSubReg, BranchZero}
@@ -82,8 +82,8 @@ module _ (e : Entry) (code : List Inst) (places : ℕ) (run : RunsCode e code) (
       let f = store_step e code places run has d.after (k + 1 + 1 + 1 + 1) u 15 w d.at i4 (subst (Stands code) five next) (omega arith) lt xd in
       record {
         after = f.after;
-        ran = ran_more e 4 (Runs s) (Runs a.after) (Runs f.after) a.step (ran_more e 3 (Runs a.after) (Runs b.after) (Runs f.after) b.step (ran_more e 2 (Runs b.after) (Runs c.after) (Runs f.after) c.step
-            (ran_more e 1 (Runs c.after) (Runs d.after) (Runs f.after) d.step (ran_more e 0 (Runs d.after) (Runs f.after) (Runs f.after) f.step (ran_none e (Runs f.after))))));
+        ran = ran_more e 4 s (Runs a.after) (Runs f.after) a.step (ran_more e 3 a.after (Runs b.after) (Runs f.after) b.step (ran_more e 2 b.after (Runs c.after) (Runs f.after) c.step
+            (ran_more e 1 c.after (Runs d.after) (Runs f.after) d.step (ran_more e 0 d.after (Runs f.after) (Runs f.after) f.step (ran_none e (Runs f.after))))));
         at = subst (λ n. StandsAt e places n f.after) (sym five) f.at;
         memory_is = stored_after s.memory d.after.memory f.after.memory (address_of e places u) w (chain_4 s.memory a.after.memory b.after.memory c.after.memory d.after.memory a.memory_is b.memory_is c.memory_is d.memory_is) f.memory_is;
       }
@@ -107,8 +107,8 @@ module _ (e : Entry) (code : List Inst) (places : ℕ) (run : RunsCode e code) (
       let f = store_step e code places run has r.after (k + 1 + 1 + 1) u 17 (arith_word sub a b) r.at i3 (subst (Stands code) four next) (omega arith) lt x17 in
       record {
         after = f.after;
-        ran = ran_more e 3 (Runs s) (Runs p.after) (Runs f.after) p.step (ran_more e 2 (Runs p.after) (Runs q.after) (Runs f.after) q.step
-            (ran_more e 1 (Runs q.after) (Runs r.after) (Runs f.after) r.step (ran_more e 0 (Runs r.after) (Runs f.after) (Runs f.after) f.step (ran_none e (Runs f.after)))));
+        ran = ran_more e 3 s (Runs p.after) (Runs f.after) p.step (ran_more e 2 p.after (Runs q.after) (Runs f.after) q.step
+            (ran_more e 1 q.after (Runs r.after) (Runs f.after) r.step (ran_more e 0 r.after (Runs f.after) (Runs f.after) f.step (ran_none e (Runs f.after)))));
         at = subst (λ n. StandsAt e places n f.after) (sym four) f.at;
         memory_is = stored_after s.memory r.after.memory f.after.memory (address_of e places u) (arith_word sub a b) (chain_3 s.memory p.after.memory q.after.memory r.after.memory p.memory_is q.memory_is r.memory_is) f.memory_is;
       }
@@ -125,7 +125,7 @@ module _ (e : Entry) (code : List Inst) (places : ℕ) (run : RunsCode e code) (
       let f = store_step e code places run has p.after (k + 1) u 15 w p.at i1 (subst (Stands code) two next) (omega arith) lt (set_is s.registers.x p.after.registers.x 15 w w p.x_is refl) in
       record {
         after = f.after;
-        ran = ran_more e 1 (Runs s) (Runs p.after) (Runs f.after) p.step (ran_more e 0 (Runs p.after) (Runs f.after) (Runs f.after) f.step (ran_none e (Runs f.after)));
+        ran = ran_more e 1 s (Runs p.after) (Runs f.after) p.step (ran_more e 0 p.after (Runs f.after) (Runs f.after) f.step (ran_none e (Runs f.after)));
         at = subst (λ n. StandsAt e places n f.after) (sym two) f.at;
         memory_is = stored_after s.memory p.after.memory f.after.memory (address_of e places u) w p.memory_is f.memory_is;
       }
@@ -134,7 +134,7 @@ module _ (e : Entry) (code : List Inst) (places : ℕ) (run : RunsCode e code) (
   pub jump_run : (s : State) (k t : ℕ) → StandsAt e places k s → slice_get code k ≡ Some (branch_from k t) → Stands code t → Goes e places s 1 t
   jump_run s k t at there next =
       let b = branch_step e code places run has s k t at there next in
-      record { after = b.after; ran = ran_more e 0 (Runs s) (Runs b.after) (Runs b.after) b.step (ran_none e (Runs b.after)); at = b.at; memory_is = b.memory_is }
+      record { after = b.after; ran = ran_more e 0 s (Runs b.after) (Runs b.after) b.step (ran_none e (Runs b.after)); at = b.at; memory_is = b.memory_is }
 
   -- a conditional branch whose value is 0, and one whose value is another word
   pub zero_run : (s : State) (k i t f : ℕ) → StandsAt e places k s → Spans code k (branch_code k i t f) → Stands code f → i < 2 * places
@@ -149,7 +149,7 @@ module _ (e : Entry) (code : List Inst) (places : ℕ) (run : RunsCode e code) (
       let r = branch_step e code places run has q.after (k + 1 + 2) f q.at i3 next in
       record {
         after = r.after;
-        ran = ran_more e 2 (Runs s) (Runs p.after) (Runs r.after) p.step (ran_more e 1 (Runs p.after) (Runs q.after) (Runs r.after) q.step (ran_more e 0 (Runs q.after) (Runs r.after) (Runs r.after) r.step (ran_none e (Runs r.after))));
+        ran = ran_more e 2 s (Runs p.after) (Runs r.after) p.step (ran_more e 1 p.after (Runs q.after) (Runs r.after) q.step (ran_more e 0 q.after (Runs r.after) (Runs r.after) r.step (ran_none e (Runs r.after))));
         at = r.at;
         memory_is = chain_3 s.memory p.after.memory q.after.memory r.after.memory p.memory_is q.memory_is r.memory_is;
       }
@@ -166,7 +166,7 @@ module _ (e : Entry) (code : List Inst) (places : ℕ) (run : RunsCode e code) (
       let r = branch_step e code places run has q.after (k + 1 + 1) t q.at i2 next in
       record {
         after = r.after;
-        ran = ran_more e 2 (Runs s) (Runs p.after) (Runs r.after) p.step (ran_more e 1 (Runs p.after) (Runs q.after) (Runs r.after) q.step (ran_more e 0 (Runs q.after) (Runs r.after) (Runs r.after) r.step (ran_none e (Runs r.after))));
+        ran = ran_more e 2 s (Runs p.after) (Runs r.after) p.step (ran_more e 1 p.after (Runs q.after) (Runs r.after) q.step (ran_more e 0 q.after (Runs r.after) (Runs r.after) r.step (ran_none e (Runs r.after))));
         at = r.at;
         memory_is = chain_3 s.memory p.after.memory q.after.memory r.after.memory p.memory_is q.memory_is r.memory_is;
       }

@@ -6,12 +6,14 @@ use Rattle.std.proofs.lemmas.Bool.{ne_eqb}
 use Rattle.std.proofs.lemmas.Bool.Decides.{eqb_tells}
 use Rattle.b3_base.specs.Memory.{read_word, write_word}
 use Rattle.b3_ir.specs.Procedure.{Procedure}
-use Rattle.b3_ir.specs.Built.{StandsAt, IsBuilt}
+use Rattle.b3_supported.specs.Supported.{IsSupported}
+use Rattle.b3_ir.specs.Procedure.{StandsAt}
 use Rattle.b3_ir.specs.declared.opcode.Opcode.TheVariants.{ArgumentReg}
 use Rattle.b3_ir.specs.declared.value.Body.TheVariants.{Argument}
 use Rattle.b3_ir.specs.declared.value.Reg.{Reg}
 use Rattle.b3_ir.specs.declared.value.Value.{Value}
-use Rattle.b3_meaning.specs.Observed.{Memory, Start, IsRangedMachineStart}
+use Rattle.b3_base.specs.Observed.{Memory, Start}
+use Rattle.b3_base.specs.Ranged.{IsRangedMachineStart}
 use Rattle.b3_meaning.specs.Run as b3
 use Rattle.stackmap.specs.declared.site.Returns.TheVariants.{W64}
 use Rattle.a64_run.specs.Placement.{in_frame, start_of}
@@ -25,7 +27,7 @@ use Rattle.a64_baseline.proofs.Pieces.{Writes, Goes}
 
 -- what a run of a procedure's code needs
 pub record Setting (p : Procedure) (e : Entry) : Type 0 where
-  pub built : IsBuilt p
+  pub built : IsSupported p
   pub run : RunsCode e (code_of p)
   pub frame : HasFrame e (places_of p)
   pub wide : has_return p ≡ true → e.frame.returns ≡ W64

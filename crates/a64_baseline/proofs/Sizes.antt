@@ -3,13 +3,14 @@ use Rattle.std.proofs.Common.{◌≡◌, ℕ, zero, suc, ◌+◌, ◌*◌, ◌^�
 use Rattle.std.specs.Prelude.{sum_by, slice_index}
 use Rattle.std.proofs.lemmas.List.Sums.{sum_by-cons}
 use Rattle.b3_ir.specs.Fits.{IsConstantBelow, IsTarget}
-use Rattle.b3_ir.specs.Shape.{IsOneTarget, AreTwoTargets, IsFormOf, IsValueAt, AreValuesAt, AreBlocksAt, line_count, lines_of_values}
+use Rattle.b3_ir.specs.Shape.{IsOneTarget, AreTwoTargets, IsFormOf, IsValueAt, AreValuesFrom}
 use Rattle.b3_ir.specs.declared.opcode.Opcode.{Opcode}
 use Rattle.b3_ir.specs.declared.opcode.Opcode.TheVariants.{Const64, ArgumentReg, Add, Sub, Upsilon, Phi, Jump, Branch as Branches, Return}
 use Rattle.b3_ir.specs.declared.opcode.Ty.{Ty}
 use Rattle.b3_ir.specs.declared.value.Body.{Body}
 use Rattle.b3_ir.specs.declared.value.Body.TheVariants.{Constant, Argument, Target, Targets}
 use Rattle.b3_ir.specs.declared.value.Value.{Value}
+use Rattle.a64_baseline.proofs.Numbering.{AreBlocksAt}
 use Rattle.a64_baseline.specs.Code.{size_of, code_for, value_code, values_code, blocks_code, words_of_values, argument_store, argument_stores, begins_from}
 
 -- ---- the code of a value
@@ -41,8 +42,8 @@ form_size begins places here k n Branches ty children body h = rw (h.1.1) (branc
 form_size begins places here k n Return ty children body h = rw (h.1.1) refl
 form_size begins places here k n _ ty children body h = absurd h
 
-pub value_size : (begins : List ℕ) (places here k : ℕ) (v : Value) (row : ℕ) → IsValueAt k row v → length (value_code begins places here v) ≡ size_of v.kind.opcode
-value_size begins places here k v row is = form_size begins places here v.id k v.kind.opcode v.ty v.children v.body is.form
+pub value_size : (begins : List ℕ) (places here k : ℕ) (v : Value) → IsValueAt k v → length (value_code begins places here v) ≡ size_of v.kind.opcode
+value_size begins places here k v is = form_size begins places here v.id k v.kind.opcode v.ty v.children v.body is.form
 
 -- ---- the code of values and of blocks
 pub words_cons : (v : Value) (vs : List Value) → words_of_values (v ∷ vs) ≡ size_of v.kind.opcode + words_of_values vs
@@ -51,18 +52,18 @@ words_cons v vs = sum_by-cons (λ (v : Value). size_of v.kind.opcode) v vs
 pub blocks_cons : (vs : List Value) (blocks : List (List Value)) → sum_by words_of_values (vs ∷ blocks) ≡ words_of_values vs + sum_by words_of_values blocks
 blocks_cons vs blocks = sum_by-cons words_of_values vs blocks
 
-pub values_size : (begins : List ℕ) (places here k row : ℕ) (vs : List Value) → AreValuesAt k row vs → length (values_code begins places here vs) ≡ words_of_values vs
-values_size begins places here k row [] are = refl
-values_size begins places here k row (v ∷ vs) are =
-    let first = value_size begins places here k v row are.0 in
-    let behind = values_size begins places (here + size_of v.kind.opcode) (k + 1) (row + line_count v.body) vs are.1 in
+pub values_size : (begins : List ℕ) (places here k : ℕ) (vs : List Value) → AreValuesFrom k vs → length (values_code begins places here vs) ≡ words_of_values vs
+values_size begins places here k [] are = refl
+values_size begins places here k (v ∷ vs) are =
+    let first = value_size begins places here k v are.0 in
+    let behind = values_size begins places (here + size_of v.kind.opcode) (k + 1) vs are.1 in
     omega (arith, length-append (value_code begins places here v) (values_code begins places (here + size_of v.kind.opcode) vs), words_cons v vs)
 
-pub blocks_size : (begins : List ℕ) (places here k row : ℕ) (blocks : List (List Value)) → AreBlocksAt k row blocks → length (blocks_code begins places here blocks) ≡ sum_by words_of_values blocks
-blocks_size begins places here k row [] are = refl
-blocks_size begins places here k row (vs ∷ blocks) are =
-    let first = values_size begins places here k (row + 1) vs are.0 in
-    let behind = blocks_size begins places (here + words_of_values vs) (k + length vs) (row + 1 + lines_of_values vs) blocks are.2 in
+pub blocks_size : (begins : List ℕ) (places here k : ℕ) (blocks : List (List Value)) → AreBlocksAt k blocks → length (blocks_code begins places here blocks) ≡ sum_by words_of_values blocks
+blocks_size begins places here k [] are = refl
+blocks_size begins places here k (vs ∷ blocks) are =
+    let first = values_size begins places here k vs are.0 in
+    let behind = blocks_size begins places (here + words_of_values vs) (k + length vs) blocks are.2 in
     omega (arith, length-append (values_code begins places here vs) (blocks_code begins places (here + words_of_values vs) blocks), blocks_cons vs blocks)
 
 -- ---- at most five words a value

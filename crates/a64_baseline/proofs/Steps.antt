@@ -5,19 +5,19 @@ use Rattle.std.proofs.Math.IntN.{◌-ℤ◌}
 use Rattle.std.proofs.lemmas.Option.{slice_get_within}
 use Rattle.std.proofs.lemmas.Int.{ints}
 use Rattle.std.proofs.lemmas.Bool.{ne_eqb}
-use Rattle.b3_base.specs.Memory.{is_mapped, read_word, write_word}
+use Rattle.b3_base.specs.Memory.{byte_address, is_mapped, read_word, write_word}
 use Rattle.b3_base.specs.declared.word.Width.TheVariants.{W64}
-use Rattle.b3_meaning.specs.Observed.{Memory}
+use Rattle.b3_base.specs.Observed.{Memory}
 use Rattle.a64_inst.specs.Step.{Registers, step_of, goes_on, put, access, move_wide, add_sub_reg, shifted, moved, low_bits, branch, branch_zero, branch_target}
 use Rattle.a64_inst.specs.declared.inst.Inst.{Inst}
 use Rattle.a64_inst.specs.declared.inst.Inst.TheVariants.{AddSubReg, Branch, BranchZero}
 use Rattle.a64_inst.specs.declared.inst.MoveOp.{MoveOp}
 use Rattle.a64_inst.specs.declared.state.Outcome.TheVariants.{Next}
-use Rattle.a64_run.specs.Machine.{Entry, State, Runs, touches_empty_at, machine_step}
+use Rattle.a64_run.specs.Machine.{Entry, State, Runs, touches_empty_at}
 use Rattle.a64_run.proofs.Steps.{touches_none}
 use Rattle.a64_baseline.specs.Code.{store_to, load_from, half_word, move_half, branch_from}
-use Rattle.a64_baseline.proofs.Machine.{RunsCode, Stands, StepTo, goes_to_next, branches_to}
-use Rattle.a64_baseline.proofs.Frame.{HasFrame, KeepsFrame, low_of, address_of, address_is, is_there, store_keeps}
+use Rattle.a64_baseline.proofs.Machine.{RunsCode, Stands, StepTo, Takes, goes_to_next, branches_to, touches_above, touches_nothing}
+use Rattle.a64_baseline.proofs.Frame.{HasFrame, KeepsFrame, low_of, address_of, address_is, byte_is, is_there, store_keeps}
 
 -- at word k of the code, between prologue and epilogue
 pub record StandsAt (e : Entry) (places k : ℕ) (s : State) : Type 0 where
@@ -41,7 +41,7 @@ set_other x reg word q differ = rw (ne_eqb q reg differ) refl
 -- a step that puts a word in a register
 pub record Puts (e : Entry) (places : ℕ) (s : State) (k reg word : ℕ) : Type 0 where
   pub after : State
-  pub step : machine_step e (Runs s) ≡ Runs after
+  pub step : Takes e s (Runs after)
   pub at : StandsAt e places k after
   pub x_is : after.registers.x ≡ set_x s.registers.x reg word
   pub memory_is : after.memory ≡ s.memory
@@ -49,7 +49,7 @@ pub record Puts (e : Entry) (places : ℕ) (s : State) (k reg word : ℕ) : Type
 -- a step that puts a word in a word of the frame
 pub record Stores (e : Entry) (places : ℕ) (s : State) (k to word : ℕ) : Type 0 where
   pub after : State
-  pub step : machine_step e (Runs s) ≡ Runs after
+  pub step : Takes e s (Runs after)
   pub at : StandsAt e places k after
   pub x_is : after.registers.x ≡ s.registers.x
   pub memory_is : after.memory ≡ write_word s.memory (address_of e places to) 8 word
@@ -57,7 +57,7 @@ pub record Stores (e : Entry) (places : ℕ) (s : State) (k to word : ℕ) : Typ
 -- a step that branches
 pub record Branches (e : Entry) (places : ℕ) (s : State) (k : ℕ) : Type 0 where
   pub after : State
-  pub step : machine_step e (Runs s) ≡ Runs after
+  pub step : Takes e s (Runs after)
   pub at : StandsAt e places k after
   pub x_is : after.registers.x ≡ s.registers.x
   pub memory_is : after.memory ≡ s.memory
@@ -140,7 +140,17 @@ same_at e places k j memory s at keeps to = record {
   no_events = to.events_are ∙ at.no_events;
 }
 
+low_aligned : (sp places : ℕ) → sp % 16 ≡ 0 → 16 * places + 16 ≤ sp → (sp - (16 * places + 16)) % 16 ≡ 0
+low_aligned sp places aligned room = omega arith
+
 module _ (e : Entry) (code : List Inst) (places : ℕ) (run : RunsCode e code) (has : HasFrame e places) where
+  -- SP is aligned between prologue and epilogue, and words of the frame stand above it
+  pub sp_aligned : (s : State) (k : ℕ) → StandsAt e places k s → s.registers.sp % 16 ≡ 0
+  sp_aligned s k at = rw at.sp (low_aligned e.start.sp places has.aligned has.room)
+
+  above : (s : State) (k u i : ℕ) → StandsAt e places k s → u < 2 * places → i < 8 → s.registers.sp ≤ byte_address ((s.registers.sp + u * 8) % 2 ^ 64) i
+  above s k u i at lt lt_i = rw (address_is e places has s.registers.sp u at.sp lt, byte_is e places has u i lt lt_i) (omega (arith, at.sp))
+
   access_is_whole : (s : State) (k u : ℕ) → StandsAt e places k s → u < 2 * places → touches_empty_at e s.memory (Some ((s.registers.sp + u * 8) % 2 ^ 64, 8)) ≡ false
   access_is_whole s k u at lt = rw (address_is e places has s.registers.sp u at.sp lt) (touches_none e s.memory (address_of e places u) 8 (is_there e places has s.memory u at.frame lt))
 
@@ -149,13 +159,15 @@ module _ (e : Entry) (code : List Inst) (places : ℕ) (run : RunsCode e code) (
   load_step s k u reg w at there next le lt given =
       puts_at e places k (k + 1) reg w s at le
       (goes_to_next e code run s k (load_from u reg) (put s.registers reg w) s.memory at.pc there next (access_is_whole s k u at lt) refl
-      (loads u reg (address_of e places u) w s.registers s.memory (omega arith) (address_is e places has s.registers.sp u at.sp lt) given) refl)
+      (loads u reg (address_of e places u) w s.registers s.memory (omega arith) (address_is e places has s.registers.sp u at.sp lt) given) refl
+      (sp_aligned s k at) (touches_above e s (load_from u reg) ((s.registers.sp + u * 8) % 2 ^ 64) 8 refl (λ i lt_i. above s k u i at lt lt_i)) (set_other s.registers.x reg w 18 (λ e. omega arith)))
 
   pub store_step : (s : State) (k u reg w : ℕ) → StandsAt e places k s → slice_get code k ≡ Some (store_to u reg) → Stands code (k + 1) → reg ≤ 30 → u < 2 * places → s.registers.x reg ≡ w
       → Stores e places s (k + 1) u w
   store_step s k u reg w at there next le lt given =
       let to = goes_to_next e code run s k (store_to u reg) s.registers (write_word s.memory (address_of e places u) 8 (s.registers.x reg)) at.pc there next (access_is_whole s k u at lt) refl
-      (stores u reg (address_of e places u) s.registers s.memory le (address_is e places has s.registers.sp u at.sp lt) (is_there e places has s.memory u at.frame lt)) refl in
+      (stores u reg (address_of e places u) s.registers s.memory le (address_is e places has s.registers.sp u at.sp lt) (is_there e places has s.memory u at.frame lt)) refl
+      (sp_aligned s k at) (touches_above e s (store_to u reg) ((s.registers.sp + u * 8) % 2 ^ 64) 8 refl (λ i lt_i. above s k u i at lt lt_i)) refl in
       record {
         after = to.after;
         step = to.step;
@@ -168,13 +180,15 @@ module _ (e : Entry) (code : List Inst) (places : ℕ) (run : RunsCode e code) (
       → Puts e places s (k + 1) 15 (moved W64 op (low_bits W64 (s.registers.x 15)) (16 * hw) (half_word w hw))
   move_step s k op w hw at there next =
       puts_at e places k (k + 1) 15 (moved W64 op (low_bits W64 (s.registers.x 15)) (16 * hw) (half_word w hw)) s at (omega arith)
-      (goes_to_next e code run s k (move_half op w hw) (put s.registers 15 (moved W64 op (low_bits W64 (s.registers.x 15)) (16 * hw) (half_word w hw))) s.memory at.pc there next refl refl (moves op w hw s.registers s.memory) refl)
+      (goes_to_next e code run s k (move_half op w hw) (put s.registers 15 (moved W64 op (low_bits W64 (s.registers.x 15)) (16 * hw) (half_word w hw))) s.memory at.pc there next refl refl (moves op w hw s.registers s.memory) refl
+      (sp_aligned s k at) (touches_nothing e s (move_half op w hw) refl) (set_other s.registers.x 15 (moved W64 op (low_bits W64 (s.registers.x 15)) (16 * hw) (half_word w hw)) 18 (λ e. omega arith)))
 
   pub arith_step : (s : State) (k : ℕ) (sub : Bool) (a b : ℕ) → StandsAt e places k s → slice_get code k ≡ Some (AddSubReg W64 sub false 17 15 16 0 0) → Stands code (k + 1)
       → s.registers.x 15 ≡ a → s.registers.x 16 ≡ b → a < 2 ^ 64 → b < 2 ^ 64 → Puts e places s (k + 1) 17 (arith_word sub a b)
   arith_step s k sub a b at there next first second small_a small_b =
       puts_at e places k (k + 1) 17 (arith_word sub a b) s at (omega arith)
-      (goes_to_next e code run s k (AddSubReg W64 sub false 17 15 16 0 0) (put s.registers 17 (arith_word sub a b)) s.memory at.pc there next refl refl (calculates sub a b s.registers s.memory first second small_a small_b) refl)
+      (goes_to_next e code run s k (AddSubReg W64 sub false 17 15 16 0 0) (put s.registers 17 (arith_word sub a b)) s.memory at.pc there next refl refl (calculates sub a b s.registers s.memory first second small_a small_b) refl
+      (sp_aligned s k at) (touches_nothing e s (AddSubReg W64 sub false 17 15 16 0 0) refl) (set_other s.registers.x 17 (arith_word sub a b) 18 (λ e. omega arith)))
 
   branched : (s : State) (k t : ℕ) → StandsAt e places k s → StepTo e s t s.registers.x s.registers.sp s.memory → Branches e places s t
   branched s k t at to = record { after = to.after; step = to.step; at = same_at e places k t s.memory s at at.frame to; x_is = to.x_is; memory_is = to.memory_is }
@@ -183,16 +197,19 @@ module _ (e : Entry) (code : List Inst) (places : ℕ) (run : RunsCode e code) (
   branch_step s k t at there next =
       branched s k t at
       (branches_to e code run s k t (branch_target s.registers.pc (pos t -ℤ pos k)) (branch_from k t) at.pc there next refl refl (jumps (pos t -ℤ pos k) s.registers s.memory)
-      (ap (λ (n : ℕ). branch_target n (pos t -ℤ pos k)) at.pc ∙ target_is e.start.code k t (length code) run.ends (omega (arith, run.short)) (slice_get_within code k _ there) (slice_get_within code t next.0 next.1)))
+      (ap (λ (n : ℕ). branch_target n (pos t -ℤ pos k)) at.pc ∙ target_is e.start.code k t (length code) run.ends (omega (arith, run.short)) (slice_get_within code k _ there) (slice_get_within code t next.0 next.1))
+      (sp_aligned s k at) (touches_nothing e s (branch_from k t) refl))
 
   -- over the next instruction
   pub taken_step : (s : State) (k : ℕ) → StandsAt e places k s → slice_get code k ≡ Some (BranchZero W64 false 15 (pos 2)) → Stands code (k + 2) → s.registers.x 15 ≡ 0 → Branches e places s (k + 2)
   taken_step s k at there next none =
       branched s k (k + 2) at
       (branches_to e code run s k (k + 2) (branch_target s.registers.pc (pos 2)) (BranchZero W64 false 15 (pos 2)) at.pc there next refl refl (taken (pos 2) s.registers s.memory none)
-      (ap (λ (n : ℕ). branch_target n (pos 2)) at.pc ∙ over_one e.start.code k (length code) run.ends (slice_get_within code (k + 2) next.0 next.1)))
+      (ap (λ (n : ℕ). branch_target n (pos 2)) at.pc ∙ over_one e.start.code k (length code) run.ends (slice_get_within code (k + 2) next.0 next.1))
+      (sp_aligned s k at) (touches_nothing e s (BranchZero W64 false 15 (pos 2)) refl))
 
   pub not_taken_step : (s : State) (k w : ℕ) → StandsAt e places k s → slice_get code k ≡ Some (BranchZero W64 false 15 (pos 2)) → Stands code (k + 1) → s.registers.x 15 ≡ w → w < 2 ^ 64 → w ≢ 0 → Branches e places s (k + 1)
   not_taken_step s k w at there next given small some =
       branched s k (k + 1) at
-      (goes_to_next e code run s k (BranchZero W64 false 15 (pos 2)) s.registers s.memory at.pc there next refl refl (not_taken (pos 2) s.registers s.memory (rw given small) (λ e. some (sym given ∙ e))) refl)
+      (goes_to_next e code run s k (BranchZero W64 false 15 (pos 2)) s.registers s.memory at.pc there next refl refl (not_taken (pos 2) s.registers s.memory (rw given small) (λ e. some (sym given ∙ e))) refl
+      (sp_aligned s k at) (touches_nothing e s (BranchZero W64 false 15 (pos 2)) refl) refl)

@@ -3,7 +3,7 @@
 use Rattle.std.specs.Prelude.{ℕ, pos, negsuc, ◌+◌, ◌-◌, ◌*◌, ◌/◌, ◌%◌, ◌^◌, Bool, true, false, List, [], ◌∷◌, ◌++◌, length, sum_by, slice_index}
 use Rattle.std.proofs.Math.IntN.{◌-ℤ◌}
 use Rattle.b3_base.specs.declared.word.Width.TheVariants.{W64}
-use Rattle.b3_ir.specs.Procedure.{Procedure, values_of}
+use Rattle.b3_ir.specs.Procedure.{Procedure, total, values_by_block, values_of}
 use Rattle.b3_ir.specs.declared.opcode.Opcode.{Opcode}
 use Rattle.b3_ir.specs.declared.opcode.Opcode.TheVariants.{Const64, ArgumentReg, Add, Sub, Upsilon, Phi, Jump, Branch as Branches, Return}
 use Rattle.b3_ir.specs.declared.value.Body.{Body}
@@ -15,11 +15,10 @@ use Rattle.a64_inst.specs.declared.inst.AccessKind.TheVariants.{StrX, LdrX}
 use Rattle.a64_inst.specs.declared.inst.MoveOp.{MoveOp}
 use Rattle.a64_inst.specs.declared.inst.MoveOp.TheVariants.{Movz, Movk}
 use Rattle.a64_inst.specs.declared.inst.BranchKind.TheVariants.{Ret}
-use Rattle.a64_run.specs.Agrees.{value_count}
 
 -- how many values have a place: all but the last, which is a terminal
 abbrev pub places_of : Procedure → ℕ
-places_of p = value_count p - 1
+places_of p = total p - 1
 
 -- the frame of so many places: the places, by the ids of values, as many locations, by the ids of
 -- Phis, and the saved x29 and x30
@@ -117,7 +116,7 @@ begins_from here [] = []
 begins_from here (vs ∷ blocks) = here ∷ begins_from (here + words_of_values vs) blocks
 
 abbrev pub begins_of : Procedure → List ℕ
-begins_of p = begins_from (length (entry_code p)) p.blocks
+begins_of p = begins_from (length (entry_code p)) (values_by_block p)
 
 -- the code of value k, which begins at word `here`, by its opcode, children and body
 abbrev pub code_for : List ℕ → ℕ → ℕ → ℕ → Opcode → List ℕ → Body → List Inst
@@ -145,4 +144,4 @@ blocks_code begins places here (vs ∷ blocks) = values_code begins places here 
 
 -- the code of a procedure
 abbrev pub code_of : Procedure → List Inst
-code_of p = entry_code p ++ blocks_code (begins_of p) (places_of p) (length (entry_code p)) p.blocks
+code_of p = entry_code p ++ blocks_code (begins_of p) (places_of p) (length (entry_code p)) (values_by_block p)

@@ -1,7 +1,7 @@
 -- The object of a procedure with its baseline code.
 use Rattle.std.specs.Prelude.{ℕ, ◌*◌, Bool, true, false, if◌then◌else◌, List, [], ◌∷◌, length, map}
 use Rattle.std.specs.List.{list_any}
-use Rattle.b3_ir.specs.Procedure.{Procedure}
+use Rattle.b3_ir.specs.Procedure.{Procedure, values_by_block}
 use Rattle.b3_ir.specs.declared.opcode.Opcode.{Opcode}
 use Rattle.b3_ir.specs.declared.opcode.Opcode.TheVariants.{Return}
 use Rattle.b3_ir.specs.declared.value.Value.{Value}
@@ -10,7 +10,7 @@ use Rattle.stackmap.specs.declared.site.Returns.TheVariants.{Nothing, W64}
 use Rattle.exit_table.specs.declared.tables.FrameRow.{FrameRow}
 use Rattle.elf_obj.specs.declared.object.Object.{Object}
 use Rattle.elf_obj.specs.declared.object.Symbol.{Symbol}
-use Rattle.a64_inst.specs.Word.{word}
+use Rattle.a64_word.specs.Word.{word}
 use Rattle.a64_baseline.specs.Code.{code_of, places_of, frame_bytes}
 
 -- whether a value is a Return
@@ -20,7 +20,7 @@ is_return _ = false
 
 -- what a procedure returns: a word of 64 bits, or nothing where no block ends in a Return
 abbrev pub has_return : Procedure → Bool
-has_return p = list_any (λ vs. list_any (λ (v : Value). is_return v.kind.opcode) vs) p.blocks
+has_return p = list_any (λ vs. list_any (λ (v : Value). is_return v.kind.opcode) vs) (values_by_block p)
 
 abbrev pub returns_of : Procedure → Returns
 returns_of p = if has_return p then W64 else Nothing

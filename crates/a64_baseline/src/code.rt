@@ -2,8 +2,8 @@
 
 ghost use Rattle.std.specs.Prelude.{◌≡◌, ℕ, ◌+◌, ◌^◌, ◌<◌, List, ◌++◌, length, slice_get, Some, OnOk, IfOk, All};
 ghost use Rattle.a64_inst.specs.WellFormed.{IsWellFormed};
-ghost use Rattle.b3_ir.specs.Built.{IsBuilt};
-ghost use Rattle.b3_ir.specs.Procedure.{values_of};
+ghost use Rattle.b3_supported.specs.Supported.{IsSupported};
+ghost use Rattle.b3_ir.specs.Procedure.{values_by_block, values_of};
 ghost use Rattle.b3_ir.specs.Shape.{IsFormOf};
 ghost use Rattle.a64_baseline.specs.Code.{argument_store, argument_stores, begins_of, blocks_code, code_of, entry_code, places_of, size_of, value_code, values_code, words_of_values};
 
@@ -19,8 +19,8 @@ use std::alloc::Global;
 
 /// The code of a procedure. It is refused for want of memory alone.
 pub fn procedure_code(alloc: Global, p: &Proc) -> Result<Seq<Inst>, NoMemory>
-    requires { IsBuilt p.now }
-    ensures code { IfOk result (λ code. code ≡ code_of p.now) }
+    requires { IsSupported p.now.procedure }
+    ensures code { IfOk result (λ code. code ≡ code_of p.now.procedure) }
     ensures well_formed { IfOk result (All IsWellFormed) }
     ensures short { IfOk result (λ code. length code < 2 ^ 12) }
 {
@@ -30,10 +30,10 @@ pub fn procedure_code(alloc: Global, p: &Proc) -> Result<Seq<Inst>, NoMemory>
 
 /// The code of a procedure by its layout. It is refused for want of memory alone.
 pub(crate) fn laid_code(alloc: Global, p: &Proc, layout: &Layout) -> Result<Seq<Inst>, NoMemory>
-    requires built { IsBuilt p.now }
-    requires places { layout.now.places ≡ places_of p.now }
-    requires begins { layout.now.begins ≡ begins_of p.now }
-    ensures code { IfOk result (λ code. code ≡ code_of p.now) }
+    requires built { IsSupported p.now.procedure }
+    requires places { layout.now.places ≡ places_of p.now.procedure }
+    requires begins { layout.now.begins ≡ begins_of p.now.procedure }
+    ensures code { IfOk result (λ code. code ≡ code_of p.now.procedure) }
     ensures well_formed { IfOk result (All IsWellFormed) }
     ensures short { IfOk result (λ code. length code < 2 ^ 12) }
 {
@@ -46,34 +46,34 @@ pub(crate) fn laid_code(alloc: Global, p: &Proc, layout: &Layout) -> Result<Seq<
 
 /// The stores of the arguments, which are in block 0.
 fn push_arguments(code: &mut Seq<Inst>, p: &Proc) -> Result<(), NoMemory>
-    requires { IsBuilt p.now }
-    ensures { OnOk result (code.new ≡ code.old ++ argument_stores 0 (values_of p.now 0)) }
+    requires { IsSupported p.now.procedure }
+    ensures { OnOk result (code.new ≡ code.old ++ argument_stores 0 (values_of p.now.procedure 0)) }
 {
     let mut at = p.first(0);
     while let Some(node) = at {
-        push_argument(code, node.place, p.value(node))?;
+        push_argument(code, p.value(node))?;
         at = p.next(node);
     }
     Ok(())
 }
 
-/// The store of value `k`, where it is an argument.
-fn push_argument(code: &mut Seq<Inst>, k: u32, value: &Value) -> Result<(), NoMemory>
-    ensures { OnOk result (code.new ≡ code.old ++ argument_store k value.now.kind.opcode value.now.body) }
+/// The store of a value, where it is an argument.
+fn push_argument(code: &mut Seq<Inst>, value: &Value) -> Result<(), NoMemory>
+    ensures { OnOk result (code.new ≡ code.old ++ argument_store value.now.id value.now.kind.opcode value.now.body) }
 {
     match (value.kind.opcode, &value.body) {
-        (Opcode::ArgumentReg, Body::Argument(reg)) => code.push(store_inst(k, reg.0)),
+        (Opcode::ArgumentReg, Body::Argument(reg)) => code.push(store_inst(value.id, reg.0)),
         _ => Ok(()),
     }
 }
 
 /// The code of the blocks, in order.
 fn push_blocks(code: &mut Seq<Inst>, p: &Proc, layout: &Layout) -> Result<(), NoMemory>
-    requires built { IsBuilt p.now }
-    requires places { layout.now.places ≡ places_of p.now }
-    requires begins { layout.now.begins ≡ begins_of p.now }
-    requires here { length code.old ≡ length (entry_code p.now) }
-    ensures { OnOk result (code.new ≡ code.old ++ blocks_code layout.now.begins layout.now.places (length code.old) p.now.blocks) }
+    requires built { IsSupported p.now.procedure }
+    requires places { layout.now.places ≡ places_of p.now.procedure }
+    requires begins { layout.now.begins ≡ begins_of p.now.procedure }
+    requires here { length code.old ≡ length (entry_code p.now.procedure) }
+    ensures { OnOk result (code.new ≡ code.old ++ blocks_code layout.now.begins layout.now.places (length code.old) (values_by_block p.now.procedure)) }
 {
     for block in 0..p.blocks() {
         push_values(code, p, layout, block)?;
@@ -88,12 +88,12 @@ fn push_values(
     layout: &Layout,
     block: usize,
 ) -> Result<(), NoMemory>
-    requires built { IsBuilt p.now }
-    requires there { block < length p.now.blocks }
-    requires places { layout.now.places ≡ places_of p.now }
-    requires begins { layout.now.begins ≡ begins_of p.now }
-    requires short { length code.old + words_of_values (values_of p.now block) < 2 ^ 12 }
-    ensures { OnOk result (code.new ≡ code.old ++ values_code layout.now.begins layout.now.places (length code.old) (values_of p.now block)) }
+    requires built { IsSupported p.now.procedure }
+    requires there { block < length p.now.procedure.blocks }
+    requires places { layout.now.places ≡ places_of p.now.procedure }
+    requires begins { layout.now.begins ≡ begins_of p.now.procedure }
+    requires short { length code.old + words_of_values (values_of p.now.procedure block) < 2 ^ 12 }
+    ensures { OnOk result (code.new ≡ code.old ++ values_code layout.now.begins layout.now.places (length code.old) (values_of p.now.procedure block)) }
 {
     let mut at = p.first(block);
     while let Some(node) = at {
@@ -109,6 +109,7 @@ fn push_value(code: &mut Seq<Inst>, layout: &Layout, value: &Value) -> Result<()
     requires few { value.now.id < 256 }
     requires places { layout.now.places < 256 }
     requires begins { All (λ word. word < 2 ^ 12) layout.now.begins }
+    requires phi { (phi : ℕ) → value.now.body ≡ Body.Target phi → phi < 2 ^ 31 }
     requires targets { (blocks : List ℕ) → value.now.body ≡ Body.Targets blocks → All (λ block. block < length layout.now.begins) blocks }
     requires short { length code.old + size_of value.now.kind.opcode < 2 ^ 12 }
     ensures { OnOk result (code.new ≡ code.old ++ value_code layout.now.begins layout.now.places (length code.old) value.now) }

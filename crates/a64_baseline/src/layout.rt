@@ -3,7 +3,7 @@
 
 ghost use Rattle.std.specs.Prelude.{◌≡◌, ℕ, ◌+◌, ◌^◌, ◌<◌, ◌≤◌, ◌||◌, length, slice_index, IfOk};
 ghost use Rattle.std.specs.List.{list_any};
-ghost use Rattle.b3_ir.specs.Built.{IsBuilt};
+ghost use Rattle.b3_supported.specs.Supported.{IsSupported};
 ghost use Rattle.b3_ir.specs.Procedure.{values_of};
 ghost use Rattle.a64_baseline.specs.Code.{argument_store, argument_stores, begins_of, location_of, places_of, size_of, words_of_values};
 ghost use Rattle.a64_baseline.specs.Object.{has_return, is_return};
@@ -102,12 +102,12 @@ fn stores(opcode: Opcode, body: &Body) -> u32
 
 /// What the values of a block add up to.
 fn count_values(p: &Proc, block: usize) -> Count
-    requires built { IsBuilt p.now }
-    requires there { block < length p.now.blocks }
-    ensures values { result.values ≡ length (values_of p.now block) }
-    ensures arguments { result.arguments ≡ length (argument_stores 0 (values_of p.now block)) }
-    ensures words { result.words ≡ words_of_values (values_of p.now block) }
-    ensures returns { result.returns ≡ list_any (λ v. is_return v.kind.opcode) (values_of p.now block) }
+    requires built { IsSupported p.now.procedure }
+    requires there { block < length p.now.procedure.blocks }
+    ensures values { result.values ≡ length (values_of p.now.procedure block) }
+    ensures arguments { result.arguments ≡ length (argument_stores 0 (values_of p.now.procedure block)) }
+    ensures words { result.words ≡ words_of_values (values_of p.now.procedure block) }
+    ensures returns { result.returns ≡ list_any (λ v. is_return v.kind.opcode) (values_of p.now.procedure block) }
 {
     let mut count = Count {
         values: 0,
@@ -125,10 +125,10 @@ fn count_values(p: &Proc, block: usize) -> Count
 
 /// The layout of a procedure. It is refused for want of memory alone.
 pub(crate) fn lay_out(alloc: Global, p: &Proc) -> Result<Layout, NoMemory>
-    requires { IsBuilt p.now }
-    ensures places { IfOk result (λ layout. layout.places ≡ places_of p.now) }
-    ensures returns { IfOk result (λ layout. layout.returns ≡ has_return p.now) }
-    ensures begins { IfOk result (λ layout. layout.begins ≡ begins_of p.now) }
+    requires { IsSupported p.now.procedure }
+    ensures places { IfOk result (λ layout. layout.places ≡ places_of p.now.procedure) }
+    ensures returns { IfOk result (λ layout. layout.returns ≡ has_return p.now.procedure) }
+    ensures begins { IfOk result (λ layout. layout.begins ≡ begins_of p.now.procedure) }
 {
     let mut values = 0;
     let mut returns = false;

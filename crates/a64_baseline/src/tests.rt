@@ -1,17 +1,17 @@
 //! That the code and the object of a small procedure are made with ample memory.
 
 ghost use Rattle.std.specs.Prelude.{IfOk};
-ghost use Rattle.b3_ir.specs.Built.{IsBuilt};
+ghost use Rattle.b3_supported.specs.Supported.{IsSupported};
 
 use crate::{procedure_code, procedure_object};
-use b3_base::{Ids, NoMemory};
-use b3_ir::{Body, Kind, Opcode, Proc, Ty, Value};
+use b3_base::NoMemory;
+use b3_ir::{Body, Children, Kind, Opcode, Proc, Ty, Value};
 use std::alloc::Global;
 use std::test::Fail;
 
 /// A procedure that returns 7.
 fn returns_seven(alloc: Global) -> Result<Proc, NoMemory>
-    ensures { IfOk result (λ p. IsBuilt p) }
+    ensures { IfOk result (λ p. IsSupported p.procedure) }
 {
     let mut p = Proc::new(alloc, "f", 1)?;
     let block = p.add_block()?;
@@ -21,12 +21,12 @@ fn returns_seven(alloc: Global) -> Result<Proc, NoMemory>
             id: 0,
             ty: Ty::Int64,
             kind: Kind::plain(Opcode::Const64),
-            children: Ids::new(alloc),
+            children: Children::new(alloc),
             body: Body::Constant(7),
             line: 3,
         },
     )?;
-    let mut children = Ids::new(alloc);
+    let mut children = Children::new(alloc);
     children.push(0)?;
     p.push(
         block,

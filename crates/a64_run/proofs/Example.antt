@@ -9,13 +9,14 @@ use Rattle.b3_ir.specs.declared.opcode.Opcode.TheVariants.{Const64, ArgumentReg,
 use Rattle.b3_ir.specs.declared.opcode.Ty.TheVariants.{Void, Int64}
 use Rattle.b3_ir.specs.declared.value.Body.TheVariants.{Plain, Constant, Argument}
 use Rattle.b3_ir.specs.declared.value.Value.{Value}
-use Rattle.b3_meaning.specs.Observed.{MachineStart, no_memory}
+use Rattle.b3_base.specs.Observed.{MachineStart, no_memory}
 use Rattle.b3_meaning.specs.Run.{b3_run}
 use Rattle.stackmap.specs.declared.site.Returns.TheVariants.{W64}
 use Rattle.exit_table.specs.declared.tables.FrameRow.{FrameRow}
 use Rattle.elf_obj.specs.declared.object.Object.{Object}
 use Rattle.elf_obj.specs.declared.object.Symbol.{Symbol}
-use Rattle.a64_inst.specs.Decode.{decode}
+use Rattle.a64_word.specs.Decode.{decode}
+use Rattle.a64_word.specs.Parts.{by_row}
 use Rattle.a64_inst.specs.Step.{step_of, add_sub_imm, add_sub_reg, move_wide, access, store_pair, load_pair, branch_reg, shifted}
 use Rattle.a64_run.specs.Placement.{start_of}
 use Rattle.a64_run.specs.Machine.{Entry, machine_run}
@@ -29,7 +30,7 @@ values =
     ∷ []
 
 abbrev add_one : Procedure
-add_one = record { name = codes "f"; line = 1; slots = []; blocks = values ∷ [] }
+add_one = record { name = codes "f"; line = 1; slots = []; blocks = record { number = 0; line = 2; values = values } ∷ [] }
 
 -- its code by hand: add x0, x0, #1 and ret
 abbrev short_code : List ℕ
@@ -71,15 +72,15 @@ unfolding iterate
 stays = refl
 
 machine_going : (machine_run entry [] 1).status ≡ Going
-unfolding iterate decode step_of add_sub_imm
+unfolding iterate decode by_row step_of add_sub_imm
 machine_going = refl
 
 machine_returned : (machine_run entry [] 2).status ≡ Returned (Some 42)
-unfolding iterate decode step_of add_sub_imm branch_reg
+unfolding iterate decode by_row step_of add_sub_imm branch_reg
 machine_returned = refl
 
 machine_stays : (machine_run entry [] 3).status ≡ Returned (Some 42)
-unfolding iterate decode step_of add_sub_imm branch_reg
+unfolding iterate decode by_row step_of add_sub_imm branch_reg
 machine_stays = refl
 
 -- a longer code for it, in which each value has a place in the frame
@@ -101,9 +102,9 @@ abbrev long_entry : Entry
 long_entry = record { object = long_object; symbol = long_symbol; frame = long_frame; start = start }
 
 longer_going : (machine_run long_entry [] 3).status ≡ Going
-unfolding iterate decode step_of add_sub_imm store_pair is_mapped write_word
+unfolding iterate decode by_row step_of add_sub_imm store_pair is_mapped write_word
 longer_going = refl
 
 longer_returned : (machine_run long_entry [] 17).status ≡ Returned (Some 42)
-unfolding iterate decode step_of add_sub_imm add_sub_reg move_wide access store_pair load_pair branch_reg shifted is_mapped read_word write_word
+unfolding iterate decode by_row step_of add_sub_imm add_sub_reg move_wide access store_pair load_pair branch_reg shifted is_mapped read_word write_word
 longer_returned = refl

@@ -1,3 +1,9 @@
 pub mod Placement
 pub mod Machine
+pub mod Moments
 pub mod Agrees
+pub mod CodeOf
+pub mod Finding
+pub mod Taking
+pub mod Hidden
+pub mod Sharing

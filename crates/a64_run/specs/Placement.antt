@@ -2,7 +2,8 @@
 -- agrees with it.
 use Rattle.std.specs.Prelude.{◌≡◌, ℕ, ◌+◌, ◌-◌, ◌*◌, ◌%◌, ◌^◌, ◌≤◌, Bool, true, false, ◌&&◌, ◌||◌, not, nat_le, nat_lt, if◌then◌else◌, length, map, Option, Some, None, is_some}
 use Rattle.std.specs.List.{list_any}
-use Rattle.b3_meaning.specs.Observed.{Memory, Start, MachineStart, IsRangedMachineStart}
+use Rattle.b3_base.specs.Observed.{Memory, Start, MachineStart}
+use Rattle.b3_base.specs.Ranged.{IsRangedMachineStart}
 use Rattle.stackmap.specs.declared.site.SlotRow.{SlotRow}
 use Rattle.exit_table.specs.declared.tables.FrameRow.{FrameRow}
 use Rattle.elf_obj.specs.declared.object.Object.{Object}
@@ -33,7 +34,7 @@ in_slot frame m address = list_any (λ slot. is_within (slot_address m slot) slo
 
 -- the machine start may begin this procedure, of which this is the symbol and the frame: SP is
 -- aligned and has room for the frame below it, the text is aligned and ends by 2^64, the return
--- address is outside the text, and mapped bytes, frame and text share no byte (AAPCS64 6.2.2 for
+-- address is outside the text, and mapped bytes, frame and text share no byte (AAPCS64, 6.4.5.1, for
 -- SP)
 pub record Places (o : Object) (symbol : Symbol) (frame : FrameRow) (m : MachineStart) : Type 0 where
   pub ranged : IsRangedMachineStart m
@@ -57,12 +58,17 @@ visible frame m memory address = if is_some (m.memory address) || in_slot frame 
 abbrev pub entry_memory : FrameRow → MachineStart → Memory
 entry_memory frame m address = if in_frame frame m address then stack_byte m address else m.memory address
 
+-- the words of x0 to x7, and 0 from there on
+abbrev pub argument_words : (ℕ → ℕ) → ℕ → ℕ
+argument_words x r = if nat_lt r 8 then x r else 0
+
 -- the one start of the B3 run that agrees
 abbrev pub start_of : Object → FrameRow → MachineStart → Start
 start_of o frame m = record {
-  arguments = m.registers;
+  arguments = argument_words m.registers;
   frame_pointer = frame_pointer_of m;
   slots = map (slot_address m) frame.slots;
   memory = visible frame m (entry_memory frame m);
-  is_private = λ address. in_text o m address || (in_frame frame m address && not (in_slot frame m address));
+  is_hidden = λ address. in_frame frame m address && not (in_slot frame m address);
+  is_code = in_text o m;
 }

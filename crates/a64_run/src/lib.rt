@@ -1,2 +1,13 @@
-//! The run of the machine over an object: placement and steps, as definitions.
+//! The run of the machine over an object: when a machine start may begin a procedure, the start of
+//! the B3 run that agrees with it, and the run itself (DDI 0487 for instructions, AAPCS64 for calls).
 #![tactic(auto)]
+
+mod bytes;
+mod fault;
+mod find;
+mod hidden;
+mod memories;
+mod placement;
+
+pub use fault::PlaceFault;
+pub use placement::place;

@@ -1,5 +1,6 @@
 use Rattle.std.proofs.Common.{length}
-use Rattle.a64_baseline.proofs.CodeLists.{IsCounted, values_from}
+use Rattle.b3_ir.specs.Procedure.{values_from}
+use Rattle.a64_baseline.proofs.CodeLists.{IsCounted}
 use Rattle.a64_baseline.proofs.layout.count_values.Given as goal
 
 abbrev pub invariant-loop-at : goal.invariant-loop-at

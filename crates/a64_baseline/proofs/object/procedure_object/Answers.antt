@@ -1,11 +1,26 @@
-use Rattle.std.proofs.Common.{◌≡◌, subst, sym}
+use Rattle.std.proofs.Common.{◌≡◌, ◌^◌, ◌<◌, ◌≤◌, [], ◌∷◌, arith, subst, sym}
+use Rattle.std.specs.Prelude.{All}
 use Rattle.std.proofs.lemmas.Result.{IfOk-weaker}
-use Rattle.a64_baseline.specs.CodeOf.{IsCodeOf}
+use Rattle.std.specs.Result.{IfOk}
+use Rattle.elf_obj.specs.declared.object.Object.{Object}
+use Rattle.elf_obj.specs.Size.{size_bound}
+use Rattle.a64_run.specs.CodeOf.{IsCodeOf}
 use Rattle.a64_baseline.specs.Object.{object_of}
-use Rattle.a64_baseline.proofs.GoodObject.{object_is_code}
+use Rattle.a64_baseline.proofs.GoodObject.{object_is_code, object_small}
 use Rattle.a64_baseline.proofs.object.procedure_object.Goals as goal
 
-pub returns : goal.returns
-returns c =
-    let p = c.args.p.now in
-    IfOk-weaker c.laid_object.result (λ o. o ≡ object_of p) (λ o. IsCodeOf p o) (λ o e. subst (λ o. IsCodeOf p o) (sym e) (object_is_code p c.requires)) c.laid_object.ensures
+-- the object that is meant, and its words
+is_meant : (c : goal.After-laid_object) → IfOk c.laid_object.result (λ o. (o ≡ object_of c.args.p.now.procedure) × All (λ word. word < 2 ^ 32) o.text)
+is_meant c = grind (arith, c.laid_object.ensures.object, c.laid_object.ensures.narrow)
+
+pub returns-clause-code : goal.returns-clause-code
+returns-clause-code c =
+    let p = c.args.p.now.procedure in
+    IfOk-weaker c.laid_object.result (λ o. (o ≡ object_of p) × All (λ word. word < 2 ^ 32) o.text) (IsCodeOf (p ∷ []))
+    (λ o h. subst (IsCodeOf (p ∷ [])) (sym h.0) (object_is_code p c.requires (subst (λ (x : Object). All (λ word. word < 2 ^ 32) x.text) h.0 h.1))) (is_meant c)
+
+pub returns-clause-small : goal.returns-clause-small
+returns-clause-small c =
+    let p = c.args.p.now.procedure in
+    IfOk-weaker c.laid_object.result (λ o. (o ≡ object_of p) × All (λ word. word < 2 ^ 32) o.text) (λ o. size_bound o ≤ 134_217_728)
+    (λ o h. subst (λ (x : Object). size_bound x ≤ 134_217_728) (sym h.0) (object_small p c.requires)) (is_meant c)

@@ -1,5 +1,5 @@
 use Rattle.std.proofs.Common.{◌≡◌, take, map}
-use Rattle.a64_inst.specs.Word.{word}
+use Rattle.a64_word.specs.Word.{word}
 use Rattle.a64_baseline.proofs.object.words.Given as goal
 
 abbrev pub invariant-loop-inst : goal.invariant-loop-inst

@@ -1,8 +1,9 @@
-use Rattle.std.proofs.Common.{◌≡◌, ℕ, zero, suc, false, List, [], ◌∷◌, ◌++◌, length, refl, subst, sym, arith, inl}
+use Rattle.std.proofs.Common.{◌≡◌, ℕ, zero, suc, false, List, [], ◌∷◌, ◌++◌, length, refl, ap, subst, sym, arith, inl}
 use Rattle.std.specs.Prelude.{All, codes, slice_set}
 use Rattle.std.proofs.lemmas.List.Elements.{All-nil}
-use Rattle.b3_ir.specs.Procedure.{Procedure, values_of, empty_procedure}
-use Rattle.b3_ir.specs.Built.{StandsAt, IsChildAt, KeepsRules, IsBuilt}
+use Rattle.b3_ir.specs.Procedure.{Kept, Procedure, empty_block, empty_procedure, values_of, with_values}
+use Rattle.b3_supported.specs.Supported.{IsChildAt, KeepsRules, IsSupported}
+use Rattle.b3_ir.specs.Procedure.{StandsAt}
 use Rattle.b3_ir.specs.declared.opcode.Opcode.TheVariants.{Const64, Return}
 use Rattle.b3_ir.specs.declared.opcode.Ty.TheVariants.{Void, Int64}
 use Rattle.b3_ir.specs.declared.opcode.Kind.{Kind}
@@ -24,7 +25,7 @@ abbrev return_value : Value
 return_value = return (record { opcode = Return; chill = false; traps = false }) (0 ∷ [])
 
 abbrev seven : Procedure
-seven = record { name = codes "f"; line = 1; slots = []; blocks = (constant_value ∷ return_value ∷ []) ∷ [] }
+seven = record { name = codes "f"; line = 1; slots = []; blocks = record { number = 0; line = 1; values = constant_value ∷ return_value ∷ [] } ∷ [] }
 
 children : All (IsChildAt seven 0 1) (0 ∷ [])
 children zero d lt = (0, 0, constant_value, refl, refl, refl, inl (refl, omega arith))
@@ -40,17 +41,17 @@ keeps zero (suc zero) v e =
 keeps zero (suc (suc j)) v e = cc
 keeps (suc b) j v e = cc
 
-seven_is_built : IsBuilt seven
+seven_is_built : IsSupported seven
 seven_is_built = record {
   shape = record {
     name = record { begin = refl; all = refl; short = omega arith };
-    line = refl;
     slots = refl;
     some = omega arith;
     blocks = (
+      refl,
       (
-        record { id = refl; line = refl; chill = refl; traps = refl; form = (refl, refl, omega arith) },
-        (record { id = refl; line = refl; chill = refl; traps = refl; form = (refl, (0, refl, omega arith), tt) }, tt),
+        record { id = refl; chill = refl; traps = refl; form = (refl, refl, omega arith) },
+        (record { id = refl; chill = refl; traps = refl; form = (refl, (0, refl, omega arith), tt) }, tt),
       ),
       (refl, refl),
       tt,
@@ -59,10 +60,9 @@ seven_is_built = record {
   rules = keeps;
 }
 
-made : (p0 p1 p2 p3 : Procedure) (block : ℕ) (v w : Value) → p0 ≡ empty_procedure (codes "f") 1 → p1 ≡ record p0 { blocks = p0.blocks ++ [] ∷ [] } → block ≡ length p0.blocks
-    → p2 ≡ record p1 { blocks = slice_set p1.blocks block (values_of p1 block ++ v ∷ []) } → p3 ≡ record p2 { blocks = slice_set p2.blocks block (values_of p2 block ++ w ∷ []) }
-    → v ≡ constant_value → w ≡ return_value → p3 ≡ seven
-made p0 p1 p2 p3 block v w e0 e1 number e2 e3 is_v is_w = rw (e3, e2, e1, number, e0, is_v, is_w) refl
+made : (p0 p1 p2 p3 : Procedure) (block : ℕ) (v w : Value) → p0 ≡ empty_procedure (codes "f") 1 → p1 ≡ record p0 { blocks = p0.blocks ++ empty_block (length p0.blocks) p0.line ∷ [] } → block ≡ length p0.blocks
+    → p2 ≡ with_values p1 block (values_of p1 block ++ v ∷ []) → p3 ≡ with_values p2 block (values_of p2 block ++ w ∷ []) → v ≡ constant_value → w ≡ return_value → p3 ≡ seven
+made p0 p1 p2 p3 block v w e0 e1 place e2 e3 is_v is_w = rw (e3, e2, e1, place, e0, is_v, is_w) refl
 
 pub returns : goal.returns
 returns c =
@@ -70,4 +70,5 @@ returns c =
     let w : Value = return c.plain-2.result c.push-2.new.self in
     let is_v : v ≡ constant_value = rw (c.plain.ensures, c.new-2.ensures) refl in
     let is_w : w ≡ return_value = rw (c.plain-2.ensures, c.in_ok-push-2.ensures.ok, c.new-children.ensures) refl in
-    subst IsBuilt (sym (made c.in_ok-p.p c.add_block.new.self c.push.new.self c.push-3.new.self c.in_ok-block.block v w c.in_ok-p.ensures c.in_ok-block.ensures.ok c.in_ok-block.ensures.number c.in_ok-push.ensures.ok c.in_ok-push-3.ensures.ok is_v is_w)) seven_is_built
+    subst IsSupported
+    (sym (made c.in_ok-p.p.procedure c.add_block.new.self.procedure c.push.new.self.procedure c.push-3.new.self.procedure c.in_ok-block.block v w (ap (λ (k : Kept). k.procedure) c.in_ok-p.ensures) c.in_ok-block.ensures.ok c.in_ok-block.ensures.place c.in_ok-push.ensures.ok c.in_ok-push-3.ensures.ok is_v is_w)) seven_is_built
