@@ -1,32 +1,32 @@
 -- What compile promises of its answer, and what the tool promises of its ends.
-use Rattle.std.specs.Prelude.{◌≡◌, ℕ, ◌<◌, ◌≤◌, ◌⊎◌, List, [], length, take, Option, Some, IfSome}
+use Rattle.std.specs.Prelude.{◌≡◌, ℕ, ◌<◌, ◌≤◌, ◌⊎◌, List, [], ◌∷◌, length, take, Option, Some, IfSome}
 use Rattle.std.specs.Io.KnownBytes.{Appends}
 use Rattle.b3_io.specs.Faults.{Rose}
 use Rattle.b3_ir.specs.Procedure.{Procedure}
-use Rattle.b3_ir.specs.Built.{IsBuilt}
-use Rattle.b3_built.specs.Faults.{IsFaultLine}
+use Rattle.b3_supported.specs.Supported.{IsSupported}
+use Rattle.b3_supported.specs.Faults.{IsFaultLine}
 use Rattle.b3_text.specs.Texts.{Spells, BadLine}
 use Rattle.elf_obj.specs.declared.object.Object.{Object}
 use Rattle.elf_obj.specs.Elf.{Holds}
-use Rattle.a64_baseline.specs.CodeOf.{IsCodeOf}
+use Rattle.a64_run.specs.CodeOf.{IsCodeOf}
 use Rattle.b3c_core.specs.declared.compiler.Fault.{Fault}
 use Rattle.b3c_core.specs.declared.compiler.Fault.TheVariants.{NotBuilt, NoMemory}
 
--- the bytes of a file hold one object, of the code of a procedure: its code and its frame agree
--- with the procedure, so from each machine start that may begin it the machine shows the same as
--- the run of B3
-pub record IsFileOf (p : Procedure) (file : List ℕ) : Type 0 where
+-- the bytes of a file hold one object, which is the code of some procedures: the code and the frame of
+-- each agree with it, so from each machine start that may begin it the machine shows the same as the run
+-- of B3
+pub record IsFileOf (procedures : List Procedure) (file : List ℕ) : Type 0 where
   pub object : Object
   pub holds : Holds file object
   pub small : length file ≤ 134_217_728
-  pub code : IsCodeOf p object
+  pub code : IsCodeOf procedures object
 
 -- a text spells a procedure that is built, and this is the file of its object
 pub record IsCompiled (text file : List ℕ) : Type 0 where
   pub procedure : Procedure
   pub spells : Spells text procedure
-  pub built : IsBuilt procedure
-  pub file_of : IsFileOf procedure file
+  pub built : IsSupported procedure
+  pub file_of : IsFileOf (procedure ∷ []) file
 
 -- the line at which a text is refused: its bad line where it spells no procedure, and else that of
 -- the first value that breaks a rule
@@ -36,7 +36,7 @@ IsRefusalLine text line = BadLine text line ⊎ ((p : Procedure) × Spells text 
 -- the text spells no procedure that is built, and this line is where it is refused
 pub record IsRefused (text : List ℕ) (line : ℕ) : Type 0 where
   pub at_line : IsRefusalLine text line
-  pub no_text : (p : Procedure) → Spells text p → IsBuilt p → ⊥
+  pub no_text : (p : Procedure) → Spells text p → IsSupported p → ⊥
 
 -- why a text was not compiled: it is refused at a line, or want of memory
 abbrev pub IsCause : List ℕ → Fault → Type 0
@@ -48,18 +48,17 @@ pub record ReadsWhole (left left' : Option (List ℕ)) (text : List ℕ) : Type 
   pub all : IfSome left (λ bytes. text ≡ bytes)
   pub end : IfSome left (λ _. left' ≡ Some [])
 
--- the text was compiled, and the sink took the whole file
-pub record Writes (text : List ℕ) (held held' : Option (List ℕ)) : Type 0 where
-  pub file : List ℕ
-  pub compiled : IsCompiled text file
-  pub written : Appends held held' file
+-- the sink took the whole of an output
+pub record Writes (Output : List ℕ → Type 0) (held held' : Option (List ℕ)) : Type 0 where
+  pub output : List ℕ
+  pub is_output : Output output
+  pub written : Appends held held' output
 
--- the text was compiled, but the sink's count of faults rose and it took the front of the file
--- alone
-pub record WritesPart (text : List ℕ) (held held' : Option (List ℕ)) (faults faults' : ℕ) : Type 0 where
-  pub file : List ℕ
-  pub compiled : IsCompiled text file
+-- the sink's count of faults rose, and it took the front of an output alone
+pub record WritesPart (Output : List ℕ → Type 0) (held held' : Option (List ℕ)) (faults faults' : ℕ) : Type 0 where
+  pub output : List ℕ
+  pub is_output : Output output
   pub count : ℕ
-  pub short : count < length file
-  pub written : Appends held held' (take count file)
+  pub short : count < length output
+  pub written : Appends held held' (take count output)
   pub cause : Rose faults faults'

@@ -6,7 +6,7 @@ use Rattle.b3_io.specs.Faults.{Rose}
 use Rattle.b3_io.specs.Taken.{Takes}
 use Rattle.b3c_core.specs.declared.ending.Ending.{Ending}
 use Rattle.b3c_core.specs.declared.ending.Ending.TheVariants.{Written, Usage, ReadFault, WriteFault, TooLong, NotBuilt, NoMemory}
-use Rattle.b3c_core.specs.Compiled.{ReadsWhole, IsRefused, Writes, WritesPart}
+use Rattle.b3c_core.specs.Compiled.{ReadsWhole, Writes, WritesPart}
 
 -- the most bytes that a text may have
 abbrev pub text_limit : ℕ
@@ -57,26 +57,27 @@ IsAfterReading ReadFault = ⊥
 IsAfterReading TooLong = ⊥
 IsAfterReading _ = Unit {0}
 
--- what has come about at an ending that follows once the input was read to its end
-abbrev pub HasCompiled : List ℕ → Call → Ending → Type 0
-HasCompiled text call Written = Writes text call.held call.held'
-HasCompiled text call WriteFault = WritesPart text call.held call.held' call.output_faults call.output_faults'
-HasCompiled text call (NotBuilt line) = IsRefused text line
-HasCompiled text call NoMemory = Unit {0}
-HasCompiled text call _ = ⊥
+-- what has come about at an ending that follows once the input was read to its end, for a command whose
+-- output for a text and whose refusals at a line are these
+abbrev pub HasAnswered : (List ℕ → List ℕ → Type 0) → (List ℕ → ℕ → Type 0) → List ℕ → Call → Ending → Type 0
+HasAnswered Output Refused text call Written = Writes (Output text) call.held call.held'
+HasAnswered Output Refused text call WriteFault = WritesPart (Output text) call.held call.held' call.output_faults call.output_faults'
+HasAnswered Output Refused text call (NotBuilt line) = Refused text line
+HasAnswered Output Refused text call NoMemory = Unit {0}
+HasAnswered Output Refused text call _ = ⊥
 
-pub record HasRead (call : Call) (ending : Ending) : Type 0 where
+pub record HasRead (Output : List ℕ → List ℕ → Type 0) (Refused : List ℕ → ℕ → Type 0) (call : Call) (ending : Ending) : Type 0 where
   pub text : List ℕ
   pub read : ReadsWhole call.left call.left' text
-  pub compiled : HasCompiled text call ending
+  pub answered : HasAnswered Output Refused text call ending
 
--- what has come about at each ending
-abbrev pub HasEnded : Call → Ending → Type 0
-HasEnded call Usage = call.words ≢ compile_words
-HasEnded call ReadFault = Rose call.input_faults call.input_faults'
-HasEnded call TooLong = Takes (λ n. text_limit < n) call.left call.left'
-HasEnded call NoMemory = Unit {0}
-HasEnded call ending = HasRead call ending
+-- what has come about at each ending of a command that these words name
+abbrev pub HasEnded : List (List ℕ) → (List ℕ → List ℕ → Type 0) → (List ℕ → ℕ → Type 0) → Call → Ending → Type 0
+HasEnded words Output Refused call Usage = call.words ≢ words
+HasEnded words Output Refused call ReadFault = Rose call.input_faults call.input_faults'
+HasEnded words Output Refused call TooLong = Takes (λ n. text_limit < n) call.left call.left'
+HasEnded words Output Refused call NoMemory = Unit {0}
+HasEnded words Output Refused call ending = HasRead Output Refused call ending
 
 -- a sink took this line, or its count of faults rose and it took a prefix of it
 pub record TakesLine (line : List ℕ) (held held' : Option (List ℕ)) (faults faults' : ℕ) : Type 0 where

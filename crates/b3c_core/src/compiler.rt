@@ -1,13 +1,13 @@
 //! From the bytes of a text to the bytes of an object.
 
-ghost use Rattle.std.specs.Prelude.{◌-◌, ◌^◌, ◌<◌, length, IfOk, IfErr};
-ghost use Rattle.b3_ir.specs.Built.{IsBuilt};
+ghost use Rattle.std.specs.Prelude.{◌-◌, ◌^◌, ◌<◌, [], ◌∷◌, length, IfOk, IfErr};
+ghost use Rattle.b3_supported.specs.Supported.{IsSupported};
 ghost use Rattle.b3c_core.specs.Compiled.{IsCause, IsCompiled, IsFileOf};
 
 use a64_baseline::procedure_object;
 use b3_base::{Bytes, NoMemory};
-use b3_built::fault_line;
 use b3_ir::Proc;
+use b3_supported::fault_line;
 use b3_text::TextFault;
 use std::alloc::Global;
 
@@ -53,8 +53,8 @@ pub fn compile(alloc: Global, bytes: &[u8]) -> Result<Bytes, Fault>
 
 /// The file of the object of a procedure. It is refused for want of memory alone.
 fn procedure_file(alloc: Global, p: &Proc) -> Result<Bytes, NoMemory>
-    requires { IsBuilt p.now }
-    ensures { IfOk result (IsFileOf p.now) }
+    requires { IsSupported p.now.procedure }
+    ensures { IfOk result (IsFileOf (p.now.procedure ∷ [])) }
 {
     let object = procedure_object(alloc, p)?;
     elf_obj::write(alloc, &object)

@@ -234,7 +234,7 @@ fn returned(
     }
     let module = b3_text::read(alloc, bytes)?;
     let p = module.proc(0);
-    if b3_built::fault_line(alloc, p)?.is_some() {
+    if b3_supported::fault_line(alloc, p)?.is_some() {
         return Err("refused".into());
     }
     let code = procedure_code(alloc, p)?;

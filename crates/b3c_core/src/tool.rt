@@ -5,10 +5,11 @@ ghost use Rattle.std.specs.Prelude.{◌≡◌, ◌≢◌, ◌↔◌, ℕ, ◌-�
 ghost use Rattle.std.specs.Io.KnownBytes.{Appends};
 ghost use Rattle.b3_io.specs.Faults.{Rose};
 ghost use Rattle.b3_io.specs.Taken.{Takes};
-ghost use Rattle.b3_ir.specs.Built.{IsBuilt};
+ghost use Rattle.b3_supported.specs.Supported.{IsSupported};
 ghost use Rattle.b3_ir.specs.Procedure.{Procedure};
 ghost use Rattle.b3_text.specs.Texts.{Spells};
-ghost use Rattle.b3c_core.specs.Tool.{Call, HasCompiled, HasEnded, IsAfterReading, TakesLine, compile_words, line_of, status_of};
+ghost use Rattle.b3c_core.specs.Compiled.{IsCompiled, IsRefused};
+ghost use Rattle.b3c_core.specs.Tool.{Call, HasAnswered, HasEnded, IsAfterReading, TakesLine, compile_words, line_of, status_of};
 ghost use Rattle.b3c_core.specs.declared.ending.Ending.{Ending};
 
 use crate::compiler::{Fault, compile};
@@ -51,12 +52,12 @@ pub fn run_tool<S: Source, T: Source, K: Sink, E: Sink>(
     // A text within the limit is compiled, unless memory is wanted, where nothing failed.
     ensures complete { words.now ≡ compile_words
         → (Rose (S.faults input.old) (S.faults input.new) → ⊥) → (Rose (K.faults out.old) (K.faults out.new) → ⊥)
-        → (p : Procedure) (text : List ℕ) → S.left input.old ≡ Some text → Spells text p → IsBuilt p → length text ≤ TEXT_LIMIT
+        → (p : Procedure) (text : List ℕ) → S.left input.old ≡ Some text → Spells text p → IsSupported p → length text ≤ TEXT_LIMIT
         → (result ≡ 0) ⊎ (result ≡ 9) }
 
     // What has come about, and the line on the error stream.
     ensures ended { (ending : Ending) × (result ≡ status_of ending)
-        × HasEnded (record { words = words.now; left = S.left input.old; left' = S.left input.new; input_faults = S.faults input.old; input_faults' = S.faults input.new; held = K.held out.old; held' = K.held out.new; output_faults = K.faults out.old; output_faults' = K.faults out.new }) ending
+        × HasEnded compile_words IsCompiled IsRefused (record { words = words.now; left = S.left input.old; left' = S.left input.new; input_faults = S.faults input.old; input_faults' = S.faults input.new; held = K.held out.old; held' = K.held out.new; output_faults = K.faults out.old; output_faults' = K.faults out.new }) ending
         × TakesLine (line_of ending) (E.held err.old) (E.held err.new) (E.faults err.old) (E.faults err.new) }
 {
     let ending = run_command(alloc, words, input, out);
@@ -79,7 +80,7 @@ fn run_command<S: Source, K: Sink>(
     ensures too_long { result ≡ Ending.TooLong → Takes (λ n. TEXT_LIMIT < n) (S.left input.old) (S.left input.new) }
     ensures within { result ≢ Ending.TooLong → Takes (λ n. n ≤ TEXT_LIMIT) (S.left input.old) (S.left input.new) }
     ensures nothing_written { result ≢ Ending.Written → result ≢ Ending.WriteFault → out.new ≡ out.old }
-    ensures ended { HasEnded (record { words = words.now; left = S.left input.old; left' = S.left input.new; input_faults = S.faults input.old; input_faults' = S.faults input.new; held = K.held out.old; held' = K.held out.new; output_faults = K.faults out.old; output_faults' = K.faults out.new }) result }
+    ensures ended { HasEnded compile_words IsCompiled IsRefused (record { words = words.now; left = S.left input.old; left' = S.left input.new; input_faults = S.faults input.old; input_faults' = S.faults input.new; held = K.held out.old; held' = K.held out.new; output_faults = K.faults out.old; output_faults' = K.faults out.new }) result }
 {
     if !is_compile(words) {
         return Ending::Usage;
@@ -96,7 +97,7 @@ fn run_command<S: Source, K: Sink>(
 fn compile_to<K: Sink>(alloc: Global, bytes: &Bytes, out: &mut K) -> Ending
     requires { length bytes.now < 2 ^ 32 - 1 }
     ensures kinds { IsAfterReading result }
-    ensures compiled { (call : Call) → call.held ≡ K.held out.old → call.held' ≡ K.held out.new → call.output_faults ≡ K.faults out.old → call.output_faults' ≡ K.faults out.new → HasCompiled bytes.now call result }
+    ensures answered { (call : Call) → call.held ≡ K.held out.old → call.held' ≡ K.held out.new → call.output_faults ≡ K.faults out.old → call.output_faults' ≡ K.faults out.new → HasAnswered IsCompiled IsRefused bytes.now call result }
     ensures write_fault { result ≡ Ending.WriteFault → Rose (K.faults out.old) (K.faults out.new) }
     ensures nothing_written { result ≢ Ending.Written → result ≢ Ending.WriteFault → out.new ≡ out.old }
 {

@@ -1,5 +1,6 @@
 use Rattle.std.proofs.Common.{refl}
-use Rattle.b3c_core.specs.Tool.{Call}
+use Rattle.b3c_core.specs.Compiled.{IsCompiled, IsRefused}
+use Rattle.b3c_core.specs.Tool.{Call, compile_words}
 use Rattle.b3c_core.proofs.Endings.{ended_after}
 use Rattle.b3c_core.proofs.tool.run_command.Goals as goal
 
@@ -16,4 +17,4 @@ returns-in-Ok-clause-ended g c =
       output_faults = g.K.Sink.faults c.args.out.now;
       output_faults' = g.K.Sink.faults c.compile_to.new.out;
     } in
-    ended_after call c.compile_to.result c.in-Ok.bytes (record { all = c.in-Ok.ensures.all; end = c.in-Ok.ensures.end }) (c.compile_to.ensures.compiled call refl refl refl refl)
+    ended_after compile_words IsCompiled IsRefused call c.compile_to.result c.in-Ok.bytes (record { all = c.in-Ok.ensures.all; end = c.in-Ok.ensures.end }) (c.compile_to.ensures.answered call refl refl refl refl)
