@@ -13,6 +13,7 @@ use Rattle.exit_table.specs.declared.tables.FrameRow.{FrameRow}
 use Rattle.exit_table.specs.declared.tables.SiteRow.{SiteRow}
 use Rattle.exit_table.specs.declared.tables.Tables.{Tables}
 use Rattle.b3_base.specs.Fields.{halves, words, xwords}
+use Rattle.b3_base.proofs.FieldLaws.{length-words}
 use Rattle.exit_table.specs.Spelling.{slot_spelling, saved_spelling, frame_spelling, frame_section, place_spelling, site_spelling, exit_section}
 use Rattle.elf_obj.specs.declared.object.Symbol.{Symbol}
 use Rattle.elf_obj.specs.declared.object.Object.{Object}
@@ -29,13 +30,6 @@ length-halves [] = refl
 length-halves (number ∷ rest) =
     let split : length (halves (number ∷ rest)) ≡ length (to_le_bytes w16 number ++ flat_map (to_le_bytes w16) rest) = ap length (flat_map-cons (to_le_bytes w16) number rest) in
     omega (arith, split, length-halves rest)
-
-length-words : (numbers : List ℕ) → length (words numbers) ≡ 4 * length numbers
-unfolding words
-length-words [] = refl
-length-words (number ∷ rest) =
-    let split : length (words (number ∷ rest)) ≡ length (to_le_bytes w32 number ++ flat_map (to_le_bytes w32) rest) = ap length (flat_map-cons (to_le_bytes w32) number rest) in
-    omega (arith, split, length-words rest)
 
 length-xwords : (numbers : List ℕ) → length (xwords numbers) ≡ 8 * length numbers
 unfolding xwords
@@ -97,9 +91,9 @@ length-section_headers : (at : ℕ) (sections : List Section) → length (sectio
 length-section_headers at [] = refl
 length-section_headers at (section ∷ rest) = simp (length-append, length-section_header) (omega (arith, length-section_headers (start_of at section + length section.bytes) rest))
 
-length-file_header : (headers : ℕ) → length (file_header headers) ≡ 64
+pub length_file_header : (headers : ℕ) → length (file_header headers) ≡ 64
 unfolding file_header
-length-file_header headers = simp (length-append, length-words, length-halves, length-xwords)
+length_file_header headers = simp (length-append, length-words, length-halves, length-xwords)
 
 -- a gap is shorter than the alignment
 gap_below : (align at : ℕ) → 0 < align → gap align at + 1 ≤ align
@@ -143,4 +137,4 @@ length-contents_of object =
 -- the file of an object is within its bound
 pub length-encode : (object : Object) → length (encode object) ≤ size_bound object
 unfolding encode
-length-encode object = simp (length-append, length-file_header, length-replicate, length-section_headers) (omega (arith, count-sections object, gap_below 8 (contents_end object) (omega arith), length-contents_of object))
+length-encode object = simp (length-append, length_file_header, length-replicate, length-section_headers) (omega (arith, count-sections object, gap_below 8 (contents_end object) (omega arith), length-contents_of object))
