@@ -2,7 +2,8 @@
 use Rattle.std.proofs.Common.{◌≡◌, ℕ, zero, suc, ◌+◌, ◌<◌, ◌≤◌, true, List, [], ◌∷◌, ◌++◌, Some, length, refl, ap, ◌∙◌, subst, arith}
 use Rattle.std.specs.Prelude.{slice_get, slice_index, slice_index_or}
 use Rattle.b3_ir.specs.Procedure.{Procedure, values_by_block, values_of}
-use Rattle.b3_ir.specs.Shape.{IsFormOf, AreValuesFrom, EndsBlock, IsShaped, is_terminal}
+use Rattle.b3_ir.specs.Shape.{IsFormOf, AreValuesFrom, EndsBlock, IsShaped}
+use Rattle.b3_ir.specs.Table.{is_terminal}
 use Rattle.b3_supported.specs.Supported.{IsSupported}
 use Rattle.b3_ir.specs.declared.opcode.Opcode.{Opcode}
 use Rattle.b3_ir.specs.declared.opcode.Opcode.TheVariants.{Const64, ArgumentReg, Add, Sub, Upsilon, Phi, Jump, Branch, Return}

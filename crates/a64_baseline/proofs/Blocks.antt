@@ -4,7 +4,8 @@ use Rattle.std.specs.Prelude.{slice_get, slice_index, slice_index_or, ◌||◌}
 use Rattle.std.specs.List.{list_any}
 use Rattle.b3_ir.specs.Naming.{type_of}
 use Rattle.b3_ir.specs.Procedure.{Procedure, values_by_block, values_of}
-use Rattle.b3_ir.specs.Shape.{AreValuesFrom, EndsBlock, is_terminal}
+use Rattle.b3_ir.specs.Shape.{AreValuesFrom, EndsBlock}
+use Rattle.b3_ir.specs.Table.{is_terminal}
 use Rattle.b3_ir.specs.Procedure.{StandsAt}
 use Rattle.b3_ir.specs.declared.opcode.Opcode.TheVariants.{Return}
 use Rattle.b3_ir.specs.declared.value.Value.{Value}

@@ -5,7 +5,8 @@ use Rattle.std.proofs.lemmas.Option.{slice_get_within}
 use Rattle.std.proofs.lemmas.List.{take_all}
 use Rattle.std.proofs.lemmas.List.Sums.{sum_by-cons}
 use Rattle.b3_ir.specs.Procedure.{Block, Procedure, StandsAt, total, values_by_block, values_of}
-use Rattle.b3_ir.specs.Shape.{AreBlocksFrom, AreValuesFrom, EndsBlock, IsShaped, IsValueAt, first_id, is_terminal}
+use Rattle.b3_ir.specs.Shape.{AreBlocksFrom, AreValuesFrom, EndsBlock, IsShaped, IsValueAt, first_id}
+use Rattle.b3_ir.specs.Table.{is_terminal}
 use Rattle.b3_supported.specs.Supported.{IsSupported, IsPhi}
 use Rattle.b3_ir.specs.declared.value.Value.{Value}
 use Rattle.b3_ir.proofs.Numbering as numbered

@@ -14,7 +14,8 @@ use Rattle.a64_run.specs.Placement.{argument_words}
 use Rattle.std.proofs.lemmas.Bool.{ne_eqb}
 use Rattle.b3_ir.specs.Procedure.{Procedure, values_by_block}
 use Rattle.b3_ir.specs.Fits.{IsConstantBelow, IsTarget}
-use Rattle.b3_ir.specs.Shape.{IsValueAt, IsFormOf, IsArgumentBody, IsOneTarget, AreTwoTargets, is_terminal}
+use Rattle.b3_ir.specs.Shape.{IsValueAt, IsFormOf, IsArgumentBody, IsOneTarget, AreTwoTargets}
+use Rattle.b3_ir.specs.Table.{is_terminal}
 use Rattle.b3_supported.specs.Supported.{KeepsRules, NamesPhi, NamesBlocks, IsPhi}
 use Rattle.b3_ir.specs.Procedure.{StandsAt}
 use Rattle.b3_ir.specs.declared.opcode.Opcode.{Opcode}

@@ -10,3 +10,4 @@ pub mod Moves
 pub mod Numbering
 pub mod Typing
 pub mod TableExamples
+pub mod NameLemmas

@@ -1,7 +1,7 @@
 -- The table of opcodes, one row each: the name; what a value of it carries beside its children; its
 -- flag; the types of the children that it computes with; which children may follow; and the type of
 -- its result.
-use Rattle.std.specs.Prelude.{ℕ, List, [], ◌∷◌, codes}
+use Rattle.std.specs.Prelude.{ℕ, Bool, true, false, List, [], ◌∷◌, codes}
 use Rattle.b3_base.specs.declared.word.Width.TheVariants.{W32, W64}
 use Rattle.b3_ir.specs.declared.opcode.Ty.TheVariants.{Void, Int32, Int64}
 use Rattle.b3_ir.specs.declared.opcode.Opcode.{Opcode}
@@ -117,3 +117,12 @@ row_of op.Oops = plain (codes "Oops") [] (gives.This Void)
 row_of op.Branch = row (codes "Branch") TwoSuccessors NoFlag (Any ∷ []) NoMore (gives.This Void)
 row_of op.Switch = row (codes "Switch") CaseSuccessors NoFlag (Any ∷ []) NoMore (gives.This Void)
 row_of op.Return = row (codes "Return") Nothing NoFlag [] One (gives.This Void)
+
+-- the opcodes that end a block
+abbrev pub is_terminal : Opcode → Bool
+is_terminal op.Jump = true
+is_terminal op.Oops = true
+is_terminal op.Branch = true
+is_terminal op.Switch = true
+is_terminal op.Return = true
+is_terminal _ = false

@@ -2,6 +2,7 @@
 #![tactic(auto)]
 
 mod children;
+mod name;
 mod opcode;
 mod procedure;
 mod reg_set;
@@ -13,6 +14,7 @@ mod value;
 
 pub use children::Children;
 pub use ir_arena::NodeId;
+pub use name::is_name;
 pub use opcode::{Kind, Opcode, Ty};
 pub use procedure::{BlockLine, Module, Proc, SlotLine};
 pub use reg_set::RegSet;

@@ -15,7 +15,8 @@ use Rattle.b3_ir.specs.declared.table.Flag.{Flag}
 use Rattle.b3_ir.specs.declared.table.Flag.TheVariants.{Chill, Traps}
 use Rattle.b3_ir.specs.Names.{IsName}
 use Rattle.b3_ir.specs.Procedure.{Block, Procedure, empty_block, no_block, total, values_of, with_values}
-use Rattle.b3_ir.specs.Shape.{AreBlocksFrom, AreTwoTargets, AreValuesFrom, EndsBlock, IsArgumentBody, IsFormOf, IsOneTarget, is_terminal, IsShaped, IsValueAt}
+use Rattle.b3_ir.specs.Shape.{AreBlocksFrom, AreTwoTargets, AreValuesFrom, EndsBlock, IsArgumentBody, IsFormOf, IsOneTarget, IsShaped, IsValueAt}
+use Rattle.b3_ir.specs.Table.{is_terminal}
 use Rattle.b3_ir.specs.Table.{row_of}
 
 -- ---- blocks that are not whole yet

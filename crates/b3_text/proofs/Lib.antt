@@ -1,5 +1,4 @@
 pub mod LineLemmas
-pub mod NameLemmas
 pub mod CutLemmas
 pub mod DigitLemmas
 pub mod PlaceLemmas

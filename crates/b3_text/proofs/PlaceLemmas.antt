@@ -6,7 +6,8 @@ use Rattle.std.proofs.lemmas.List.Sums.{sum_by-cons}
 use Rattle.b3_ir.specs.declared.value.Body.{Body}
 use Rattle.b3_ir.specs.declared.value.Value.{Value}
 use Rattle.b3_ir.specs.Procedure.{Block, Procedure, empty_block, no_block}
-use Rattle.b3_ir.specs.Shape.{EndsBlock, is_terminal}
+use Rattle.b3_ir.specs.Shape.{EndsBlock}
+use Rattle.b3_ir.specs.Table.{is_terminal}
 use Rattle.b3_text.specs.declared.form.Form.{Form}
 use Rattle.b3_text.specs.declared.place.Place.TheVariants as places
 use Rattle.b3_text.specs.Spelling.{line_of, successors_of, values_text, heading_of, blocks_text}

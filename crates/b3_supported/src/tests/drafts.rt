@@ -1,7 +1,8 @@
 //! Procedures of the right shape, from lines.
 
 ghost use Rattle.std.specs.Prelude.{◌≡◌, ◌≤◌, false, IfOk};
-ghost use Rattle.b3_ir.specs.Shape.{is_terminal, IsShaped, IsValueAt};
+ghost use Rattle.b3_ir.specs.Shape.{IsShaped, IsValueAt};
+ghost use Rattle.b3_ir.specs.Table.{is_terminal};
 
 use b3_base::{Ids, NoMemory};
 use b3_ir::{Body, Children, Kind, Opcode, Proc, Reg, Ty, Value};

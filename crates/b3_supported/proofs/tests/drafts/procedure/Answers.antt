@@ -1,6 +1,6 @@
 use Rattle.std.proofs.Common.{◌≡◌, ◌+◌, ◌-◌, ◌≤◌, length, not, true, refl, subst, ap, ◌∙◌, arith}
 use Rattle.b3_ir.specs.Procedure.{Kept}
-use Rattle.b3_ir.specs.Shape.{is_terminal}
+use Rattle.b3_ir.specs.Table.{is_terminal}
 use Rattle.b3_supported.proofs.Drafts.{IsDraft, draft_block, draft_is, draft_value, draft_whole, value_fits}
 use Rattle.b3_supported.proofs.tests.drafts.procedure.Goals as goal
 use Rattle.b3_supported.proofs.tests.drafts.procedure.Goals.{then-is_open+in_ok-value+in_ok-push, else-is_open+in_ok-add_block}
