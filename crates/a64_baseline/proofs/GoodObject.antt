@@ -78,7 +78,7 @@ object_small p built =
     omega (arith, words_short p built, built.shape.name.short, frames, symbols)
 
 -- the object of a procedure is its code
-one_code : (p : Procedure) → IsSupported p → (k : ℕ) (q : Procedure) (symbol : Symbol) (frame : FrameRow) → slice_get (p ∷ []) k ≡ Some q → slice_get (symbol_of p ∷ []) k ≡ Some symbol → slice_get (frame_of p ∷ []) k ≡ Some frame → IsCodeOfOne q (object_of p) symbol frame
+one_code : (p : Procedure) → IsSupported p → (k : ℕ) (x y : Procedure) (symbol : Symbol) (frame : FrameRow) → slice_get (p ∷ []) k ≡ Some x → slice_get (p ∷ []) k ≡ Some y → slice_get (symbol_of p ∷ []) k ≡ Some symbol → slice_get (frame_of p ∷ []) k ≡ Some frame → IsCodeOfOne q (object_of p) symbol frame
 one_code p built zero q symbol frame here its own =
     let same_p : p ≡ q = cc in
     let same_symbol : symbol_of p ≡ symbol = cc in

@@ -24,7 +24,7 @@ use std::alloc::Global;
 /// refused for want of memory alone.
 pub fn procedure_object(alloc: Global, p: &Proc) -> Result<Object, NoMemory>
     requires { IsSupported p.now.procedure }
-    ensures code { IfOk result (IsCodeOf (p.now.procedure ∷ [])) }
+    ensures code { IfOk result (IsCodeOf (p.now.procedure ∷ []) (p.now.procedure ∷ [])) }
     ensures small { IfOk result (λ o. size_bound o ≤ 134217728) }
 {
     laid_object(alloc, p)

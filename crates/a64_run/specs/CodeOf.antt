@@ -1,8 +1,9 @@
 -- When an object is the code of some procedures.
-use Rattle.std.specs.Prelude.{◌≡◌, ℕ, ◌+◌, ◌<◌, ◌≤◌, ◌⊎◌, List, map, Some, slice_get}
+use Rattle.std.specs.Prelude.{◌≡◌, ℕ, ◌+◌, ◌<◌, ◌≤◌, ◌⊎◌, List, length, map, Some, slice_get}
 use Rattle.b3_ir.specs.Naming.{value_named}
 use Rattle.b3_ir.specs.Procedure.{Procedure}
 use Rattle.b3_ir.specs.declared.value.Value.{Value}
+use Rattle.b3_meaning.specs.Keeps.{Keeps}
 use Rattle.stackmap.specs.Obeys.{IsSiteOf}
 use Rattle.stackmap.specs.declared.site.SiteKind.TheVariants.{Patchpoint, Exit}
 use Rattle.exit_table.specs.declared.tables.FrameRow.{FrameRow}
@@ -20,15 +21,21 @@ StandsIn symbol row = (symbol.offset ≤ row.pc) × (row.pc < symbol.offset + sy
 abbrev pub HasItsValue : Procedure → SiteRow → Type 0
 HasItsValue p row = (row.site.kind ≡ Patchpoint) ⊎ (row.site.kind ≡ Exit) → (v : Value) × (value_named p row.site.value ≡ Some v) × IsSiteOf p v row.site
 
--- the symbol's code and frame agree with a procedure, and each patchpoint and exit in the code is the site of
--- its value and obeys its constraints
-pub record IsCodeOfOne (p : Procedure) (o : Object) (symbol : Symbol) (frame : FrameRow) : Type 0 where
+-- the symbol's code and frame agree with a procedure p, and each patchpoint and exit in the code is the site of
+-- its value in q, which keeps p, and obeys that value's constraints. p is the text's own procedure, and q what
+-- it was reduced to
+pub record IsCodeOfOne (p q : Procedure) (o : Object) (symbol : Symbol) (frame : FrameRow) : Type 0 where
   pub agrees : Agrees p o symbol frame
-  pub sites : (k : ℕ) (row : SiteRow) → slice_get o.tables.sites k ≡ Some row → StandsIn symbol row → HasItsValue p row
+  pub keeps : Keeps p q
+  pub sites : (k : ℕ) (row : SiteRow) → slice_get o.tables.sites k ≡ Some row → StandsIn symbol row → HasItsValue q row
 
 -- the object is good, its symbols are the procedures' names in order, and each procedure's symbol and frame
--- are its code
-pub record IsCodeOf (procedures : List Procedure) (o : Object) : Type 0 where
+-- are its code; `reduced` has in order what each was reduced to
+pub record IsCodeOf (procedures reduced : List Procedure) (o : Object) : Type 0 where
   pub good : IsGood o
   pub names : names_of o.symbols ≡ map (λ (p : Procedure). p.name) procedures
-  pub each : (k : ℕ) (p : Procedure) (symbol : Symbol) (frame : FrameRow) → slice_get procedures k ≡ Some p → slice_get o.symbols k ≡ Some symbol → slice_get o.tables.frames k ≡ Some frame → IsCodeOfOne p o symbol frame
+  pub count : length reduced ≡ length procedures
+  pub each : (k : ℕ) (p q : Procedure) (symbol : Symbol) (frame : FrameRow)
+      → slice_get procedures k ≡ Some p → slice_get reduced k ≡ Some q
+      → slice_get o.symbols k ≡ Some symbol → slice_get o.tables.frames k ≡ Some frame
+      → IsCodeOfOne p q o symbol frame

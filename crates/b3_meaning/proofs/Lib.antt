@@ -1,2 +1,4 @@
 pub mod Examples
 pub mod Foldables
+pub mod Keeping
+pub mod Outcomes

@@ -1,10 +1,10 @@
 //! The opcode table.
 
-ghost use Rattle.std.specs.Prelude.{◌≡◌, ◌∷◌, [], ◌<◌, ◌^◌};
+ghost use Rattle.std.specs.Prelude.{◌≡◌, ◌∷◌, [], ◌<◌, ◌^◌, IfNone};
 ghost use Rattle.b3_base.specs.Word.{bits};
 ghost use Rattle.b3_ir.specs.Types as types;
 ghost use Rattle.b3_meaning.specs.Foldable.{IsFoldable};
-ghost use Rattle.b3_meaning.specs.Opcodes.{result as outcome, word_given};
+ghost use Rattle.b3_meaning.specs.Opcodes.{IsUndefined, result as outcome, word_given};
 
 use crate::words::{
     difference, divided, extended, is_below, left_over, product, rotated_left, rotated_right,
@@ -25,7 +25,8 @@ pub fn fold(
     child_types: &[Ty],
 ) -> Option<u64>
     requires { IsFoldable opcode ty children.now child_types.now }
-    ensures { result ≡ word_given (outcome opcode chill ty children.now child_types.now) }
+    ensures word { result ≡ word_given (outcome opcode chill ty children.now child_types.now) }
+    ensures undefined { IfNone result (IsUndefined (outcome opcode chill ty children.now child_types.now)) }
 {
     match children.len() {
         1 => of_one(opcode, chill, ty, children[0], child_types[0]),

@@ -14,12 +14,13 @@ use Rattle.b3c_core.specs.declared.compiler.Fault.TheVariants.{NotBuilt, NoMemor
 
 -- the bytes of a file hold one object, which is the code of some procedures: the code and the frame of
 -- each agree with it, so from each machine start that may begin it the machine shows the same as the run
--- of B3
+-- of B3. The sites obey the values of the procedures that these were reduced to
 pub record IsFileOf (procedures : List Procedure) (file : List ℕ) : Type 0 where
   pub object : Object
+  pub reduced : List Procedure
   pub holds : Holds file object
   pub small : length file ≤ 134_217_728
-  pub code : IsCodeOf procedures object
+  pub code : IsCodeOf procedures reduced object
 
 -- a text spells a procedure that is built, and this is the file of its object
 pub record IsCompiled (text file : List ℕ) : Type 0 where

@@ -16,8 +16,8 @@ is_meant c = grind (arith, c.laid_object.ensures.object, c.laid_object.ensures.n
 pub returns-clause-code : goal.returns-clause-code
 returns-clause-code c =
     let p = c.args.p.now.procedure in
-    IfOk-weaker c.laid_object.result (λ o. (o ≡ object_of p) × All (λ word. word < 2 ^ 32) o.text) (IsCodeOf (p ∷ []))
-    (λ o h. subst (IsCodeOf (p ∷ [])) (sym h.0) (object_is_code p c.requires (subst (λ (x : Object). All (λ word. word < 2 ^ 32) x.text) h.0 h.1))) (is_meant c)
+    IfOk-weaker c.laid_object.result (λ o. (o ≡ object_of p) × All (λ word. word < 2 ^ 32) o.text) (IsCodeOf (p ∷ []) (p ∷ []))
+    (λ o h. subst (IsCodeOf (p ∷ []) (p ∷ [])) (sym h.0) (object_is_code p c.requires (subst (λ (x : Object). All (λ word. word < 2 ^ 32) x.text) h.0 h.1))) (is_meant c)
 
 pub returns-clause-small : goal.returns-clause-small
 returns-clause-small c =
