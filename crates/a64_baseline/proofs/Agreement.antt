@@ -25,13 +25,15 @@ use Rattle.a64_word.specs.Word.{word}
 use Rattle.a64_inst.specs.declared.inst.Inst.{Inst}
 use Rattle.a64_word.proofs.Inverse.{decode-word}
 use Rattle.stackmap.specs.declared.site.Returns.TheVariants.{Nothing, W32, W64}
+use Rattle.elf_obj.specs.declared.object.Object.{Object}
+use Rattle.elf_obj.specs.declared.object.Symbol.{Symbol}
 use Rattle.a64_run.specs.Agrees.{Agrees, AgreesFrom, ReturnsType, word_count}
 use Rattle.a64_run.specs.Machine.{Entry, State, Config, Runs, Stops, machine_step, machine_run, run_of, observe, first}
 use Rattle.a64_run.specs.Moments.{IsProper}
 use Rattle.a64_run.specs.Placement.{Places}
 use Rattle.b3_ir.proofs.Numbering.{values_are}
 use Rattle.a64_baseline.specs.Code.{places_of, entry_code, code_of, begins_of, words_of_values}
-use Rattle.a64_baseline.specs.Object.{has_return, is_return, object_of, symbol_of, frame_of}
+use Rattle.a64_baseline.specs.Object.{has_return, is_return, words_of, frame_of}
 use Rattle.a64_baseline.proofs.Leaving.{same_visible}
 use Rattle.a64_baseline.proofs.Numbering.{few_values, value_at_place, number_of, stands_in}
 use Rattle.a64_baseline.proofs.Steps as steps
@@ -41,22 +43,33 @@ use Rattle.a64_baseline.proofs.Related.{Setting, Holds, b3_start}
 use Rattle.a64_baseline.proofs.WellFormedCode.{code_well_formed, code_short, code_length, code_size}
 
 -- ---- the setting of a run
-abbrev pub entry_of : Procedure → MachineStart → Entry
-entry_of p m = record { object = object_of p; symbol = symbol_of p; frame = frame_of p; start = m }
+-- the code of a procedure stands in the text of an object, where the symbol says, and no site is listed
+pub record HasCode (p : Procedure) (o : Object) (symbol : Symbol) : Type 0 where
+  pub no_sites : o.tables.sites ≡ []
+  pub first : ℕ
+  pub begins : symbol.offset ≡ 4 * first
+  pub size : symbol.size ≡ 4 * length (words_of p)
+  pub text : (k w : ℕ) → slice_get (words_of p) k ≡ Some w → slice_get o.text (first + k) ≡ Some w
+  pub within : first + length (words_of p) ≤ length o.text
+
+abbrev pub entry_of : Procedure → Object → Symbol → MachineStart → Entry
+entry_of p o symbol m = record { object = o; symbol = symbol; frame = frame_of p; start = m }
 
 word_of_code : (xs : List Inst) (k : ℕ) (inst : Inst) → slice_get xs k ≡ Some inst → slice_get (map word xs) k ≡ Some (word inst)
 word_of_code [] k inst e = cc
 word_of_code (x ∷ xs) zero inst e = let same : x ≡ inst = cc in ap (λ i. Some (word i)) same
 word_of_code (x ∷ xs) (suc k) inst e = word_of_code xs k inst e
 
-setting : (p : Procedure) (m : MachineStart) → IsSupported p → Places (object_of p) (symbol_of p) (frame_of p) m → Setting p (entry_of p m)
-setting p m built placed = record {
+setting : (p : Procedure) (o : Object) (symbol : Symbol) (m : MachineStart) → IsSupported p → HasCode p o symbol → Places o symbol (frame_of p) m → Setting p (entry_of p o symbol m)
+setting p o symbol m built has placed = record {
   built = built;
   run = record {
-    no_sites = refl;
-    text = word_of_code (code_of p);
+    no_sites = has.no_sites;
+    first = has.first;
+    begins = has.begins;
+    text = λ k inst there. has.text k (word inst) (word_of_code (code_of p) k inst there);
     decodes = λ k inst there. decode-word inst (subst IsWellFormed (get_or_from_slice_get (code_of p) k inst inst there) (code_well_formed p built k inst (slice_get_within (code_of p) k inst there)));
-    ends = omega (arith, placed.code_ends, length-map (code_of p) word);
+    ends = omega (arith, placed.code_ends, has.begins, has.within, length-map (code_of p) word);
     short = code_short p built;
   };
   frame = record { bytes = refl; room = placed.room; small = placed.ranged.sp; few = omega (arith, few_values p built); aligned = placed.aligned };
@@ -155,11 +168,11 @@ module _ (p : Procedure) (e : Entry) (set : Setting p e) where
   }
 
   -- the first block step
-  first_step : (answers : List Answer) → e.symbol.offset ≡ 0
+  first_step : (answers : List Answer)
       → (j : ℕ) × (1 ≤ j) × (j ≤ 2 * length (code_of p)) × ((i : ℕ) → i < j → IsProperFor e (b3.block_step p (b3_start e) (b3.first (b3_start e) answers)) (iterate (machine_step e) i (first e answers)))
       × Alike p e (b3.block_step p (b3_start e) (b3.first (b3_start e) answers)) (iterate (machine_step e) j (first e answers))
-  first_step answers offset =
-      let entered = entry_run p e set answers offset in
+  first_step answers =
+      let entered = entry_run p e set answers in
       let s = entered.0 in
       let bs : b3.State = record { words = λ _. None; locations = λ _. None; memory = (b3_start e).memory; events = []; answers = answers } in
       let after = b3.run_values (type_of p) (b3_start e) (values_of p 0) bs in
@@ -173,15 +186,15 @@ module _ (p : Procedure) (e : Entry) (set : Setting p e) where
         subst (Alike p e after) (sym joined) (reaches_alike p e s comes.0 after comes.3),
       )
 
-  simulates : (answers : List Answer) → e.symbol.offset ≡ 0 → SimulatesFrom (b3.block_step p (b3_start e)) (machine_step e) (Alike p e) (IsProperFor e) (λ _. 0) 1 (2 * length (code_of p)) (b3.first (b3_start e) answers) (first e answers)
-  simulates answers offset = record {
-    first = first_step answers offset;
+  simulates : (answers : List Answer) → SimulatesFrom (b3.block_step p (b3_start e)) (machine_step e) (Alike p e) (IsProperFor e) (λ _. 0) 1 (2 * length (code_of p)) (b3.first (b3_start e) answers) (first e answers)
+  simulates answers = record {
+    first = first_step answers;
     onward = record { below = λ a s r. omega arith; step = one_step };
   }
 
 -- ---- every number of block steps
-words_counted : (p : Procedure) → word_count (symbol_of p) ≡ length (code_of p)
-words_counted p = omega (arith, length-map (code_of p) word)
+words_counted : (p : Procedure) (o : Object) (symbol : Symbol) → HasCode p o symbol → word_count symbol ≡ length (code_of p)
+words_counted p o symbol has = omega (arith, has.size, length-map (code_of p) word)
 
 same_count : (n w v : ℕ) → v ≡ w → n * (2 * w) ≡ n * (2 * v)
 same_count n w v e = rw e refl
@@ -199,14 +212,14 @@ proper_by e (b3.At block bs) c kept proper = proper
 proper_by e (b3.Over seen) c kept proper = proper
 proper_by e (b3.Lost loss) c kept proper = absurd (kept loss refl)
 
-AlikeAt : Procedure → MachineStart → List Answer → ℕ → Type 0
-AlikeAt p m answers n = Follows {J = Unit {0}} {K = Unit {0}} (λ _. b3.b3_run p (b3_start (entry_of p m)) answers) (λ _. machine_run (entry_of p m) answers)
-    (λ _ moment. IsProper (entry_of p m) (run_of (entry_of p m) answers moment)) (length p.blocks) (2 * word_count (symbol_of p)) tt n
+AlikeAt : Procedure → Object → Symbol → MachineStart → List Answer → ℕ → Type 0
+AlikeAt p o symbol m answers n = Follows {J = Unit {0}} {K = Unit {0}} (λ _. b3.b3_run p (b3_start (entry_of p o symbol m)) answers) (λ _. machine_run (entry_of p o symbol m) answers)
+    (λ _ moment. IsProper (entry_of p o symbol m) (run_of (entry_of p o symbol m) answers moment)) (length p.blocks) (2 * word_count symbol) tt n
 
-alike_at : (p : Procedure) (m : MachineStart) (answers : List Answer) (n : ℕ) → Setting p (entry_of p m) → (b3.b3_run p (b3_start (entry_of p m)) answers n).status ≢ Undefined → AlikeAt p m answers n
+alike_at : (p : Procedure) (o : Object) (symbol : Symbol) → HasCode p o symbol → (m : MachineStart) (answers : List Answer) (n : ℕ) → Setting p (entry_of p o symbol m) → (b3.b3_run p (b3_start (entry_of p o symbol m)) answers n).status ≢ Undefined → AlikeAt p o symbol m answers n
 unfolding AlikeAt
-alike_at p m answers zero set defined =
-    let e = entry_of p m in
+alike_at p o symbol has m answers zero set defined =
+    let e = entry_of p o symbol m in
     record {
       choice = tt;
       steps = 0;
@@ -215,16 +228,16 @@ alike_at p m answers zero set defined =
       same = ap (observe e) (iterate-zero (machine_step e) (first e answers)) ∙ sym (ap b3.observe (iterate-zero (b3.block_step p (b3_start e)) (b3.first (b3_start e) answers)));
       proper = λ moment below. absurd (omega arith);
     }
-alike_at p m answers (suc n) set defined =
-    let e = entry_of p m in
+alike_at p o symbol has m answers (suc n) set defined =
+    let e = entry_of p o symbol m in
     let up = b3.block_step p (b3_start e) in
     let from = b3.first (b3_start e) answers in
-    let r = run_simulated_from (b3.block_step p (b3_start e)) (machine_step e) (Alike p e) (IsProperFor e) (λ _. 0) 1 (2 * length (code_of p)) (b3.first (b3_start e) answers) (first e answers) (simulates p e set answers refl) (suc n) (omega arith) in
+    let r = run_simulated_from (b3.block_step p (b3_start e)) (machine_step e) (Alike p e) (IsProperFor e) (λ _. 0) 1 (2 * length (code_of p)) (b3.first (b3_start e) answers) (first e answers) (simulates p e set answers) (suc n) (omega arith) in
     record {
       choice = tt;
       steps = r.0;
       least = fewer (suc n) (length p.blocks) r.0 set.built.shape.some r.1;
-      most = subst (λ d. r.0 ≤ d) (same_count (suc n) (length (code_of p)) (word_count (symbol_of p)) (words_counted p)) r.2;
+      most = subst (λ d. r.0 ≤ d) (same_count (suc n) (length (code_of p)) (word_count symbol) (words_counted p o symbol has)) r.2;
       same = alike_seen p e set (iterate (b3.block_step p (b3_start e)) (suc n) (b3.first (b3_start e) answers)) (iterate (machine_step e) r.0 (first e answers)) r.4 defined;
       proper = λ moment below.
           let passes = r.3 moment below in
@@ -233,9 +246,9 @@ alike_at p m answers (suc n) set defined =
           passes.2;
     }
 
-runs_alike : (p : Procedure) → IsSupported p → (m : MachineStart) (answers : List Answer) → Places (object_of p) (symbol_of p) (frame_of p) m → AgreesFrom p (object_of p) (symbol_of p) (frame_of p) m answers
+runs_alike : (p : Procedure) (o : Object) (symbol : Symbol) → IsSupported p → HasCode p o symbol → (m : MachineStart) (answers : List Answer) → Places o symbol (frame_of p) m → AgreesFrom p o symbol (frame_of p) m answers
 unfolding AlikeAt
-runs_alike p built m answers placed = record { alike = λ junk n defined. alike_at p m answers n (setting p m built placed) (defined tt) }
+runs_alike p o symbol built has m answers placed = record { alike = λ junk n defined. alike_at p o symbol has m answers n (setting p o symbol m built has placed) (defined tt) }
 
 -- ---- what is returned
 returns_by : (some : Bool) → (if some then W64 else Nothing) ≡ W64 → some ≡ true
@@ -282,12 +295,12 @@ returns_wide p built some =
     let one = subst (λ cs. All (IsChildAt p b j) cs) form.1.1 named.children 0 0 (omega arith) in
     (b, j, v, child, one.0, one.1, one.2, there, op, form.1.1, one.3, one.4, one.5)
 
-pub agrees : (p : Procedure) → IsSupported p → Agrees p (object_of p) (symbol_of p) (frame_of p)
-agrees p built = record {
-  runs = λ m answers placed ranged. runs_alike p built m answers placed;
+pub agrees : (p : Procedure) (o : Object) (symbol : Symbol) → IsSupported p → HasCode p o symbol → Agrees p o symbol (frame_of p)
+agrees p o symbol built has = record {
+  runs = λ m answers placed ranged. runs_alike p o symbol built has m answers placed;
   returns_32 = λ e. absurd (never_narrow (has_return p) e);
   returns_64 = λ e. returns_wide p built (wide_returns p e);
   slots = sym (ap (map (λ (slot : SlotLine). slot.bytes)) built.shape.slots);
-  words = omega (arith, words_counted p, code_length p built);
+  words = omega (arith, words_counted p o symbol has, code_length p built);
   bytes = omega arith;
 }

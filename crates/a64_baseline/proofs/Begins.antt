@@ -19,12 +19,12 @@ use Rattle.a64_baseline.proofs.Pieces.{Spans}
 use Rattle.a64_baseline.proofs.Sizes.{values_size, words_cons}
 
 -- ---- pieces within pieces
-get_front : {X : Type 0} (a b : List X) (n : ℕ) (x : X) → slice_get a n ≡ Some x → slice_get (a ++ b) n ≡ Some x
+pub get_front : {X : Type 0} (a b : List X) (n : ℕ) (x : X) → slice_get a n ≡ Some x → slice_get (a ++ b) n ≡ Some x
 get_front [] b n x e = cc
 get_front (y ∷ a) b zero x e = e
 get_front (y ∷ a) b (suc n) x e = get_front a b n x e
 
-get_behind : {X : Type 0} (a b : List X) (n : ℕ) → slice_get (a ++ b) (length a + n) ≡ slice_get b n
+pub get_behind : {X : Type 0} (a b : List X) (n : ℕ) → slice_get (a ++ b) (length a + n) ≡ slice_get b n
 get_behind [] b n = ap (slice_get b) (omega arith)
 get_behind (x ∷ a) b n = let e : length (x ∷ a) + n ≡ suc (length a + n) = omega arith in ap (slice_get (x ∷ (a ++ b))) e ∙ get_behind a b n
 

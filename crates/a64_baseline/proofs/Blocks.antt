@@ -120,9 +120,9 @@ module _ (p : Procedure) (e : Entry) (set : Setting p e) where
       values_run (values_of p b) b 0 (slice_index (begins_of p) b) are.0 bs s are.1 are.2 (λ i v e1. subst (λ n. StandsAt p b n v) (omega arith) e1) (begins.block_at p set.built b lt) at holds
 
   -- the entry: from the start to block 0
-  pub entry_run : (answers : List Answer) → e.symbol.offset ≡ 0
+  pub entry_run : (answers : List Answer)
       → (s : State) × Ran e (length (entry_code p)) (first e answers) (Runs s) × steps.StandsAt e (places_of p) (slice_index (begins_of p) 0) s × ArgumentsBelow p e (length (values_of p 0)) s.memory
-  entry_run answers offset =
+  entry_run answers =
       let stores = argument_stores 0 (values_of p 0) in
       let whole : Spans (code_of p) 0 (entry_code p) = begins.at_entry p set.built in
       let front : Spans (code_of p) 0 (prologue (places_of p)) = spans_front (code_of p) 0 (prologue (places_of p)) stores whole in
@@ -130,7 +130,7 @@ module _ (p : Procedure) (e : Entry) (set : Setting p e) where
       let size : length (entry_code p) ≡ 3 + length stores = length-append (prologue (places_of p)) stores in
       let block : Stands (code_of p) (3 + length stores) = subst (Stands (code_of p)) (begins.first_begin p set.built ∙ size) (begins.begin_stands p set.built 0 (omega (arith, set.built.shape.some))) in
       let three : Stands (code_of p) 3 = begins.follows_it (code_of p) 3 stores behind block in
-      let a = entering e (code_of p) (places_of p) set.run set.frame set.ranged answers offset front three in
+      let a = entering e (code_of p) (places_of p) set.run set.frame set.ranged answers front three in
       let b = stores_run p e set (values_of p 0) 0 3 a.after (λ i v e1. subst (λ n. StandsAt p 0 n v) (omega arith) e1) behind block a.at
       (λ r le. ap (λ (x : ℕ → ℕ). x r) a.x_is ∙ set_other e.start.registers 29 (e.start.sp - 16) r (λ same. omega arith)) (λ i v reg lt there op body. absurd (omega arith)) in (
         b.after,

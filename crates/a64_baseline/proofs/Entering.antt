@@ -16,7 +16,7 @@ use Rattle.a64_run.specs.Placement.{in_frame, entry_memory}
 use Rattle.a64_run.specs.Machine.{Entry, State, Runs, touches_empty_at, first}
 use Rattle.a64_run.proofs.Steps.{touches_none}
 use Rattle.a64_baseline.specs.Code.{adjust, prologue}
-use Rattle.a64_baseline.proofs.Machine.{RunsCode, Stands, StepTo, Ran, chain_2, chain_3, goes_to_next, ran_more, ran_none, touches_above_after, touches_nothing}
+use Rattle.a64_baseline.proofs.Machine.{RunsCode, begin_of, Stands, StepTo, Ran, chain_2, chain_3, goes_to_next, ran_more, ran_none, touches_above_after, touches_nothing}
 use Rattle.a64_baseline.proofs.Frame.{HasFrame, KeepsFrame, low_of, stored_word}
 use Rattle.a64_baseline.proofs.Steps.{StandsAt, set_x, set_other, set_same}
 use Rattle.a64_baseline.proofs.Pieces.{Spans}
@@ -117,7 +117,7 @@ module _ (e : Entry) (code : List Inst) (places : ℕ) (run : RunsCode e code) (
   saves_sp s down above mapped = ap (λ (t : Stepped). t.registers.sp) (saves s.registers s.memory (e.start.sp - 16) (e.start.sp - 8) down above mapped)
 
   -- ---- the three steps
-  first_step : (s : State) → Spans code 0 (prologue places) → s.registers.pc ≡ e.start.code + 4 * 0 → s.registers.x ≡ e.start.registers → s.registers.sp ≡ e.start.sp → s.memory ≡ entry_memory e.frame e.start
+  first_step : (s : State) → Spans code 0 (prologue places) → s.registers.pc ≡ begin_of e + 4 * 0 → s.registers.x ≡ e.start.registers → s.registers.sp ≡ e.start.sp → s.memory ≡ entry_memory e.frame e.start
       → StepTo e s 1 e.start.registers (e.start.sp - 16) (saved_in e (entry_memory e.frame e.start))
   first_step s spans pc x sp memory =
       let down : moved_sp s.registers.sp (negsuc 1) ≡ e.start.sp - 16 = rw sp (moved_down e.start.sp room has.small) in
@@ -137,7 +137,7 @@ module _ (e : Entry) (code : List Inst) (places : ℕ) (run : RunsCode e code) (
         events_are = to.events_are;
       }
 
-  second_step : (s : State) → Spans code 0 (prologue places) → s.registers.pc ≡ e.start.code + 4 * 1 → s.registers.x ≡ e.start.registers → s.registers.sp ≡ e.start.sp - 16
+  second_step : (s : State) → Spans code 0 (prologue places) → s.registers.pc ≡ begin_of e + 4 * 1 → s.registers.x ≡ e.start.registers → s.registers.sp ≡ e.start.sp - 16
       → StepTo e s 2 (set_x e.start.registers 29 (e.start.sp - 16)) (e.start.sp - 16) s.memory
   second_step s spans pc x sp =
       let to = goes_to_next e code run s 1 (adjust false 29 31 0) (put s.registers 29 s.registers.sp) s.memory pc (spans 1 _ refl) (_, spans 2 _ refl) refl refl (copies s.registers s.memory (rw sp (omega (arith, has.small)))) refl
@@ -152,7 +152,7 @@ module _ (e : Entry) (code : List Inst) (places : ℕ) (run : RunsCode e code) (
         events_are = to.events_are;
       }
 
-  third_step : (s : State) → Spans code 0 (prologue places) → Stands code 3 → s.registers.pc ≡ e.start.code + 4 * 2 → s.registers.sp ≡ e.start.sp - 16
+  third_step : (s : State) → Spans code 0 (prologue places) → Stands code 3 → s.registers.pc ≡ begin_of e + 4 * 2 → s.registers.sp ≡ e.start.sp - 16
       → StepTo e s 3 s.registers.x (low_of e places) s.memory
   third_step s spans next pc sp =
       let to = goes_to_next e code run s 2 (adjust true 31 31 (16 * places)) (record s.registers { sp = s.registers.sp - 16 * places }) s.memory pc (spans 2 _ refl) next refl refl
@@ -168,10 +168,10 @@ module _ (e : Entry) (code : List Inst) (places : ℕ) (run : RunsCode e code) (
         events_are = to.events_are;
       }
 
-  pub entering : (answers : List Answer) → e.symbol.offset ≡ 0 → Spans code 0 (prologue places) → Stands code 3 → Entered e places answers
-  entering answers offset spans next =
+  pub entering : (answers : List Answer) → Spans code 0 (prologue places) → Stands code 3 → Entered e places answers
+  entering answers spans next =
       let s : State = record { registers = record { x = e.start.registers; sp = e.start.sp; pc = e.start.code + e.symbol.offset; flags = record { n = false; z = false; c = false; v = false } }; memory = entry_memory e.frame e.start; events = []; answers = answers } in
-      let a = first_step s spans (ap (λ n. e.start.code + n) offset) refl refl refl in
+      let a = first_step s spans (omega arith) refl refl refl in
       let b = second_step a.after spans a.pc_is a.x_is a.sp_is in
       let c = third_step b.after spans next b.pc_is b.sp_is in
       let x : c.after.registers.x ≡ set_x e.start.registers 29 (e.start.sp - 16) = chain_2 (set_x e.start.registers 29 (e.start.sp - 16)) b.after.registers.x c.after.registers.x b.x_is c.x_is in

@@ -21,7 +21,7 @@ use Rattle.a64_word.specs.Parts.{by_row}
 use Rattle.a64_inst.specs.Step.{step_of, add_sub_imm, add_sub_reg, move_wide, access, store_pair, load_pair, branch_reg, branch, branch_zero, shifted}
 use Rattle.a64_run.specs.Placement.{start_of}
 use Rattle.a64_run.specs.Machine.{machine_run}
-use Rattle.a64_baseline.specs.Object.{object_of, symbol_of, frame_of}
+use Rattle.a64_baseline.specs.Object.{object_of, symbol_at, frame_of}
 
 abbrev value : ℕ → ℕ → Ty → Opcode → List ℕ → Body → Value
 value id line ty opcode children body = record { id = id; ty = ty; kind = record { opcode = opcode; chill = false; traps = false }; children = children; body = body; line = line }
@@ -42,10 +42,10 @@ start x0 x1 x2 = record {
 
 -- the status of a procedure after n block steps, and of its code after k machine steps
 abbrev b3_status : Procedure → ℕ → ℕ → ℕ → ℕ → Status
-b3_status p x0 x1 x2 n = (b3_run p (start_of (object_of p) (frame_of p) (start x0 x1 x2)) [] n).status
+b3_status p x0 x1 x2 n = (b3_run p (start_of (object_of (p ∷ [])) (frame_of p) (start x0 x1 x2)) [] n).status
 
 abbrev machine_status : Procedure → ℕ → ℕ → ℕ → ℕ → Status
-machine_status p x0 x1 x2 k = (machine_run (record { object = object_of p; symbol = symbol_of p; frame = frame_of p; start = start x0 x1 x2 }) [] k).status
+machine_status p x0 x1 x2 k = (machine_run (record { object = object_of (p ∷ []); symbol = symbol_at 0 p; frame = frame_of p; start = start x0 x1 x2 }) [] k).status
 
 -- ---- counting down
 abbrev countdown : Procedure

@@ -18,7 +18,7 @@ use Rattle.a64_run.specs.Placement.{in_frame, visible, entry_memory}
 use Rattle.a64_run.specs.Machine.{Entry, State, Config, Runs, Stops, has_returned, keeps_registers, machine_step}
 use Rattle.a64_run.proofs.Steps.{is_proper, step_executes, touches_none}
 use Rattle.a64_baseline.specs.Code.{load_from, adjust, epilogue}
-use Rattle.a64_baseline.proofs.Machine.{RunsCode, Stands, StepTo, Takes, Ran, chain_2, chain_3, goes_to_next, ran_more, ran_none, touches_above, touches_nothing}
+use Rattle.a64_baseline.proofs.Machine.{RunsCode, at_word, begin_of, Stands, StepTo, Takes, Ran, chain_2, chain_3, goes_to_next, ran_more, ran_none, touches_above, touches_nothing}
 use Rattle.a64_baseline.proofs.Entering.{less_aligned, low_byte}
 use Rattle.a64_baseline.proofs.Frame.{HasFrame, KeepsFrame, address_of}
 use Rattle.a64_baseline.proofs.Steps.{StandsAt, set_x, load_step, sp_aligned}
@@ -90,13 +90,13 @@ returned_same config w memory memory' stops same = rw (← same) stops
 
 module _ (e : Entry) (code : List Inst) (places : ℕ) (run : RunsCode e code) (has : HasFrame e places) where
   -- a RET to the caller
-  returns : (s : State) (k w : ℕ) → s.registers.pc ≡ e.start.code + 4 * k → slice_get code k ≡ Some (BranchReg Ret 30) → e.frame.returns ≡ W64
+  returns : (s : State) (k w : ℕ) → s.registers.pc ≡ begin_of e + 4 * k → slice_get code k ≡ Some (BranchReg Ret 30) → e.frame.returns ≡ W64
       → s.registers.x 30 ≡ e.start.registers 30 → s.registers.sp ≡ e.start.sp → ((q : ℕ) → q < 11 → s.registers.x (19 + q) ≡ e.start.registers (19 + q)) → s.registers.x 0 ≡ w → s.events ≡ []
       → machine_step e (Runs s) ≡ Stops (record { status = Returned (Some w); events = []; memory = visible e.frame e.start s.memory })
   returns s k w at there wide lr sp each value events =
       let does = ret_back s.registers s.memory in
       let back : has_returned e (record s.registers { pc = s.registers.x 30 }) ≡ true = is_back e (record s.registers { pc = s.registers.x 30 }) lr sp each in
-      step_executes e s k (BranchReg Ret 30) run.no_sites at (run.text k _ there) (run.decodes k _ there)
+      step_executes e s (run.first + k) (BranchReg Ret 30) run.no_sites (at_word e code run k s.registers.pc at) (run.text k _ there) (run.decodes k _ there)
       ∙ rw (does, back, events, wide) (ap (λ (word : ℕ). Stops (record { status = Returned (Some word); events = []; memory = visible e.frame e.start s.memory })) value)
 
   -- the registers once x0, x29 and x30 are loaded
@@ -122,13 +122,13 @@ module _ (e : Entry) (code : List Inst) (places : ℕ) (run : RunsCode e code) (
       → (q : ℕ) → q < 11 → after (19 + q) ≡ e.start.registers (19 + q)
   loaded_back w x after kept same q lt = rw same (loaded_kept w x kept q lt)
 
-  adjust_step : (s : State) (k : ℕ) → s.registers.pc ≡ e.start.code + 4 * k → slice_get code k ≡ Some (adjust false 31 29 0) → Stands code (k + 1) → s.registers.x 29 ≡ e.start.sp - 16 → s.registers.sp % 16 ≡ 0
+  adjust_step : (s : State) (k : ℕ) → s.registers.pc ≡ begin_of e + 4 * k → slice_get code k ≡ Some (adjust false 31 29 0) → Stands code (k + 1) → s.registers.x 29 ≡ e.start.sp - 16 → s.registers.sp % 16 ≡ 0
       → StepTo e s (k + 1) s.registers.x (e.start.sp - 16) s.memory
   adjust_step s k at there next fp aligned =
       goes_to_next e code run s k (adjust false 31 29 0) (record s.registers { sp = e.start.sp - 16 }) s.memory at there next refl refl (sp_from_fp s.registers s.memory (e.start.sp - 16) (back_to_fp (s.registers.x 29) e.start.sp has.small fp)) refl
       aligned (touches_nothing e s (adjust false 31 29 0) refl) refl
 
-  pair_step : (s : State) (k : ℕ) → s.registers.pc ≡ e.start.code + 4 * k → slice_get code k ≡ Some (PairSp true 29 30 (pos 2)) → Stands code (k + 1) → s.registers.sp ≡ e.start.sp - 16 → KeepsFrame e places s.memory
+  pair_step : (s : State) (k : ℕ) → s.registers.pc ≡ begin_of e + 4 * k → slice_get code k ≡ Some (PairSp true 29 30 (pos 2)) → Stands code (k + 1) → s.registers.sp ≡ e.start.sp - 16 → KeepsFrame e places s.memory
       → StepTo e s (k + 1) (set_x (set_x s.registers.x 29 (e.start.registers 29)) 30 (e.start.registers 30)) e.start.sp s.memory
   pair_step s k at there next sp keeps =
       let some : 16 ≤ e.start.sp = omega (arith, has.room) in
@@ -159,7 +159,7 @@ module _ (e : Entry) (code : List Inst) (places : ℕ) (run : RunsCode e code) (
       let seen : visible e.frame e.start c.after.memory ≡ visible e.frame e.start (entry_memory e.frame e.start) = same_visible e places c.after.memory apart none (subst (KeepsFrame e places) (sym (chain_2 a.after.memory b.after.memory c.after.memory b.memory_is c.memory_is)) a.at.frame) in
       let last : Takes e c.after (Stops (returned_with e w)) = (
         returned_same (machine_step e (Runs c.after)) w (visible e.frame e.start c.after.memory) (visible e.frame e.start (entry_memory e.frame e.start)) d seen,
-        is_proper e c.after (k + 1 + 1 + 1) (BranchReg Ret 30) run.no_sites c.pc_is (run.text (k + 1 + 1 + 1) _ i3) (run.decodes (k + 1 + 1 + 1) _ i3) (rw c.sp_is has.aligned) (touches_nothing e c.after (BranchReg Ret 30) refl)
+        is_proper e c.after (run.first + (k + 1 + 1 + 1)) (BranchReg Ret 30) run.no_sites (at_word e code run (k + 1 + 1 + 1) c.after.registers.pc c.pc_is) (run.text (k + 1 + 1 + 1) _ i3) (run.decodes (k + 1 + 1 + 1) _ i3) (rw c.sp_is has.aligned) (touches_nothing e c.after (BranchReg Ret 30) refl)
             (ap (λ (t : Stepped). t.registers.x 18) (ret_back c.after.registers c.after.memory)),
       ) in
       ran_more e 3 s (Runs a.after) (Stops (returned_with e w)) a.step (ran_more e 2 a.after (Runs b.after) (Stops (returned_with e w)) b.step

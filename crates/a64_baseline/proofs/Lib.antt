@@ -5,7 +5,9 @@ pub mod Blocks
 pub mod CodeLists
 pub mod Entering
 mod Examples
+pub mod Sample
 pub mod Frame
+pub mod Joined
 pub mod GoodObject
 pub mod Leaving
 pub mod Machine

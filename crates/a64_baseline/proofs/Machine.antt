@@ -25,13 +25,26 @@ chain_3 a b c d first second third = third ∙ second ∙ first
 pub chain_4 : {X : Type 0} (a b c d f : X) → b ≡ a → c ≡ b → d ≡ c → f ≡ d → f ≡ a
 chain_4 a b c d f first second third fourth = fourth ∙ third ∙ second ∙ first
 
--- the text of an object begins with this code, and no site is listed
+-- the address of the symbol's code
+abbrev pub begin_of : Entry → ℕ
+begin_of e = e.start.code + e.symbol.offset
+
+-- at the symbol, from a word of the text on, stands this code, and no site is listed
 pub record RunsCode (e : Entry) (code : List Inst) : Type 0 where
   pub no_sites : e.object.tables.sites ≡ []
-  pub text : (k : ℕ) (inst : Inst) → slice_get code k ≡ Some inst → slice_get e.object.text k ≡ Some (word inst)
+  pub first : ℕ
+  pub begins : e.symbol.offset ≡ 4 * first
+  pub text : (k : ℕ) (inst : Inst) → slice_get code k ≡ Some inst → slice_get e.object.text (first + k) ≡ Some (word inst)
   pub decodes : (k : ℕ) (inst : Inst) → slice_get code k ≡ Some inst → decode (word inst) ≡ Some inst
-  pub ends : e.start.code + 4 * length code ≤ 2 ^ 64
+  pub ends : begin_of e + 4 * length code ≤ 2 ^ 64
   pub short : length code < 2 ^ 12
+
+-- the address of a word of the code is that of a word of the text
+in_text : (code offset first k address : ℕ) → offset ≡ 4 * first → address ≡ code + offset + 4 * k → address ≡ code + 4 * (first + k)
+in_text code offset first k address begins at = omega arith
+
+pub at_word : (e : Entry) (code : List Inst) → (run : RunsCode e code) → (k address : ℕ) → address ≡ begin_of e + 4 * k → address ≡ e.start.code + 4 * (run.first + k)
+at_word e code run k address at = in_text e.start.code e.symbol.offset run.first k address run.begins at
 
 -- an instruction stands at this word of the code
 abbrev pub Stands : List Inst → ℕ → Type 0
@@ -45,7 +58,7 @@ Takes e s to = (machine_step e (Runs s) ≡ to) × IsProperState e s
 pub record StepTo (e : Entry) (s : State) (k : ℕ) (x : ℕ → ℕ) (sp : ℕ) (memory : Memory) : Type 0 where
   pub after : State
   pub step : Takes e s (Runs after)
-  pub pc_is : after.registers.pc ≡ e.start.code + 4 * k
+  pub pc_is : after.registers.pc ≡ begin_of e + 4 * k
   pub x_is : after.registers.x ≡ x
   pub sp_is : after.registers.sp ≡ sp
   pub memory_is : after.memory ≡ memory
@@ -86,19 +99,20 @@ next_pc code pc k size at lt ends = omega arith
 
 module _ (e : Entry) (code : List Inst) (run : RunsCode e code) where
   -- a step to the next word
-  pub goes_to_next : (s : State) (k : ℕ) (inst : Inst) (r : Registers) (memory : Memory) → s.registers.pc ≡ e.start.code + 4 * k → slice_get code k ≡ Some inst → Stands code (k + 1)
+  pub goes_to_next : (s : State) (k : ℕ) (inst : Inst) (r : Registers) (memory : Memory) → s.registers.pc ≡ begin_of e + 4 * k → slice_get code k ≡ Some inst → Stands code (k + 1)
       → touches_empty_at e s.memory (touched inst s.registers) ≡ false → is_ret inst ≡ false
       → step_of inst s.registers s.memory ≡ goes_on r memory → r.pc ≡ s.registers.pc
       → s.registers.sp % 16 ≡ 0 → TouchesAbove e s inst → r.x 18 ≡ s.registers.x 18
       → StepTo e s (k + 1) r.x r.sp memory
   goes_to_next s k inst r memory at there next whole no_ret does same_pc aligned above platform =
-      let pc : (advance r).pc ≡ e.start.code + 4 * (k + 1) = next_pc e.start.code r.pc k (length code) (same_pc ∙ at) (slice_get_within code (k + 1) next.0 next.1) run.ends in
+      let pc : (advance r).pc ≡ begin_of e + 4 * (k + 1) = next_pc (begin_of e) r.pc k (length code) (same_pc ∙ at) (slice_get_within code (k + 1) next.0 next.1) run.ends in
       record {
         after = record s { registers = advance r; memory = memory };
         step = (
-          step_goes_on e s k (k + 1) (word next.0) inst run.no_sites at (run.text k inst there) (run.decodes k inst there) whole (ap (λ (t : Stepped). t.outcome) does) no_ret (ap (λ (t : Stepped). t.registers.pc) does ∙ pc) (run.text (k + 1) next.0 next.1)
+          step_goes_on e s (run.first + k) (run.first + (k + 1)) (word next.0) inst run.no_sites (at_word e code run k s.registers.pc at) (run.text k inst there) (run.decodes k inst there) whole (ap (λ (t : Stepped). t.outcome) does) no_ret
+              (at_word e code run (k + 1) (step_of inst s.registers s.memory).registers.pc (ap (λ (t : Stepped). t.registers.pc) does ∙ pc)) (run.text (k + 1) next.0 next.1)
               ∙ ap (λ (t : Stepped). Runs (record s { registers = t.registers; memory = t.memory })) does,
-          is_proper e s k inst run.no_sites at (run.text k inst there) (run.decodes k inst there) aligned above (ap (λ (t : Stepped). t.registers.x 18) does ∙ platform),
+          is_proper e s (run.first + k) inst run.no_sites (at_word e code run k s.registers.pc at) (run.text k inst there) (run.decodes k inst there) aligned above (ap (λ (t : Stepped). t.registers.x 18) does ∙ platform),
         );
         pc_is = pc;
         x_is = refl;
@@ -108,18 +122,19 @@ module _ (e : Entry) (code : List Inst) (run : RunsCode e code) where
       }
 
   -- a branch to another word
-  pub branches_to : (s : State) (k target pc : ℕ) (inst : Inst) → s.registers.pc ≡ e.start.code + 4 * k → slice_get code k ≡ Some inst → Stands code target
+  pub branches_to : (s : State) (k target pc : ℕ) (inst : Inst) → s.registers.pc ≡ begin_of e + 4 * k → slice_get code k ≡ Some inst → Stands code target
       → touches_empty_at e s.memory (touched inst s.registers) ≡ false → is_ret inst ≡ false
       → step_of inst s.registers s.memory ≡ record { registers = record s.registers { pc = pc }; memory = s.memory; outcome = Next }
-      → pc ≡ e.start.code + 4 * target
+      → pc ≡ begin_of e + 4 * target
       → s.registers.sp % 16 ≡ 0 → TouchesAbove e s inst
       → StepTo e s target s.registers.x s.registers.sp s.memory
   branches_to s k target pc inst at there next whole no_ret does leads aligned above = record {
     after = record s { registers = record s.registers { pc = pc }; memory = s.memory };
     step = (
-      step_goes_on e s k target (word next.0) inst run.no_sites at (run.text k inst there) (run.decodes k inst there) whole (ap (λ (t : Stepped). t.outcome) does) no_ret (ap (λ (t : Stepped). t.registers.pc) does ∙ leads) (run.text target next.0 next.1)
+      step_goes_on e s (run.first + k) (run.first + target) (word next.0) inst run.no_sites (at_word e code run k s.registers.pc at) (run.text k inst there) (run.decodes k inst there) whole (ap (λ (t : Stepped). t.outcome) does) no_ret
+          (at_word e code run target (step_of inst s.registers s.memory).registers.pc (ap (λ (t : Stepped). t.registers.pc) does ∙ leads)) (run.text target next.0 next.1)
           ∙ ap (λ (t : Stepped). Runs (record s { registers = t.registers; memory = t.memory })) does,
-      is_proper e s k inst run.no_sites at (run.text k inst there) (run.decodes k inst there) aligned above (ap (λ (t : Stepped). t.registers.x 18) does),
+      is_proper e s (run.first + k) inst run.no_sites (at_word e code run k s.registers.pc at) (run.text k inst there) (run.decodes k inst there) aligned above (ap (λ (t : Stepped). t.registers.x 18) does),
     );
     pc_is = leads;
     x_is = refl;

@@ -16,12 +16,12 @@ use Rattle.a64_inst.specs.declared.state.Outcome.TheVariants.{Next}
 use Rattle.a64_run.specs.Machine.{Entry, State, Runs, touches_empty_at}
 use Rattle.a64_run.proofs.Steps.{touches_none}
 use Rattle.a64_baseline.specs.Code.{store_to, load_from, half_word, move_half, branch_from}
-use Rattle.a64_baseline.proofs.Machine.{RunsCode, Stands, StepTo, Takes, goes_to_next, branches_to, touches_above, touches_nothing}
+use Rattle.a64_baseline.proofs.Machine.{RunsCode, begin_of, Stands, StepTo, Takes, goes_to_next, branches_to, touches_above, touches_nothing}
 use Rattle.a64_baseline.proofs.Frame.{HasFrame, KeepsFrame, low_of, address_of, address_is, byte_is, is_there, store_keeps}
 
 -- at word k of the code, between prologue and epilogue
 pub record StandsAt (e : Entry) (places k : ℕ) (s : State) : Type 0 where
-  pub pc : s.registers.pc ≡ e.start.code + 4 * k
+  pub pc : s.registers.pc ≡ begin_of e + 4 * k
   pub sp : s.registers.sp ≡ low_of e places
   pub fp : s.registers.x 29 ≡ e.start.sp - 16
   pub kept : (r : ℕ) → 19 ≤ r → r ≤ 28 → s.registers.x r ≡ e.start.registers r
@@ -197,7 +197,7 @@ module _ (e : Entry) (code : List Inst) (places : ℕ) (run : RunsCode e code) (
   branch_step s k t at there next =
       branched s k t at
       (branches_to e code run s k t (branch_target s.registers.pc (pos t -ℤ pos k)) (branch_from k t) at.pc there next refl refl (jumps (pos t -ℤ pos k) s.registers s.memory)
-      (ap (λ (n : ℕ). branch_target n (pos t -ℤ pos k)) at.pc ∙ target_is e.start.code k t (length code) run.ends (omega (arith, run.short)) (slice_get_within code k _ there) (slice_get_within code t next.0 next.1))
+      (ap (λ (n : ℕ). branch_target n (pos t -ℤ pos k)) at.pc ∙ target_is (begin_of e) k t (length code) run.ends (omega (arith, run.short)) (slice_get_within code k _ there) (slice_get_within code t next.0 next.1))
       (sp_aligned s k at) (touches_nothing e s (branch_from k t) refl))
 
   -- over the next instruction
@@ -205,7 +205,7 @@ module _ (e : Entry) (code : List Inst) (places : ℕ) (run : RunsCode e code) (
   taken_step s k at there next none =
       branched s k (k + 2) at
       (branches_to e code run s k (k + 2) (branch_target s.registers.pc (pos 2)) (BranchZero W64 false 15 (pos 2)) at.pc there next refl refl (taken (pos 2) s.registers s.memory none)
-      (ap (λ (n : ℕ). branch_target n (pos 2)) at.pc ∙ over_one e.start.code k (length code) run.ends (slice_get_within code (k + 2) next.0 next.1))
+      (ap (λ (n : ℕ). branch_target n (pos 2)) at.pc ∙ over_one (begin_of e) k (length code) run.ends (slice_get_within code (k + 2) next.0 next.1))
       (sp_aligned s k at) (touches_nothing e s (BranchZero W64 false 15 (pos 2)) refl))
 
   pub not_taken_step : (s : State) (k w : ℕ) → StandsAt e places k s → slice_get code k ≡ Some (BranchZero W64 false 15 (pos 2)) → Stands code (k + 1) → s.registers.x 15 ≡ w → w < 2 ^ 64 → w ≢ 0 → Branches e places s (k + 1)

@@ -1,10 +1,11 @@
--- The object of a procedure with its baseline code.
-use Rattle.std.specs.Prelude.{ℕ, ◌*◌, Bool, true, false, if◌then◌else◌, List, [], ◌∷◌, length, map}
-use Rattle.std.specs.List.{list_any}
-use Rattle.b3_ir.specs.Procedure.{Procedure, values_by_block}
+-- The object of procedures with their baseline code.
+use Rattle.std.specs.Prelude.{◌≢◌, ℕ, ◌+◌, ◌*◌, ◌≤◌, Bool, true, false, if◌then◌else◌, List, [], ◌∷◌, ◌++◌, length, map, All, AllPairs}
+use Rattle.std.specs.List.{flat_map, list_any}
+use Rattle.b3_ir.specs.Procedure.{Kept, Procedure, values_by_block}
 use Rattle.b3_ir.specs.declared.opcode.Opcode.{Opcode}
 use Rattle.b3_ir.specs.declared.opcode.Opcode.TheVariants.{Return}
 use Rattle.b3_ir.specs.declared.value.Value.{Value}
+use Rattle.b3_supported.specs.Supported.{IsSupported}
 use Rattle.stackmap.specs.declared.site.Returns.{Returns}
 use Rattle.stackmap.specs.declared.site.Returns.TheVariants.{Nothing, W64}
 use Rattle.exit_table.specs.declared.tables.FrameRow.{FrameRow}
@@ -29,14 +30,37 @@ returns_of p = if has_return p then W64 else Nothing
 abbrev pub words_of : Procedure → List ℕ
 words_of p = map word (code_of p)
 
--- its one symbol, which has the whole text
-abbrev pub symbol_of : Procedure → Symbol
-symbol_of p = record { name = p.name; offset = 0; size = 4 * length (words_of p) }
+-- its symbol, where its code begins at a byte of the text
+abbrev pub symbol_at : ℕ → Procedure → Symbol
+symbol_at offset p = record { name = p.name; offset = offset; size = 4 * length (words_of p) }
 
 -- its frame, which has no slots and saves no registers beside x29 and x30
 abbrev pub frame_of : Procedure → FrameRow
 frame_of p = record { bytes = frame_bytes (places_of p); returns = returns_of p; slots = []; saved = [] }
 
--- its object has no sites
-abbrev pub object_of : Procedure → Object
-object_of p = record { text = words_of p; symbols = symbol_of p ∷ []; tables = record { frames = frame_of p ∷ []; sites = [] } }
+-- the symbols of procedures whose codes stand one after the other, the first at a byte of the text
+abbrev pub symbols_from : ℕ → List Procedure → List Symbol
+symbols_from offset [] = []
+symbols_from offset (p ∷ ps) = symbol_at offset p ∷ symbols_from (offset + 4 * length (words_of p)) ps
+
+-- the object of procedures: their codes one after the other, and no sites
+abbrev pub object_of : List Procedure → Object
+object_of ps = record { text = flat_map words_of ps; symbols = symbols_from 0 ps; tables = record { frames = map frame_of ps; sites = [] } }
+
+-- an object with the code, the symbol and the frame of one more procedure at its end
+abbrev pub with_procedure : Object → Procedure → Object
+with_procedure o p = record {
+  text = o.text ++ words_of p;
+  symbols = o.symbols ++ symbol_at (4 * length o.text) p ∷ [];
+  tables = record o.tables { frames = o.tables.frames ++ frame_of p ∷ [] };
+}
+
+-- the procedures of a module
+abbrev pub procedures_of : List Kept → List Procedure
+procedures_of module_ = map (λ (k : Kept). k.procedure) module_
+
+-- procedures that one object may hold: at most 256, each supported, and each with a name of its own
+pub record AreSupported (ps : List Procedure) : Type 0 where
+  pub few : length ps ≤ 256
+  pub each : All IsSupported ps
+  pub distinct : AllPairs (λ a b. a ≢ b) (map (λ (p : Procedure). p.name) ps)

@@ -11,4 +11,4 @@ mod sequences;
 mod tests;
 
 pub use code::procedure_code;
-pub use object::procedure_object;
+pub use object::module_object;

@@ -1,68 +1,83 @@
-//! The object of a procedure.
+//! The object of a module.
 
-ghost use Rattle.std.specs.Prelude.{◌≡◌, ◌<◌, ◌≤◌, ◌^◌, [], ◌∷◌, length, map, All, IfOk};
+ghost use Rattle.std.specs.Prelude.{◌≡◌, ◌+◌, ◌*◌, ◌<◌, ◌≤◌, ◌^◌, ◌∷◌, [], ◌++◌, if◌then◌else◌, length, map, All, IfOk, OnOk};
 ghost use Rattle.a64_inst.specs.WellFormed.{IsWellFormed};
 ghost use Rattle.a64_word.specs.Word.{word};
 ghost use Rattle.b3_supported.specs.Supported.{IsSupported};
 ghost use Rattle.a64_run.specs.CodeOf.{IsCodeOf};
 ghost use Rattle.elf_obj.specs.Size.{size_bound};
 ghost use Rattle.a64_baseline.specs.Code.{places_of};
-ghost use Rattle.a64_baseline.specs.Object.{frame_of, has_return, object_of};
+ghost use Rattle.a64_baseline.specs.Object.{AreSupported, frame_of, has_return, object_of, procedures_of, symbol_at, with_procedure, words_of};
 
 use crate::code::laid_code;
 use crate::layout::{Layout, lay_out};
 use a64_inst::Inst;
 use a64_word::encode;
 use b3_base::{CodeWords, Name, NoMemory};
-use b3_ir::Proc;
+use b3_ir::{Module, Proc};
 use elf_obj::{Object, Symbol, Symbols};
 use exit_table::{FrameRow, FrameRows, SiteRows, Tables};
 use stackmap::{Returns, Saved, SlotRows};
 use std::alloc::Global;
 
-/// The object of a procedure with its baseline code; its file has at most 134,217,728 bytes. It is
-/// refused for want of memory alone.
-pub fn procedure_object(alloc: Global, p: &Proc) -> Result<Object, NoMemory>
-    requires { IsSupported p.now.procedure }
-    ensures code { IfOk result (IsCodeOf (p.now.procedure ∷ []) (p.now.procedure ∷ [])) }
+/// The object of a module's procedures with their baseline code, one after the other; its file has at
+/// most 134,217,728 bytes. It is refused for want of memory alone.
+pub fn module_object(alloc: Global, procedures: &Module) -> Result<Object, NoMemory>
+    requires { AreSupported (procedures_of procedures.now) }
+    ensures code { IfOk result (IsCodeOf (procedures_of procedures.now) (procedures_of procedures.now)) }
     ensures small { IfOk result (λ o. size_bound o ≤ 134217728) }
 {
-    laid_object(alloc, p)
+    joined_object(alloc, procedures)
 }
 
 /// The same, as the one object that is meant.
-fn laid_object(alloc: Global, p: &Proc) -> Result<Object, NoMemory>
-    requires { IsSupported p.now.procedure }
-    ensures object { IfOk result (λ o. o ≡ object_of p.now.procedure) }
+fn joined_object(alloc: Global, procedures: &Module) -> Result<Object, NoMemory>
+    requires { AreSupported (procedures_of procedures.now) }
+    ensures object { IfOk result (λ o. o ≡ object_of (procedures_of procedures.now)) }
     ensures narrow { IfOk result (λ o. All (λ word. word < 2 ^ 32) o.text) }
+{
+    let mut object = Object {
+        text: CodeWords::new(alloc),
+        symbols: Symbols::new(alloc),
+        tables: Tables {
+            frames: FrameRows::new(alloc),
+            sites: SiteRows::new(alloc),
+        },
+    };
+    for at in 0..procedures.procs() {
+        push_procedure(alloc, &mut object, procedures.proc(at))?;
+    }
+    object.text.ranged();
+    Ok(object)
+}
+
+/// One more procedure at the end of an object.
+fn push_procedure(alloc: Global, object: &mut Object, p: &Proc) -> Result<(), NoMemory>
+    requires supported { IsSupported p.now.procedure }
+    requires short { length object.old.text ≤ 2 ^ 20 }
+    ensures { OnOk result (object.new ≡ with_procedure object.old p.now.procedure) }
 {
     let layout = lay_out(alloc, p)?;
     let code = laid_code(alloc, p, &layout)?;
-    let text = words(alloc, code.as_slice())?;
-    text.ranged();
-    let mut symbols = Symbols::new(alloc);
-    symbols.push(Symbol {
+    let symbol = Symbol {
         name: Name::from_text(alloc, p.name())?,
-        offset: 0,
-        size: 4 * text.len() as u32,
-    })?;
-    let tables = frame_tables(alloc, p, &layout)?;
-    Ok(Object {
-        text,
-        symbols,
-        tables,
-    })
+        offset: 4 * object.text.len() as u32,
+        size: 4 * code.len() as u32,
+    };
+    push_words(&mut object.text, code.as_slice())?;
+    object.symbols.push(symbol)?;
+    object.tables.frames.push(frame_row(alloc, &layout))
 }
 
-/// The tables: one frame, and no site.
-fn frame_tables(alloc: Global, p: &Proc, layout: &Layout) -> Result<Tables, NoMemory>
-    requires few { layout.now.places < 256 }
-    requires places { layout.now.places ≡ places_of p.now.procedure }
-    requires returns { layout.now.returns ≡ has_return p.now.procedure }
-    ensures { IfOk result (λ tables. tables ≡ record { frames = frame_of p.now.procedure ∷ []; sites = [] }) }
+/// The frame of a procedure by its layout.
+fn frame_row(alloc: Global, layout: &Layout) -> FrameRow
+    requires { layout.now.places < 256 }
+    ensures bytes { result.bytes ≡ 16 * layout.now.places + 16 }
+    ensures returns { result.returns ≡ (if layout.now.returns then Returns.W64 else Returns.Nothing) }
+    ensures slots { result.slots ≡ [] }
+    ensures saved { result.saved ≡ [] }
 {
-    let mut frames = FrameRows::new(alloc);
-    frames.push(FrameRow {
+    FrameRow {
         bytes: 16 * layout.places + 16,
         returns: if layout.returns {
             Returns::W64
@@ -71,22 +86,16 @@ fn frame_tables(alloc: Global, p: &Proc, layout: &Layout) -> Result<Tables, NoMe
         },
         slots: SlotRows::new(alloc),
         saved: Saved::new(alloc),
-    })?;
-    Ok(Tables {
-        frames,
-        sites: SiteRows::new(alloc),
-    })
+    }
 }
 
-/// The words of the instructions, in order.
-fn words(alloc: Global, code: &[Inst]) -> Result<CodeWords, NoMemory>
+/// The words of instructions at the end of a text.
+fn push_words(text: &mut CodeWords, code: &[Inst]) -> Result<(), NoMemory>
     requires { All IsWellFormed code.now }
-    ensures words { IfOk result (λ words. words ≡ map word code.now) }
-    ensures len { IfOk result (λ words. length words ≡ length code.now) }
+    ensures { OnOk result (text.new ≡ text.old ++ map word code.now) }
 {
-    let mut words = CodeWords::new(alloc);
     for inst in code {
-        words.push(encode(inst))?;
+        text.push(encode(inst))?;
     }
-    Ok(words)
+    Ok(())
 }

@@ -1,12 +1,12 @@
 //! From the bytes of a text to the bytes of an object.
 
 ghost use Rattle.std.specs.Prelude.{◌-◌, ◌^◌, ◌<◌, [], ◌∷◌, length, IfOk, IfErr};
-ghost use Rattle.b3_supported.specs.Supported.{IsSupported};
+ghost use Rattle.a64_baseline.specs.Object.{AreSupported, procedures_of};
 ghost use Rattle.b3c_core.specs.Compiled.{IsCause, IsCompiled, IsFileOf};
 
-use a64_baseline::procedure_object;
+use a64_baseline::module_object;
 use b3_base::{Bytes, NoMemory};
-use b3_ir::Proc;
+use b3_ir::Module;
 use b3_supported::fault_line;
 use b3_text::TextFault;
 use std::alloc::Global;
@@ -44,18 +44,17 @@ pub fn compile(alloc: Global, bytes: &[u8]) -> Result<Bytes, Fault>
         Err(TextFault::NotBuilt { line }) => return Err(Fault::NotBuilt { line }),
         Err(TextFault::NoMemory) => return Err(Fault::NoMemory),
     };
-    let p = module.proc(0);
-    if let Some(line) = fault_line(alloc, p)? {
+    if let Some(line) = fault_line(alloc, module.proc(0))? {
         return Err(Fault::NotBuilt { line });
     }
-    Ok(procedure_file(alloc, p)?)
+    Ok(module_file(alloc, &module)?)
 }
 
-/// The file of the object of a procedure. It is refused for want of memory alone.
-fn procedure_file(alloc: Global, p: &Proc) -> Result<Bytes, NoMemory>
-    requires { IsSupported p.now.procedure }
-    ensures { IfOk result (IsFileOf (p.now.procedure ∷ [])) }
+/// The file of the object of a module. It is refused for want of memory alone.
+fn module_file(alloc: Global, procedures: &Module) -> Result<Bytes, NoMemory>
+    requires { AreSupported (procedures_of procedures.now) }
+    ensures { IfOk result (IsFileOf (procedures_of procedures.now)) }
 {
-    let object = procedure_object(alloc, p)?;
+    let object = module_object(alloc, procedures)?;
     elf_obj::write(alloc, &object)
 }
