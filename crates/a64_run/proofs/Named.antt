@@ -1,6 +1,6 @@
 -- The procedure of a name is one, since names are distinct.
-use Rattle.std.proofs.Common.{◌≡◌, ◌≢◌, ℕ, ◌+◌, ◌<◌, ◌≤◌, List, [], Option, Some, None, refl, sym, ap, subst, ◌∙◌, arith, get_or, length, ◌⊎◌, inl, inr}
-use Rattle.std.specs.Prelude.{slice_get, slice_index_or, map, AllPairs}
+use Rattle.std.proofs.Common.{◌≡◌, ◌≢◌, ℕ, ◌+◌, ◌<◌, ◌≤◌, List, [], Some, sym, ap, subst, ◌∙◌, arith, get_or, length, inl, inr}
+use Rattle.std.specs.Prelude.{slice_get, AllPairs}
 use Rattle.std.specs.List.{Contains}
 use Rattle.std.proofs.Math.ListN.{length-map}
 use Rattle.std.proofs.lemmas.List.{get_or-map}
@@ -12,7 +12,7 @@ use Rattle.elf_obj.specs.Good.{IsGood, names_of}
 use Rattle.elf_obj.specs.declared.object.Object.{Object}
 use Rattle.elf_obj.specs.declared.object.Symbol.{Symbol}
 use Rattle.a64_run.specs.Placement.{Places}
-use Rattle.a64_run.specs.Finding.{IsProcedure, IsMisplaced, MayBegin}
+use Rattle.a64_run.specs.Finding.{IsMisplaced}
 
 abbrev no_symbol : Symbol
 no_symbol = record { name = []; offset = 0; size = 0 }

@@ -1,5 +1,5 @@
 -- The start that a program makes is the start that agrees.
-use Rattle.std.proofs.Common.{◌≡◌, ℕ, zero, suc, ◌+◌, ◌-◌, ◌*◌, Bool, List, [], ◌∷◌, Option, refl, sym, ap, ◌∙◌, arith, length}
+use Rattle.std.proofs.Common.{◌≡◌, ℕ, zero, suc, ◌-◌, ◌*◌, Bool, List, [], ◌∷◌, refl, ap, ◌∙◌, arith, length}
 use mathlib.Core.Path.{fun_ext}
 use Rattle.std.specs.Prelude.{map, slice_index, ◌&&◌, not}
 use Rattle.std.specs.Ordering.{nat_cmp}
@@ -7,12 +7,11 @@ use Rattle.std.specs.FinMap as map
 use Rattle.b3_base.specs.Observed.{Memory, Start, machine_start_of, in_range}
 use Rattle.b3_base.specs.Observed as observed
 use Rattle.b3_base.specs.declared.range.Range.{Range}
-use Rattle.b3_base.specs.declared.start.Start.{Start as GivenStart}
 use Rattle.b3_base.specs.declared.start.MachineStart.{MachineStart as GivenMachineStart}
 use Rattle.exit_table.specs.declared.tables.FrameRow.{FrameRow}
 use Rattle.elf_obj.specs.declared.object.Object.{Object}
 use Rattle.a64_run.specs.Hidden.{covers}
-use Rattle.a64_run.specs.Placement.{argument_words, entry_memory, frame_pointer_of, in_frame, in_slot, in_text, is_within, slot_address, start_of, visible}
+use Rattle.a64_run.specs.Placement.{argument_words, entry_memory, in_frame, in_slot, is_within, slot_address, start_of, visible}
 
 abbrev first_eight : List ℕ → List ℕ
 first_eight x = slice_index x 0 ∷ slice_index x 1 ∷ slice_index x 2 ∷ slice_index x 3 ∷ slice_index x 4 ∷ slice_index x 5 ∷ slice_index x 6 ∷ slice_index x 7 ∷ []

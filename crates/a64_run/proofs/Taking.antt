@@ -1,14 +1,13 @@
 -- Single bytes, and bytes that are taken over from one memory into another.
-use Rattle.std.proofs.Common.{◌≡◌, ℕ, zero, suc, ◌+◌, ◌-◌, ◌*◌, ◌/◌, ◌%◌, ◌^◌, ◌<◌, ◌≤◌, Bool, true, false, List, [], ◌∷◌, Option, Some, None, refl, sym, ap, ◌∙◌, arith, cond, inl, inr, ◌⊎◌}
+use Rattle.std.proofs.Common.{◌≡◌, ℕ, ◌+◌, ◌-◌, ◌^◌, ◌<◌, Bool, true, [], ◌∷◌, Option, Some, None, refl, ap, ◌∙◌, arith}
 use mathlib.Core.Path.{fun_ext}
-use Rattle.std.specs.Prelude.{◌&&◌, ◌||◌, nat_eq, nat_le, nat_lt, is_some, IfSome, IfNone, if◌then◌else◌, slice_get}
+use Rattle.std.specs.Prelude.{◌&&◌, nat_lt, is_some, if◌then◌else◌}
 use Rattle.std.specs.Option.{option_or}
 use Rattle.std.proofs.lemmas.Bool.Decides.{nat_tests}
 use Rattle.std.proofs.lemmas.Option.{slice_get_past}
-use Rattle.b3_base.specs.Memory.{byte_address, byte_of, with_byte_above, read_word, write_word, put_byte, map_bytes, AreBytes, IsNextMapped}
+use Rattle.b3_base.specs.Memory.{byte_address, byte_of, with_byte_above, read_word, write_word, put_byte, map_bytes, AreBytes}
 use Rattle.b3_base.specs.Observed.{Memory}
-use Rattle.a64_run.specs.Placement.{is_within}
-use Rattle.a64_run.specs.Taking.{with_range, with_places}
+use Rattle.a64_run.specs.Taking.{with_range}
 
 -- ---- one byte
 

@@ -7,3 +7,7 @@ pub mod Finding
 pub mod Taking
 pub mod Hidden
 pub mod Sharing
+pub mod Running
+pub mod Kept
+pub mod Leaving
+pub mod Sample

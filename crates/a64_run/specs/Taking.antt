@@ -1,5 +1,5 @@
 -- No public clause cites this module. Bytes that are taken over from one memory into another.
-use Rattle.std.specs.Prelude.{◌≡◌, ℕ, true, if◌then◌else◌, Option, is_some}
+use Rattle.std.specs.Prelude.{◌≡◌, ℕ, true, if◌then◌else◌, is_some}
 use Rattle.std.specs.Option.{option_or}
 use Rattle.b3_base.specs.Observed.{Memory}
 use Rattle.a64_run.specs.Placement.{is_within}

@@ -39,7 +39,7 @@ pub(crate) fn put(memory: &mut Memory, address: u64, byte: u8) -> Result<(), NoM
 }
 
 /// Takes the byte at an address over, where there is one.
-fn take_over(into: &mut Memory, from: &Memory, address: u64) -> Result<(), NoMemory>
+pub(crate) fn take_over(into: &mut Memory, from: &Memory, address: u64) -> Result<(), NoMemory>
     ensures { OnOk result (map.get into.new ≡ with_range (map.get into.old) (map.get from.now) address 1) }
 {
     match byte_at(from, address) {
@@ -87,7 +87,7 @@ pub(crate) fn take_places(into: &mut Memory, from: &Memory, places: &Memory) -> 
 }
 
 /// The least mapped address above one.
-fn mapped_above(memory: &Memory, address: u64) -> Option<u64>
+pub(crate) fn mapped_above(memory: &Memory, address: u64) -> Option<u64>
     ensures least { IfSome result (IsNextMapped (map.get memory.now) (address + 1)) }
     ensures none { IfNone result ((q : ℕ) → address < q → map.get memory.now q ≡ None) }
 {

@@ -3,11 +3,23 @@
 #![tactic(auto)]
 
 mod bytes;
+mod clobbers;
+mod entry;
+mod execute;
 mod fault;
 mod find;
 mod hidden;
+mod leaving;
 mod memories;
+mod outside;
 mod placement;
+mod running;
+mod saved;
+#[cfg(test)]
+mod tests;
+mod text;
+mod touching;
 
 pub use fault::PlaceFault;
 pub use placement::place;
+pub use running::run;

@@ -84,7 +84,10 @@ fn may_begin(object: &Object, frame: &FrameRow, start: &MachineStart) -> bool
 /// The place of the procedure of a name, where the machine start may begin it.
 pub(crate) fn begins(object: &Object, name: &str, start: &MachineStart) -> Result<usize, PlaceFault>
     requires { IsGood object.now }
-    ensures ok { IfOk result (λ k. (symbol : Symbol) × (frame : Frame) × (slice_get object.now.tables.frames k ≡ Some frame) × MayBegin object.now name.now (machine_start_of start.now) symbol frame) }
+    ensures ok { IfOk result (λ k. (symbol : Symbol) × (frame : Frame)
+        × (slice_get object.now.symbols k ≡ Some symbol) × (slice_get object.now.tables.frames k ≡ Some frame)
+        × MayBegin object.now name.now (machine_start_of start.now) symbol frame) }
+    ensures named { IfOk result (λ k. k < length object.now.symbols) }
     ensures there { IfOk result (λ k. k < length object.now.tables.frames) }
     ensures no_procedure { (result ≡ Err PlaceFault.NoProcedure) ↔ (¬ (Contains (names_of object.now.symbols) name.now)) }
     ensures placement { (result ≡ Err PlaceFault.Placement) ↔ IsMisplaced object.now name.now (machine_start_of start.now) }

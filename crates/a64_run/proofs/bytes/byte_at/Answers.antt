@@ -1,5 +1,5 @@
 -- A word of one byte is the byte that stands there.
-use Rattle.std.proofs.Common.{◌≡◌, ◌∙◌, Option, Some, None, sym, arith}
+use Rattle.std.proofs.Common.{◌≡◌, ◌∙◌, Some, sym, arith}
 use Rattle.std.specs.FinMap as map
 use Rattle.a64_run.proofs.Taking.{read_one, is_byte}
 use Rattle.a64_run.proofs.bytes.byte_at.Goals as goal

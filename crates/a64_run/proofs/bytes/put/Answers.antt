@@ -1,7 +1,6 @@
 -- A byte is written where one is mapped, and else mapped.
-use Rattle.std.proofs.Common.{◌≡◌, ◌∙◌, ap, sym, arith}
+use Rattle.std.proofs.Common.{arith}
 use Rattle.std.specs.FinMap as map
-use Rattle.b3_base.specs.Memory.{write_word, map_bytes}
 use Rattle.a64_run.proofs.Taking.{write_one, map_one}
 use Rattle.a64_run.proofs.bytes.put.Goals as goal
 

@@ -1,5 +1,5 @@
 -- Where there is no byte nothing is taken over.
-use Rattle.std.proofs.Common.{◌≡◌, ◌∙◌, sym, arith}
+use Rattle.std.proofs.Common.{◌∙◌, sym, arith}
 use Rattle.std.specs.FinMap as map
 use Rattle.a64_run.proofs.Taking.{take_one, take_none}
 use Rattle.a64_run.proofs.bytes.take_over.Goals as goal

@@ -1,5 +1,5 @@
 -- One more byte is taken over.
-use Rattle.std.proofs.Common.{◌≡◌, ◌+◌, ◌∙◌, ap}
+use Rattle.std.proofs.Common.{◌+◌, ◌∙◌, ap}
 use Rattle.std.specs.FinMap as map
 use Rattle.b3_base.specs.Observed.{Memory}
 use Rattle.a64_run.specs.Taking.{with_range}

@@ -1,5 +1,4 @@
 -- One more slot is cut out, which stands above the end of the frame.
-use Rattle.std.proofs.Common.{◌≡◌}
 use Rattle.a64_run.proofs.Slots.{slot_fits, slot_ends}
 use Rattle.a64_run.proofs.hidden.hidden.Goals as goal
 

@@ -1,5 +1,4 @@
 -- The mapped bytes are seen first, and then those of each slot, which stands above the end of the frame.
-use Rattle.std.proofs.Common.{◌≡◌, None, ap, ◌∙◌, refl}
 use Rattle.std.specs.Ordering.{nat_cmp}
 use Rattle.std.specs.FinMap as map
 use Rattle.a64_run.proofs.Slots.{slot_fits, slot_ends, seen_first}

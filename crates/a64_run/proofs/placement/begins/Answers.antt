@@ -1,5 +1,5 @@
 -- The procedure of the name is one, and its frame stands at its place.
-use Rattle.std.proofs.Common.{◌≡◌, ◌∙◌, Bool, true, false, refl, sym}
+use Rattle.std.proofs.Common.{◌≡◌, Bool, true, false, refl}
 use Rattle.std.proofs.lemmas.Option.{slice_get_within}
 use Rattle.a64_run.proofs.Named.{named_there, not_misplaced}
 use Rattle.a64_run.proofs.placement.begins.Goals as goal
@@ -12,6 +12,7 @@ returns-then-may_begin-clause-ok c =
     let symbol = c.in-Some.ensures.some.0 in (
       symbol,
       c.get.result.now,
+      c.in-Some.ensures.some.1,
       c.get.ensures,
       record {
         procedure = record { place = c.in-Some.k; symbol_there = c.in-Some.ensures.some.1; frame_there = c.get.ensures; named = c.in-Some.ensures.some.2 };
@@ -21,6 +22,9 @@ returns-then-may_begin-clause-ok c =
 
 pub returns-then-may_begin-clause-there : goal.returns-then-may_begin-clause-there
 returns-then-may_begin-clause-there c = slice_get_within c.args.object.now.tables.frames c.in-Some.k c.get.result.now c.get.ensures
+
+pub returns-then-may_begin-clause-named : goal.returns-then-may_begin-clause-named
+returns-then-may_begin-clause-named c = slice_get_within c.args.object.now.symbols c.in-Some.k c.in-Some.ensures.some.0 c.in-Some.ensures.some.1
 
 pub returns-then-may_begin-clause-no_procedure : goal.returns-then-may_begin-clause-no_procedure
 returns-then-may_begin-clause-no_procedure c =
