@@ -13,24 +13,24 @@ use Rattle.elf_obj.specs.Good.{names_of, sizes_of, Fills, IsGood}
 use Rattle.elf_obj.specs.Elf.{sections_of}
 
 -- the sizes of procedures that fill a text sum up to it
-fills_sum : (from to : ℕ) (symbols : List Symbol) → Fills from to symbols → from + sum (sizes_of symbols) ≡ to
+pub fills_sum : (from to : ℕ) (symbols : List Symbol) → Fills from to symbols → from + sum (sizes_of symbols) ≡ to
 fills_sum from to [] fills = omega (arith, fills)
 fills_sum from to (symbol ∷ rest) fills = rw (sum_by-cons (λ x. x) symbol.size (sizes_of rest)) (omega (arith, fills_sum (from + symbol.size) to rest fills.3))
 
-fills_each : (from to : ℕ) (symbols : List Symbol) → Fills from to symbols → AllByRecursion (λ size. (0 < size) × (size % 4 ≡ 0)) (sizes_of symbols)
+pub fills_each : (from to : ℕ) (symbols : List Symbol) → Fills from to symbols → AllByRecursion (λ size. (0 < size) × (size % 4 ≡ 0)) (sizes_of symbols)
 fills_each from to [] fills = tt
 fills_each from to (symbol ∷ rest) fills = ((fills.1, fills.2), fills_each (from + symbol.size) to rest fills.3)
 
 -- they are at most its words
-fills_few : (from to : ℕ) (symbols : List Symbol) → Fills from to symbols → from + 4 * length symbols ≤ to
+pub fills_few : (from to : ℕ) (symbols : List Symbol) → Fills from to symbols → from + 4 * length symbols ≤ to
 fills_few from to [] fills = omega (arith, fills)
 fills_few from to (symbol ∷ rest) fills = omega (arith, fills.1, fills.2, fills_few (from + symbol.size) to rest fills.3)
 
 -- a name and the byte behind it are at most 256 bytes
-name_length : (name : List ℕ) → IsName name → length name + 1 ≤ 256
+pub name_length : (name : List ℕ) → IsName name → length name + 1 ≤ 256
 name_length name named = omega (arith, named.short)
 
-names_sum : (symbols : List Symbol) → AllByRecursion IsName (names_of symbols) → sum_by (λ symbol. length symbol.name + 1) symbols ≤ 256 * length symbols
+pub names_sum : (symbols : List Symbol) → AllByRecursion IsName (names_of symbols) → sum_by (λ symbol. length symbol.name + 1) symbols ≤ 256 * length symbols
 names_sum [] all = omega arith
 names_sum (symbol ∷ rest) all = rw (sum_by-cons (λ (symbol : Symbol). length symbol.name + 1) symbol rest) (omega (arith, name_length symbol.name all.0, names_sum rest all.1))
 

@@ -1,3 +1,12 @@
 pub mod Bounds
+pub mod EntryLoop
+pub mod FieldRules
+pub mod FileLaws
+pub mod HeaderLaws
+pub mod Laid
+pub mod ReadExample
+pub mod ReadLaws
 pub mod Sizes
+pub mod SymbolLaws
+pub mod SymbolReads
 pub mod WholeFile

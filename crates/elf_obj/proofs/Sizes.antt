@@ -70,7 +70,7 @@ length-frame_section : (tables : Tables) → length (frame_section tables) ≡ 1
 unfolding frame_section
 length-frame_section tables = simp (length-append, length-words, length-frames) (omega arith)
 
-length-exit_section : (tables : Tables) → length (exit_section tables) ≡ 16 + sum_by (λ row. 32 + 16 * length row.site.reps) tables.sites
+pub length-exit_section : (tables : Tables) → length (exit_section tables) ≡ 16 + sum_by (λ row. 32 + 16 * length row.site.reps) tables.sites
 unfolding exit_section
 length-exit_section tables = simp (length-append, length-words, length-sites) (omega arith)
 

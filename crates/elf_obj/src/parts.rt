@@ -59,7 +59,7 @@ fn symbols_bytes(alloc: Global, symbols: &Symbols) -> Result<Bytes, NoMemory>
 
 /// The names of the procedures, in order, behind a zero byte.
 #[tactic(auto, unfolding(crate::specs::Elf::string_table))]
-fn names_bytes(alloc: Global, symbols: &Symbols) -> Result<Bytes, NoMemory>
+pub(crate) fn names_bytes(alloc: Global, symbols: &Symbols) -> Result<Bytes, NoMemory>
     ensures { IfOk result (λ bytes. bytes ≡ string_table (names_of symbols.now)) }
 {
     let mut out = Bytes::new(alloc);
@@ -73,7 +73,7 @@ fn names_bytes(alloc: Global, symbols: &Symbols) -> Result<Bytes, NoMemory>
 
 /// The names of the sections, in order, behind a zero byte.
 #[tactic(auto, unfolding(crate::specs::Elf::string_table, crate::specs::Elf::section_names))]
-fn section_names_bytes(alloc: Global) -> Result<Bytes, NoMemory>
+pub(crate) fn section_names_bytes(alloc: Global) -> Result<Bytes, NoMemory>
     ensures { IfOk result (λ bytes. bytes ≡ string_table section_names) }
 {
     let mut out = Bytes::new(alloc);

@@ -1,9 +1,9 @@
 -- A site that is read is spelled so, and one that is spelled so is read.
-use Rattle.std.proofs.Common.{◌≡◌, ℕ, ◌+◌, ◌-◌, ◌*◌, ◌/◌, ◌%◌, ◌^◌, ◌≤◌, ◌<◌, Bool, true, false, cond, eqb, leb, ltb, List, [], ◌∷◌, ◌++◌, length, map, Option, Some, None, Result, Ok, Err, refl, sym, ap, subst, ◌∙◌, append_assoc, arith}
+use Rattle.std.proofs.Common.{◌≡◌, ℕ, ◌+◌, ◌-◌, ◌*◌, ◌/◌, ◌%◌, ◌^◌, ◌≤◌, ◌<◌, true, eqb, leb, ltb, List, [], ◌∷◌, ◌++◌, length, Option, Some, None, Result, Ok, Err, refl, sym, ap, subst, ◌∙◌, arith}
 use Rattle.std.specs.Prelude.{⊤, codes, ◌&&◌, nat_le}
 use Rattle.std.specs.List.{flat_map}
 use Rattle.std.specs.Int.{w32, from_le_bytes}
-use Rattle.std.proofs.lemmas.Bool.{eqb-true, eq-eqb, leb-true, ltb-true, lt-ltb, le-leb, lt-leb, le-ltb, ne_eqb, and_parts, and_from}
+use Rattle.std.proofs.lemmas.Bool.{eqb-true, leb-true, lt-ltb, le-leb, le-ltb, ne_eqb, and_parts}
 use Rattle.std.proofs.lemmas.List.{append-nil}
 use Rattle.b3_base.specs.Word.{bits}
 use Rattle.b3_base.specs.declared.word.Width.{Width}
@@ -20,7 +20,7 @@ use Rattle.exit_table.specs.declared.fault.Cause.TheVariants.{Rule, Order, Unlis
 use Rattle.exit_table.specs.declared.exit_reader.Form.{Form}
 use Rattle.exit_table.specs.declared.exit_reader.Form.TheVariants as form
 use Rattle.exit_table.specs.Spelling.{kind_number, result_number, rep_number, rep_value}
-use Rattle.exit_table.specs.Reading.{Reader, give, ◌>>=◌, check, one, two, any, is_zero, mark_at, rows}
+use Rattle.exit_table.specs.Reading.{Reader, give, ◌>>=◌, one, two, any, is_zero, mark_at, rows}
 use Rattle.exit_table.specs.ExitReading.{site_pc, kind_of, may_have, site_size, may_report, place_count, result_of, may_answer, allowed, site_result, may_change, site_clobbers, form_of, width_of, rep, may_stand, rep_of, place_at, after_place, site_from, site_at, after_site, sites_at}
 use Rattle.exit_table.specs.Rooms.{Room, room_at}
 use Rattle.exit_table.proofs.Rows.{and_then_ok, ok_is, check_ok, if_ok, one_takes, two_takes, step, AllAfter, AreSmall, any_is, listed, unlisted, IsRow, small_left, rows_take, rows_again, mark_takes, mark_again, zero_takes}

@@ -4,7 +4,7 @@ use Rattle.std.specs.Prelude.{All, AllPairs, ◌||◌, ⊤}
 use Rattle.std.specs.List.{AllByRecursion}
 use Rattle.std.specs.List.Sorted.{IsStrictlyIncreasing}
 use Rattle.std.proofs.lemmas.Bool.{eqb-true, eq-eqb, leb-true, le-leb, ltb-true, lt-ltb, and_parts, and_from}
-use Rattle.std.proofs.lemmas.List.{append-nil, map_push, get_or_append_left}
+use Rattle.std.proofs.lemmas.List.{append-nil, get_or_append_left}
 use Rattle.std.proofs.Math.Seq.{get_or-append_seam}
 use Rattle.std.proofs.lemmas.List.Elements.{All-from_recursion, recursion_from_All}
 use Rattle.std.proofs.lemmas.List.Quantifiers.{all_pairs_push}
@@ -12,7 +12,7 @@ use Rattle.stackmap.specs.declared.site.SlotRow.{SlotRow}
 use Rattle.stackmap.specs.declared.site.SavedRow.{SavedRow}
 use Rattle.exit_table.specs.declared.tables.FrameRow.{FrameRow}
 use Rattle.exit_table.specs.Good.{Span, AreDisjoint, slot_span, saved_span, IsWordOffset, IsGoodSlot, IsGoodSaved, IsGoodFrame}
-use Rattle.exit_table.specs.FrameReading.{Saving, are_apart, is_clear, is_word_at, without, after_slot, after_saved, after_frame}
+use Rattle.exit_table.specs.FrameReading.{Saving, are_apart, is_clear, is_word_at, after_slot, after_saved, after_frame}
 use Rattle.exit_table.proofs.TakenLaws.{apart_true, without_push}
 use Rattle.exit_table.proofs.Rows.{AllAfter}
 use Rattle.exit_table.proofs.FrameLaws.{IsSlotAfter, IsSavedAfter, IsFrame, IsAnyFrame}

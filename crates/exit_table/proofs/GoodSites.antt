@@ -1,12 +1,11 @@
 -- Sites that are good one after the other are good sites, and the other way.
-use Rattle.std.proofs.Common.{◌≡◌, ℕ, zero, suc, ◌+◌, ◌*◌, ◌/◌, ◌%◌, ◌^◌, ◌≤◌, ◌<◌, ◌⊎◌, inl, inr, Bool, true, false, cond, eqb, leb, ltb, List, [], ◌∷◌, ◌++◌, length, get_or, map, sum, take, Option, Some, None, refl, sym, ap, subst, ◌∙◌, arith}
-use Rattle.std.specs.Prelude.{All, IsSomeAnd, IfSome, IsBitSet, ◌↔◌, slice_get, ◌&&◌, ◌||◌, nat_le, nat_lt, bit_and, ⊤}
+use Rattle.std.proofs.Common.{◌≡◌, ℕ, zero, suc, ◌+◌, ◌*◌, ◌≤◌, ◌<◌, inl, inr, Bool, true, false, cond, ltb, List, [], ◌∷◌, length, take, Option, Some, None, refl, sym, ap, subst, ◌∙◌, arith}
+use Rattle.std.specs.Prelude.{IsSomeAnd, IfSome, slice_get, ◌||◌}
 use Rattle.std.specs.List.{AllByRecursion}
 use Rattle.std.proofs.lemmas.Bool.{cases_lt, eqb-true, eq-eqb, leb-true, le-leb, ltb-true, lt-ltb, le-ltb, and_parts, and_from, or_cases}
 use Rattle.std.proofs.lemmas.List.{nil_from_length}
 use Rattle.std.proofs.lemmas.List.Elements.{All-from_recursion, recursion_from_All}
 use Rattle.std.proofs.lemmas.List.Sums.{sum_by-cons}
-use Rattle.b3_base.specs.Word.{bits}
 use Rattle.b3_base.specs.declared.word.Width.{Width}
 use Rattle.b3_base.specs.declared.range.Range.{Range}
 use Rattle.b3_ir.specs.declared.value.Reg.{Reg}
@@ -18,9 +17,9 @@ use Rattle.stackmap.specs.declared.site.Place.{Place}
 use Rattle.stackmap.specs.declared.site.Site.{Site}
 use Rattle.exit_table.specs.declared.tables.FrameRow.{FrameRow}
 use Rattle.exit_table.specs.declared.tables.SiteRow.{SiteRow}
-use Rattle.exit_table.specs.Good.{start_of, word_span, spans_of, IsGoodRep, AreRegistersFrom, IsGoodCall, IsGoodPatchpoint, IsGoodExit, IsGoodTrap, IsGoodKind, StandsIn, IsGoodSite, AreInOrder, HasFewPlaces}
+use Rattle.exit_table.specs.Good.{start_of, word_span, spans_of, IsGoodRep, AreRegistersFrom, IsGoodKind, StandsIn, IsGoodSite, AreInOrder, HasFewPlaces}
 use Rattle.exit_table.specs.Rooms.{AreJoined, lengths_of, Room, room, rooms_of, room_at}
-use Rattle.exit_table.specs.FrameReading.{is_clear, is_word_at}
+use Rattle.exit_table.specs.FrameReading.{is_clear}
 use Rattle.exit_table.specs.ExitReading.{may_have, may_report, may_answer, may_change, is_argument, is_good_rep, may_stand, after_place, after_site}
 use Rattle.exit_table.proofs.Rows.{AllAfter}
 use Rattle.exit_table.proofs.GoodFrames.{word_true, word_again}

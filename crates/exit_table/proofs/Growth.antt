@@ -127,3 +127,19 @@ frames_cut procedures front back cause left e within = cut back (frames_at proce
 
 pub sites_cut : (rooms : List Room) (front back : List ℕ) (cause : Cause) (left : ℕ) → sites_at rooms (front ++ back) ≡ Err (At cause left) → left ≤ length back → sites_at rooms front ≡ Err Short
 sites_cut rooms front back cause left e within = cut back (sites_at rooms front) (sites_at rooms (front ++ back)) cause left (sites_grow rooms back front) e within
+
+-- a fault that the first fields decide stays
+stays : {A : Type 0} (more : List ℕ) (small big : Result (A × List ℕ) Fault) (cause : Cause) (left : ℕ) → Grown more small big → small ≡ Err (At cause left) → big ≡ Err (At cause (left + length more))
+stays more (Ok x) big cause left h e = absurd cc
+stays more (Err Short) big cause left h e = absurd cc
+stays more (Err (At other k)) big cause left h e =
+    let is : other ≡ cause = cc in
+    let same : k ≡ left = cc in
+    h.1 ∙ rw (is, same) refl
+
+-- Whatever follows, a first fault stands at the same field.
+pub frames_stay : (procedures : ℕ) (front more : List ℕ) (cause : Cause) (left : ℕ) → frames_at procedures front ≡ Err (At cause left) → frames_at procedures (front ++ more) ≡ Err (At cause (left + length more))
+frames_stay procedures front more cause left e = stays more (frames_at procedures front) (frames_at procedures (front ++ more)) cause left (frames_grow procedures more front) e
+
+pub sites_stay : (rooms : List Room) (front more : List ℕ) (cause : Cause) (left : ℕ) → sites_at rooms front ≡ Err (At cause left) → sites_at rooms (front ++ more) ≡ Err (At cause (left + length more))
+sites_stay rooms front more cause left e = stays more (sites_at rooms front) (sites_at rooms (front ++ more)) cause left (sites_grow rooms more front) e

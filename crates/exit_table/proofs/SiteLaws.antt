@@ -2,7 +2,6 @@
 use Rattle.std.proofs.Common.{◌≡◌, ℕ, ◌≤◌, ◌%◌, Bool, true, false, leb, eqb, cond, List, [], ◌∷◌, length, Result, Ok, Err, refl, ap}
 use Rattle.std.proofs.lemmas.Bool.{leb-true}
 use Rattle.exit_table.specs.declared.tables.SiteRow.{SiteRow}
-use Rattle.exit_table.specs.declared.fault.Cause.{Cause}
 use Rattle.exit_table.specs.declared.fault.Cause.TheVariants.{Rule, Order}
 use Rattle.exit_table.specs.declared.fault.Fault.{Fault}
 use Rattle.exit_table.specs.Reading.{Reader, ◌>>=◌, give, and_then, placed, check}

@@ -1,14 +1,13 @@
 -- The bytes of the two sections, and the good tables that they spell.
 use mathlib.Core.Path.{fun_ext}
-use Rattle.std.proofs.Common.{◌≡◌, ℕ, suc, ◌+◌, ◌*◌, ◌/◌, ◌%◌, ◌^◌, ◌<◌, ◌≤◌, inl, inr, List, [], ◌∷◌, ◌++◌, length, get_or, map, sum, Option, Some, None, Result, Ok, Err, refl, sym, ap, subst, ◌∙◌, append_assoc, arith}
-use Rattle.std.specs.Prelude.{codes, All, IfOk, IfSome, IsSomeAnd, slice_get, bit_and}
+use Rattle.std.proofs.Common.{◌≡◌, ℕ, suc, ◌/◌, ◌%◌, ◌^◌, ◌<◌, ◌≤◌, inl, inr, List, [], ◌∷◌, ◌++◌, length, get_or, sum, Option, Some, None, Result, Ok, Err, refl, sym, ap, subst, ◌∙◌, append_assoc, arith}
+use Rattle.std.specs.Prelude.{All, IfOk, IfSome, IsSomeAnd, slice_get}
 use Rattle.std.specs.List.{flat_map, AllByRecursion}
-use Rattle.std.specs.Int.{w32, to_le_bytes, from_le_bytes}
 use Rattle.std.proofs.lemmas.List.{append-nil}
 use Rattle.std.proofs.lemmas.List.Concat.{flat_map-cons}
 use Rattle.std.proofs.lemmas.List.Elements.{All-from_recursion, recursion_from_All}
 use Rattle.std.proofs.lemmas.Option.{slice_get_within, get_or_from_slice_get}
-use Rattle.b3_base.specs.Fields.{words, xwords, fields}
+use Rattle.b3_base.specs.Fields.{words, fields}
 use Rattle.b3_base.proofs.FieldLaws.{AreBytes, words-fields, fields-words, fields_small, length-words, words-append, xwords-words}
 use Rattle.b3_base.specs.Word.{bits}
 use Rattle.b3_base.specs.declared.word.Width.{Width}
@@ -30,16 +29,15 @@ use Rattle.exit_table.specs.declared.tables.SiteRow.{SiteRow}
 use Rattle.exit_table.specs.declared.tables.Tables.{Tables}
 use Rattle.exit_table.specs.declared.fault.Fault.{Fault}
 use Rattle.exit_table.specs.declared.fault.TableFault.{TableFault}
-use Rattle.exit_table.specs.declared.fault.TableFault.TheVariants.{Frames, Exits, NoMemory}
-use Rattle.exit_table.specs.Spelling.{returns_number, kind_number, result_number, rep_number, rep_value, slot_spelling, saved_spelling, frame_spelling, frame_section, place_spelling, site_spelling, exit_section}
-use Rattle.exit_table.specs.Good.{start_of, IsGoodSlot, IsGoodSaved, IsGoodFrame, IsGoodRep, IsGoodKind, StandsIn, IsGoodSite, HasFewPlaces, IsGoodTables}
+use Rattle.exit_table.specs.Spelling.{returns_number, kind_number, result_number, rep_number, rep_value, slot_spelling, frame_spelling, frame_section, place_spelling, site_spelling, exit_section}
+use Rattle.exit_table.specs.Good.{start_of, IsGoodSlot, IsGoodSaved, IsGoodFrame, IsGoodRep, IsGoodKind, StandsIn, IsGoodSite, HasFewPlaces}
 use Rattle.exit_table.specs.Reading.{whole}
 use Rattle.exit_table.specs.FrameReading.{frames_at}
 use Rattle.exit_table.specs.ExitReading.{sites_at}
 use Rattle.exit_table.specs.Rooms.{AreExtents, lengths_of, rooms_of}
 use Rattle.exit_table.specs.Read.{with_frames, then_sites, read_tables, AreTables, Tells}
 use Rattle.exit_table.proofs.Counts.{few_rows, few_of_writable, site_within}
-use Rattle.exit_table.proofs.Rows.{AreSmall, small_append, IsWhole, whole_takes, whole_again}
+use Rattle.exit_table.proofs.Rows.{AreSmall, small_append, whole_takes, whole_again}
 use Rattle.exit_table.proofs.FrameLaws.{slot_fields, saved_fields, frame_fields, frame_section_fields, frames_mark, frames_take, frames_again}
 use Rattle.exit_table.proofs.ExitLaws.{place_fields, site_fields, exit_section_fields, exits_mark, sites_take, sites_again}
 use Rattle.exit_table.proofs.Clobbers.{clobbers_call, clobbers_patchpoint}

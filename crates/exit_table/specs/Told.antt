@@ -4,7 +4,7 @@ use Rattle.std.specs.Prelude.{◌≡◌, ◌⊎◌, ℕ}
 use Rattle.exit_table.specs.declared.fault.ReadError.{ReadError}
 use Rattle.exit_table.specs.declared.fault.ReadError.TheVariants as errors
 use Rattle.exit_table.specs.declared.fault.TableFault.{TableFault}
-use Rattle.exit_table.specs.declared.fault.TableFault.TheVariants.{Frames, Exits, NoMemory}
+use Rattle.exit_table.specs.declared.fault.TableFault.TheVariants.{NoMemory}
 use Rattle.exit_table.specs.Read.{code_of, byte_of}
 
 -- the number and the byte of the fault, or want of memory

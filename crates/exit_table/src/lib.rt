@@ -15,7 +15,7 @@ mod taken;
 pub use exits::write_exits;
 pub use fault::TableFault;
 pub use frames::write_frames;
-pub use laws::no_fault_before;
+pub use laws::{first_fault_stays, no_fault_before};
 pub use reader::read;
 pub use tables::{FrameRow, FrameRows, SiteRow, SiteRows, Tables};
 

@@ -58,6 +58,35 @@ const EXIT_DAMAGES: [(usize, u8, u8, u32); 13] = [
     (80, 10, 4, 80),
 ];
 
+/// Two procedures of 16 bytes.
+const TWO: [Range; 2] = [Range { first: 0, len: 16 }, Range { first: 16, len: 16 }];
+
+/// A frame of 64 bytes with x19 at 8, and one of 32 bytes with a slot of 16 bytes at 16.
+static TWO_FRAMES: [u8; 64] = [
+    66, 51, 70, 82, 1, 0, 0, 0, 2, 0, 0, 0, 0, 0, 0, 0, // mark, version, two frames
+    64, 0, 0, 0, 0, 0, 0, 0, 1, 0, 0, 0, 64, 0, 0, 0, // bytes, slots, saved, returns
+    19, 0, 0, 0, 8, 0, 0, 0, 32, 0, 0, 0, 1, 0, 0, 0, // x19; bytes, slots
+    0, 0, 0, 0, 0, 0, 0, 0, 16, 0, 0, 0, 16, 0, 0, 0, // saved, returns; the slot
+];
+
+/// A patchpoint of two words at 8 that reports a word at 48, and an exit at 24 that reports x3.
+static TWO_EXITS: [u8; 112] = [
+    66, 51, 69, 88, 1, 0, 0, 0, 2, 0, 0, 0, 0, 0, 0, 0, // mark, version, two sites
+    8, 0, 0, 0, 2, 0, 0, 0, 7, 0, 0, 0, 2, 0, 0, 0, // pc, kind, value, size
+    1, 0, 0, 0, 0, 0, 0, 0, 0, 0, 0, 0, 0, 0, 0, 0, // places, result, clobbers
+    2, 0, 0, 0, 64, 0, 0, 0, 48, 0, 0, 0, 0, 0, 0, 0, // at 48
+    24, 0, 0, 0, 3, 0, 0, 0, 9, 0, 0, 0, 1, 0, 0, 0, // pc, kind, value, size
+    1, 0, 0, 0, 0, 0, 0, 0, 0, 0, 0, 0, 0, 0, 0, 0, // places, result, clobbers
+    1, 0, 0, 0, 64, 0, 0, 0, 3, 0, 0, 0, 0, 0, 0, 0, // x3
+];
+
+/// Damages of the exit section of two procedures.
+const TWO_DAMAGES: [(usize, u8, u8, u32); 3] = [
+    (28, 3, 4, 28), // into the next procedure
+    (16, 12, 4, 28), // the same, from a later place
+    (64, 8, 5, 64), // before the end of the patchpoint
+];
+
 /// The fault of the two sections.
 fn fault_of(rt: HostRuntime, frames: &[u8], exits: &[u8]) -> Option<TableFault> {
     read(rt.alloc(), &PROCEDURES, frames, exits).err()
@@ -91,4 +120,23 @@ fn first_faults(rt: HostRuntime) {
         let told = fault_of(rt, &FRAMES, &exits);
         assert!(rt; told == Some(TableFault::Exits { code, byte }));
     }
+}
+
+#[test]
+fn two_procedures(rt: HostRuntime) {
+    for (at, by, code, byte) in TWO_DAMAGES {
+        let mut exits = TWO_EXITS;
+        if at < 112 {
+            exits[at] = by;
+        }
+        let told = read(rt.alloc(), &TWO, &TWO_FRAMES, &exits).err();
+        assert!(rt; told == Some(TableFault::Exits { code, byte }));
+    }
+    assert!(rt; read(rt.alloc(), &TWO, &TWO_FRAMES, &TWO_EXITS).is_ok());
+    // A place of the second procedure is looked for in its own frame.
+    let mut exits = TWO_EXITS;
+    exits[96] = 2;
+    exits[104] = 48;
+    let told = read(rt.alloc(), &TWO, &TWO_FRAMES, &exits).err();
+    assert!(rt; told == Some(TableFault::Exits { code: 4, byte: 104 }));
 }

@@ -1,13 +1,12 @@
-use Rattle.std.proofs.Common.{◌≡◌, ◌∙◌, sym, ap, map, rules, arith, length, take, List, ◌++◌, ◌∷◌, [], ◌+◌, ℕ, ◌<◌, get_or, Bool, length-append}
+use Rattle.std.proofs.Common.{ap, arith, length, ◌+◌, ℕ, ◌<◌, get_or, Bool, length-append}
 use Rattle.std.proofs.lemmas.Result.{err_from_is_err_and}
-use Rattle.std.proofs.lemmas.List.{map_push, take_more, take_all}
+use Rattle.std.proofs.lemmas.List.{take_all}
 use Rattle.std.proofs.lemmas.List.Elements.{All-push}
 use Rattle.b3_base.specs.Fields.{fields}
 use Rattle.b3_base.specs.declared.range.Range.{Range}
 use Rattle.exit_table.specs.Good.{Span}
 use Rattle.exit_table.specs.FrameReading.{each_frame, after_frame}
-use Rattle.exit_table.specs.Rooms.{Room, room, rooms_of}
-use Rattle.exit_table.specs.Homes.{room_of, IsStacked}
+use Rattle.exit_table.specs.Homes.{IsStacked}
 use Rattle.exit_table.proofs.Loop.{goes_on, stops, is_done}
 use Rattle.exit_table.proofs.RoomLaws.{rooms_more}
 use Rattle.exit_table.proofs.frame_reader.frame_rows.Goals as goal

@@ -1,4 +1,4 @@
-use Rattle.std.proofs.Common.{◌≡◌, [], ◌-◌, map}
+use Rattle.std.proofs.Common.{◌≡◌, ◌-◌, map}
 use Rattle.b3_base.specs.Fields.{fields}
 use Rattle.exit_table.specs.Good.{saved_span}
 use Rattle.exit_table.specs.Reading.{rows}

@@ -1,4 +1,4 @@
-use Rattle.std.proofs.Common.{subst, sym, arith}
+use Rattle.std.proofs.Common.{subst, arith}
 use Rattle.exit_table.specs.Read.{Tells}
 use Rattle.exit_table.proofs.Spelled.{is_found, is_only}
 use Rattle.exit_table.proofs.reader.read.Goals as goal
