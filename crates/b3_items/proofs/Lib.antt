@@ -1,0 +1,5 @@
+pub mod NumberLemmas
+pub mod TableLemmas
+pub mod ItemLemmas
+pub mod ListLemmas
+pub mod Ranges

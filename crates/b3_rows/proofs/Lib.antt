@@ -1,0 +1,4 @@
+pub mod Examples
+pub mod ValueLemmas
+pub mod RowLemmas
+pub mod FitLemmas

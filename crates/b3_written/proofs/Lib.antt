@@ -1,0 +1,6 @@
+pub mod ListedLemmas
+pub mod WordLemmas
+pub mod RoundLemmas
+pub mod NameLemmas
+pub mod TargetLemmas
+pub mod RangeLemmas
