@@ -1,0 +1,11 @@
+pub mod Leading
+pub mod RowLaws
+pub mod EndingLines
+pub mod BadLines
+pub mod LastLemmas
+pub mod Reachable
+pub mod CountLemmas
+pub mod LimitLemmas
+pub mod Rising
+pub mod Telling
+pub mod Canonically

@@ -1,0 +1,17 @@
+//! Reads the text of a module, exactly: what is no text is refused with its bad line, and what passes a
+//! limit with the first line that does.
+#![tactic(auto)]
+
+mod adding;
+mod counting;
+mod fault;
+mod laws;
+mod place;
+mod reading;
+
+pub use fault::{LimitName, TextFault};
+pub use laws::rows_spell;
+pub use reading::read;
+
+#[cfg(test)]
+mod tests;
