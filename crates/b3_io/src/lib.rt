@@ -2,7 +2,11 @@
 //! with each failure counted.
 #![tactic(auto)]
 
+mod absent_source;
 mod fault_count;
+mod script;
+mod script_sink;
+mod script_source;
 mod sink;
 mod slice_source;
 mod source;
@@ -12,7 +16,11 @@ mod tests;
 mod transfer;
 mod vec_sink;
 
+pub use absent_source::AbsentSource;
 use fault_count::FaultCount;
+use script::Script;
+pub use script_sink::ScriptSink;
+pub use script_source::ScriptSource;
 pub use sink::Sink;
 pub use slice_source::SliceSource;
 pub use source::{Failed, Source};

@@ -1,61 +1,11 @@
 //! That whole streams succeed with ample memory and room, and that a failure at any call is told.
 
-ghost use Rattle.std.specs.Prelude.{None};
-
 use super::{
-    Failed, FaultCount, ReadAll, Sink, SliceSource, Source, StdSink, StdSource, VecSink,
-    WriteFault, read_all, write_all,
+    AbsentSource, Failed, ReadAll, ScriptSink, ScriptSource, Sink, SliceSource, Source, StdSink,
+    StdSource, VecSink, WriteFault, read_all, write_all,
 };
 use std::io;
 use std::test::Fail;
-
-/// How the calls of a stream in a test go: each moves at most `most` bytes, and call `fails_at`
-/// fails. Calls are counted from 1.
-#[derive(Drop)]
-struct Script {
-    most: usize,
-    fails_at: u64,
-    calls: u64,
-    faults: FaultCount,
-}
-
-impl Script {
-    fn new(most: usize, fails_at: u64) -> Script {
-        Script {
-            most,
-            fails_at,
-            calls: 0,
-            faults: FaultCount::new(),
-        }
-    }
-}
-
-#[derive(Drop)]
-struct ScriptedSource<'a> {
-    rest: &'a [u8],
-    script: Script,
-}
-
-impl<'a> Source for ScriptedSource<'a> {
-    ghost left = { λ _. None };
-
-    ghost faults = { λ s. s.script.faults.count };
-
-    ghost counted = { λ s. s.script.faults.counted };
-
-    fn read(&mut self, into: &mut [u8]) -> Result<usize, Failed> {
-        self.script.calls = self.script.calls.saturating_add(1);
-        if self.script.calls == self.script.fails_at {
-            self.script.faults.rise();
-            return Err(Failed);
-        }
-        let count = self.rest.len().min(into.len()).min(self.script.most);
-        let (given, rest) = self.rest.split_at(count);
-        into[..count].copy_from_slice(given);
-        self.rest = rest;
-        Ok(count)
-    }
-}
 
 #[test]
 fn reads_up_to_the_limit(rt: HostRuntime) -> Result<(), Fail> {
@@ -85,10 +35,7 @@ fn reads_up_to_the_limit(rt: HostRuntime) -> Result<(), Fail> {
 fn a_failed_read_is_told(rt: HostRuntime) -> Result<(), Fail> {
     // 12 bytes, 5 a call: three calls give bytes, and the fourth the end.
     for (fails_at, is_failed) in [(1, true), (2, true), (3, true), (4, true), (5, false)] {
-        let mut source = ScriptedSource {
-            rest: b"hello, world",
-            script: Script::new(5, fails_at),
-        };
+        let mut source = ScriptSource::new(rt.alloc(), b"hello, world", &[fails_at], 5)?;
         match read_all(rt.alloc(), &mut source, 12) {
             Ok(all) => {
                 assert!(rt; !is_failed);
@@ -99,7 +46,6 @@ fn a_failed_read_is_told(rt: HostRuntime) -> Result<(), Fail> {
                 assert_eq!(rt; error, ReadAll::Fault);
             }
         }
-        assert_eq!(rt; source.script.faults.count, if is_failed { 1 } else { 0 });
     }
     Ok(())
 }
@@ -112,6 +58,38 @@ fn a_vec_sink_takes_what_it_has_room_for(rt: HostRuntime) -> Result<(), Fail> {
     assert_eq!(rt; write_all(&mut sink, b"ab"), Ok(()));
     assert_eq!(rt; write_all(&mut sink, b""), Ok(()));
     assert_eq!(rt; sink.bytes(), b"helloab".as_slice());
+    Ok(())
+}
+
+#[test]
+fn a_script_says_what_fails(rt: HostRuntime) -> Result<(), Fail> {
+    let mut source = ScriptSource::new(rt.alloc(), b"hello", &[2, 4], 3)?;
+    let mut into = [0; 8];
+    for wanted in [Ok(3), Err(Failed), Ok(2), Err(Failed), Ok(0)] {
+        assert_eq!(rt; source.read(&mut into), wanted);
+    }
+    // 12 bytes, 5 a call: the front was taken before the failure.
+    for (fails_at, taken) in [(1, 0), (2, 5), (3, 10), (4, 12)] {
+        let mut sink = ScriptSink::new(rt.alloc(), &[fails_at], 5, 12)?;
+        let wanted = if taken < 12 { Err(WriteFault) } else { Ok(()) };
+        assert_eq!(rt; write_all(&mut sink, b"hello, world"), wanted);
+        assert_eq!(rt; sink.bytes().len(), taken);
+    }
+    let mut narrow = ScriptSink::new(rt.alloc(), &[], 3, 4)?;
+    assert_eq!(rt; narrow.write(b"hello"), Ok(3));
+    assert_eq!(rt; narrow.write(b"lo"), Err(Failed));
+    assert_eq!(rt; narrow.bytes(), b"hel".as_slice());
+    Ok(())
+}
+
+#[test]
+fn an_absent_source_gives_nothing(rt: HostRuntime) -> Result<(), Fail> {
+    let mut source = AbsentSource::new();
+    assert_eq!(rt; source.read(&mut [0; 4]), Err(Failed));
+    match read_all(rt.alloc(), &mut source, 10) {
+        Ok(_) => assert!(rt; false),
+        Err(error) => assert_eq!(rt; error, ReadAll::Fault),
+    }
     Ok(())
 }
 
