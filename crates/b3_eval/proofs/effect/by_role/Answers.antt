@@ -29,4 +29,4 @@ returns-in-Pure c =
     shows_same _ _ _ _
     (ap (λ (role : Role). effect_by role (start_of c.args.start.now) (state_of rest c.args.st.now) c.args.v.now c.args.types.now c.args.words.now)
     c.in-Pure.is)
-    (c.give-in-Pure.ensures rest (result c.args.v.now.kind.opcode c.args.v.now.kind.chill c.args.v.now.ty c.args.words.now c.args.types.now) c.fold.ensures)
+    (c.give-in-Pure.ensures rest (result c.args.v.now.kind.opcode c.args.v.now.kind.chill c.args.v.now.ty c.args.words.now c.args.types.now) c.fold.ensures.word)
