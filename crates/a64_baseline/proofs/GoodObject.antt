@@ -11,7 +11,7 @@ use Rattle.b3_ir.specs.Names.{IsName}
 use Rattle.b3_ir.specs.Procedure.{Procedure, values_by_block}
 use Rattle.b3_meaning.specs.Keeps.{Keeps}
 use Rattle.b3_meaning.proofs.Keeping.{keeps_itself}
-use Rattle.b3_supported.specs.Supported.{IsSupported}
+use Rattle.b3_supported.specs.Supported.{AreSupported, IsSupported}
 use Rattle.exit_table.specs.Good.{IsGoodFrame}
 use Rattle.exit_table.specs.declared.tables.FrameRow.{FrameRow}
 use Rattle.exit_table.specs.declared.tables.SiteRow.{SiteRow}
@@ -22,7 +22,7 @@ use Rattle.a64_word.specs.Word.{word}
 use Rattle.a64_run.specs.Agrees.{Agrees}
 use Rattle.a64_run.specs.CodeOf.{IsCodeOf, IsCodeOfOne}
 use Rattle.a64_baseline.specs.Code.{places_of, entry_code, begins_of, blocks_code, code_of}
-use Rattle.a64_baseline.specs.Object.{AreSupported, frame_of, object_of, symbol_at, symbols_from, words_of}
+use Rattle.a64_baseline.specs.Object.{frame_of, object_of, symbol_at, symbols_from, words_of}
 use Rattle.a64_baseline.proofs.Agreement.{agrees}
 use Rattle.a64_baseline.proofs.CodeLists.{few_places}
 use Rattle.a64_baseline.proofs.Joined.{StandsInText, each_stands}

@@ -9,9 +9,9 @@ use Rattle.std.specs.List.{flat_map}
 use Rattle.std.proofs.lemmas.List.{append-nil, map-append}
 use Rattle.std.proofs.lemmas.List.Concat.{flat_map-cons}
 use Rattle.std.proofs.lemmas.Grind.{flat_map-append}
-use Rattle.b3_ir.specs.Procedure.{Kept, Procedure}
+use Rattle.b3_ir.specs.Procedure.{Kept, Procedure, procedures}
 use Rattle.elf_obj.specs.declared.object.Symbol.{Symbol}
-use Rattle.a64_baseline.specs.Object.{frame_of, object_of, procedures_of, symbol_at, symbols_from, with_procedure, words_of}
+use Rattle.a64_baseline.specs.Object.{frame_of, object_of, symbol_at, symbols_from, with_procedure, words_of}
 use Rattle.a64_baseline.proofs.Begins.{get_front, get_behind}
 
 -- the code of procedure k stands in a text that has `first` words before those of ps, where its symbol says
@@ -82,7 +82,7 @@ object_more ps p =
 
 -- ---- the procedures of a module
 
-pub its_procedure : (ms : List Kept) (at : ℕ) (k : Kept) → slice_get ms at ≡ Some k → slice_get (procedures_of ms) at ≡ Some k.procedure
+pub its_procedure : (ms : List Kept) (at : ℕ) (k : Kept) → slice_get ms at ≡ Some k → slice_get (procedures ms) at ≡ Some k.procedure
 its_procedure ms at k there = slice_get-map (λ (m : Kept). m.procedure) ms at ∙ ap (option_map (λ (m : Kept). m.procedure)) there
 
 take_more : {X : Type 0} (xs : List X) (at : ℕ) (x : X) → slice_get xs at ≡ Some x → take (at + 1) xs ≡ take at xs ++ x ∷ []
@@ -92,10 +92,10 @@ take_more xs at x there =
     next : (n : ℕ) → n + 1 ≡ suc n
     next n = omega arith
 
-pub module_more : (ms : List Kept) (at : ℕ) (k : Kept) → slice_get ms at ≡ Some k → with_procedure (object_of (take at (procedures_of ms))) k.procedure ≡ object_of (take (at + 1) (procedures_of ms))
+pub module_more : (ms : List Kept) (at : ℕ) (k : Kept) → slice_get ms at ≡ Some k → with_procedure (object_of (take at (procedures ms))) k.procedure ≡ object_of (take (at + 1) (procedures ms))
 module_more ms at k there =
-    object_more (take at (procedures_of ms)) k.procedure
-    ∙ ap object_of (sym (take_more (procedures_of ms) at k.procedure (its_procedure ms at k there)))
+    object_more (take at (procedures ms)) k.procedure
+    ∙ ap object_of (sym (take_more (procedures ms) at k.procedure (its_procedure ms at k there)))
 
 pub text_so_far : (ps : List Procedure) (at : ℕ) (p : Procedure) → slice_get ps at ≡ Some p → length (flat_map words_of (take at ps)) ≤ length (flat_map words_of ps)
 text_so_far ps at p there = omega (arith, length-flat_map-take words_of ps at p (slice_get_within ps at p there))

@@ -1,11 +1,10 @@
 -- The object of procedures with their baseline code.
-use Rattle.std.specs.Prelude.{◌≢◌, ℕ, ◌+◌, ◌*◌, ◌≤◌, Bool, true, false, if◌then◌else◌, List, [], ◌∷◌, ◌++◌, length, map, All, AllPairs}
+use Rattle.std.specs.Prelude.{ℕ, ◌+◌, ◌*◌, Bool, true, false, if◌then◌else◌, List, [], ◌∷◌, ◌++◌, length, map}
 use Rattle.std.specs.List.{flat_map, list_any}
-use Rattle.b3_ir.specs.Procedure.{Kept, Procedure, values_by_block}
+use Rattle.b3_ir.specs.Procedure.{Procedure, values_by_block}
 use Rattle.b3_ir.specs.declared.opcode.Opcode.{Opcode}
 use Rattle.b3_ir.specs.declared.opcode.Opcode.TheVariants.{Return}
 use Rattle.b3_ir.specs.declared.value.Value.{Value}
-use Rattle.b3_supported.specs.Supported.{IsSupported}
 use Rattle.stackmap.specs.declared.site.Returns.{Returns}
 use Rattle.stackmap.specs.declared.site.Returns.TheVariants.{Nothing, W64}
 use Rattle.exit_table.specs.declared.tables.FrameRow.{FrameRow}
@@ -54,13 +53,3 @@ with_procedure o p = record {
   symbols = o.symbols ++ symbol_at (4 * length o.text) p ∷ [];
   tables = record o.tables { frames = o.tables.frames ++ frame_of p ∷ [] };
 }
-
--- the procedures of a module
-abbrev pub procedures_of : List Kept → List Procedure
-procedures_of module_ = map (λ (k : Kept). k.procedure) module_
-
--- procedures that one object may hold: at most 256, each supported, and each with a name of its own
-pub record AreSupported (ps : List Procedure) : Type 0 where
-  pub few : length ps ≤ 256
-  pub each : All IsSupported ps
-  pub distinct : AllPairs (λ a b. a ≢ b) (map (λ (p : Procedure). p.name) ps)

@@ -3,11 +3,11 @@
 ghost use Rattle.std.specs.Prelude.{◌≡◌, ◌+◌, ◌*◌, ◌<◌, ◌≤◌, ◌^◌, ◌∷◌, [], ◌++◌, if◌then◌else◌, length, map, All, IfOk, OnOk};
 ghost use Rattle.a64_inst.specs.WellFormed.{IsWellFormed};
 ghost use Rattle.a64_word.specs.Word.{word};
-ghost use Rattle.b3_supported.specs.Supported.{IsSupported};
+ghost use Rattle.b3_ir.specs.Procedure.{procedures};
+ghost use Rattle.b3_supported.specs.Supported.{AreSupported, IsSupported};
 ghost use Rattle.a64_run.specs.CodeOf.{IsCodeOf};
 ghost use Rattle.elf_obj.specs.Size.{size_bound};
-ghost use Rattle.a64_baseline.specs.Code.{places_of};
-ghost use Rattle.a64_baseline.specs.Object.{AreSupported, frame_of, has_return, object_of, procedures_of, symbol_at, with_procedure, words_of};
+ghost use Rattle.a64_baseline.specs.Object.{object_of, with_procedure};
 
 use crate::code::laid_code;
 use crate::layout::{Layout, lay_out};
@@ -22,18 +22,18 @@ use std::alloc::Global;
 
 /// The object of a module's procedures with their baseline code, one after the other; its file has at
 /// most 134,217,728 bytes. It is refused for want of memory alone.
-pub fn module_object(alloc: Global, procedures: &Module) -> Result<Object, NoMemory>
-    requires { AreSupported (procedures_of procedures.now) }
-    ensures code { IfOk result (IsCodeOf (procedures_of procedures.now) (procedures_of procedures.now)) }
+pub fn module_object(alloc: Global, module_: &Module) -> Result<Object, NoMemory>
+    requires { AreSupported (procedures module_.now) }
+    ensures code { IfOk result (IsCodeOf (procedures module_.now) (procedures module_.now)) }
     ensures small { IfOk result (λ o. size_bound o ≤ 134217728) }
 {
-    joined_object(alloc, procedures)
+    joined_object(alloc, module_)
 }
 
 /// The same, as the one object that is meant.
-fn joined_object(alloc: Global, procedures: &Module) -> Result<Object, NoMemory>
-    requires { AreSupported (procedures_of procedures.now) }
-    ensures object { IfOk result (λ o. o ≡ object_of (procedures_of procedures.now)) }
+fn joined_object(alloc: Global, module_: &Module) -> Result<Object, NoMemory>
+    requires { AreSupported (procedures module_.now) }
+    ensures object { IfOk result (λ o. o ≡ object_of (procedures module_.now)) }
     ensures narrow { IfOk result (λ o. All (λ word. word < 2 ^ 32) o.text) }
 {
     let mut object = Object {
@@ -44,8 +44,8 @@ fn joined_object(alloc: Global, procedures: &Module) -> Result<Object, NoMemory>
             sites: SiteRows::new(alloc),
         },
     };
-    for at in 0..procedures.procs() {
-        push_procedure(alloc, &mut object, procedures.proc(at))?;
+    for at in 0..module_.procs() {
+        push_procedure(alloc, &mut object, module_.proc(at))?;
     }
     object.text.ranged();
     Ok(object)

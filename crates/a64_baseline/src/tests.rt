@@ -1,10 +1,9 @@
 //! That the code and the object of two small procedures are made with ample memory.
 
 ghost use Rattle.std.specs.Prelude.{◌≡◌, length, IfOk, OnOk};
-ghost use Rattle.b3_ir.specs.Procedure.{empty_procedure};
-ghost use Rattle.a64_baseline.specs.Object.{AreSupported, procedures_of};
+ghost use Rattle.b3_ir.specs.Procedure.{empty_procedure, procedures};
 ghost use Rattle.b3_ir.specs.Names.{IsName};
-ghost use Rattle.b3_supported.specs.Supported.{IsSupported};
+ghost use Rattle.b3_supported.specs.Supported.{AreSupported, IsSupported};
 
 use crate::{module_object, procedure_code};
 use b3_base::NoMemory;
@@ -48,7 +47,7 @@ fn fill(alloc: Global, p: &mut Proc) -> Result<(), NoMemory>
 
 /// Two procedures that return 7.
 fn two_procedures(alloc: Global) -> Result<Module, NoMemory>
-    ensures supported { IfOk result (λ m. AreSupported (procedures_of m)) }
+    ensures supported { IfOk result (λ m. AreSupported (procedures m)) }
     ensures count { IfOk result (λ m. length m ≡ 2) }
 {
     let mut both = Module::new(alloc);

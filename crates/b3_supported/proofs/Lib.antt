@@ -1,7 +1,12 @@
 pub mod Below
 pub mod Walk
+pub mod Walks
 pub mod Entries
 pub mod Children
 pub mod Loops
 pub mod Keeping
-pub mod Drafts
+pub mod Names
+pub mod Modules
+pub mod Forms
+pub mod Shaping
+pub mod Refusals

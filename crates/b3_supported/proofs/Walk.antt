@@ -8,7 +8,7 @@ use Rattle.b3_ir.specs.Procedure.{IsAt, IsIn, Kept, Procedure, StandsAt, nodes_o
 use Rattle.b3_ir.specs.Shape.{IsShaped, first_id}
 use Rattle.b3_ir.proofs.Numbering.{id_at, id_below, next_first}
 use Rattle.b3_supported.specs.Supported.{IsSupported, KeepsRules}
-use Rattle.b3_supported.specs.Faults.{IsFaultLine}
+use Rattle.b3_supported.specs.Faults.{IsRuleFault}
 use Rattle.b3_supported.specs.Table.{AllBelow}
 
 -- what is known of the values before a node of a block, or of all up to the block's end: Q, at the number of these
@@ -82,7 +82,7 @@ seen_all p block Q at none h =
     h.seen (first_id (values_by_block p.procedure) (block + 1)) (omega arith)
 
 -- the first value that breaks a rule names its line
-pub fault_here : (p : Procedure) (b j : ℕ) (v : Value) → AllBelow p v.id (KeepsRules p) → StandsAt p b j v → ¬ (KeepsRules p b j v) → IsFaultLine p v.line
+pub fault_here : (p : Procedure) (b j : ℕ) (v : Value) → AllBelow p v.id (KeepsRules p) → StandsAt p b j v → ¬ (KeepsRules p b j v) → IsRuleFault p v.line
 fault_here p b j v below there breaks = record {
   block = b;
   place = j;

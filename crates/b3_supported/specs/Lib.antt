@@ -1,3 +1,4 @@
 pub mod Supported
+pub mod Shapes
 pub mod Faults
 pub mod Table

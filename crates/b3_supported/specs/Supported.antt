@@ -1,5 +1,5 @@
 -- The procedures that are supported: the shape of Shape, and what a value may name.
-use Rattle.std.specs.Prelude.{◌≡◌, ◌≢◌, ℕ, ◌<◌, ◌⊎◌, All, length}
+use Rattle.std.specs.Prelude.{◌≡◌, ◌≢◌, ℕ, ◌<◌, ◌≤◌, ◌⊎◌, List, All, AllPairs, length, map}
 use Rattle.b3_ir.specs.declared.opcode.Opcode.TheVariants.{ArgumentReg, Phi}
 use Rattle.b3_ir.specs.declared.opcode.Ty.TheVariants.{Int64}
 use Rattle.b3_ir.specs.declared.value.Body.{Body}
@@ -42,3 +42,13 @@ pub record KeepsRules (p : Procedure) (b j : ℕ) (v : Value) : Type 0 where
 pub record IsSupported (p : Procedure) : Type 0 where
   pub shape : IsShaped p
   pub rules : (b j : ℕ) (v : Value) → StandsAt p b j v → KeepsRules p b j v
+
+-- the names of procedures
+abbrev pub names_of : List Procedure → List (List ℕ)
+names_of ps = map (λ (p : Procedure). p.name) ps
+
+-- procedures that one object may hold: at most 256, each supported, and each with a name of its own
+pub record AreSupported (ps : List Procedure) : Type 0 where
+  pub few : length ps ≤ 256
+  pub each : All IsSupported ps
+  pub distinct : AllPairs (λ a b. a ≢ b) (names_of ps)

@@ -1,9 +1,10 @@
-//! Which procedures are supported, beyond the shape of their text: what each value may name, and the
-//! numbers of values and of blocks.
+//! Which procedures are supported: their shape, what each value may name, and the numbers of values and
+//! of blocks.
 #![tactic(auto)]
 
 mod faults;
 mod rules;
+mod shape;
 mod table;
 #[cfg(test)]
 mod tests;

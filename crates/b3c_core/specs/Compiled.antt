@@ -1,16 +1,19 @@
--- What compile promises of its answer, and what the tool promises of its ends.
-use Rattle.std.specs.Prelude.{◌≡◌, ℕ, ◌<◌, ◌≤◌, ◌⊎◌, List, [], ◌∷◌, length, take, Option, Some, IfSome}
+-- What the commands promise of their answers for a text, and when they refuse one.
+use Rattle.std.specs.Prelude.{◌≡◌, ℕ, ◌<◌, ◌≤◌, List, [], length, take, Option, Some, IfSome}
 use Rattle.std.specs.Io.KnownBytes.{Appends}
 use Rattle.b3_io.specs.Faults.{Rose}
 use Rattle.b3_ir.specs.Procedure.{Procedure}
-use Rattle.b3_supported.specs.Supported.{IsSupported}
+use Rattle.b3_module.specs.Limits.{IsFirstLimit, KeepsLimits}
+use Rattle.b3_module.specs.Texts.{BadLine, Spells}
+use Rattle.b3_module.specs.declared.fault.LimitName.{LimitName}
+use Rattle.b3_print.specs.Printed.{canonical}
 use Rattle.b3_supported.specs.Faults.{IsFaultLine}
-use Rattle.b3_text.specs.Texts.{Spells, BadLine}
+use Rattle.b3_supported.specs.Supported.{AreSupported}
 use Rattle.elf_obj.specs.declared.object.Object.{Object}
 use Rattle.elf_obj.specs.Elf.{Holds}
 use Rattle.a64_run.specs.CodeOf.{IsCodeOf}
 use Rattle.b3c_core.specs.declared.compiler.Fault.{Fault}
-use Rattle.b3c_core.specs.declared.compiler.Fault.TheVariants.{NotBuilt, NoMemory}
+use Rattle.b3c_core.specs.declared.compiler.Fault.TheVariants.{Syntax, Limit, NotBuilt, NoMemory}
 
 -- the bytes of a file hold one object, which is the code of some procedures: the code and the frame of
 -- each agree with it, so from each machine start that may begin it the machine shows the same as the run
@@ -22,27 +25,54 @@ pub record IsFileOf (procedures : List Procedure) (file : List ℕ) : Type 0 whe
   pub small : length file ≤ 134_217_728
   pub code : IsCodeOf procedures reduced object
 
--- a text spells a procedure that is built, and this is the file of its object
+-- a text spells procedures within the limits
+pub record IsTextOf (text : List ℕ) (procedures : List Procedure) : Type 0 where
+  pub spells : Spells text procedures
+  pub within : KeepsLimits procedures
+
+-- a text spells procedures that are supported, and this is the file of their object
 pub record IsCompiled (text file : List ℕ) : Type 0 where
-  pub procedure : Procedure
-  pub spells : Spells text procedure
-  pub built : IsSupported procedure
-  pub file_of : IsFileOf (procedure ∷ []) file
+  pub procedures : List Procedure
+  pub text_of : IsTextOf text procedures
+  pub supported : AreSupported procedures
+  pub file_of : IsFileOf procedures file
 
--- the line at which a text is refused: its bad line where it spells no procedure, and else that of
--- the first value that breaks a rule
-abbrev pub IsRefusalLine : List ℕ → ℕ → Type 0
-IsRefusalLine text line = BadLine text line ⊎ ((p : Procedure) × Spells text p × IsFaultLine p line)
+-- a text spells procedures, and this is their canonical text
+pub record IsPrinted (text output : List ℕ) : Type 0 where
+  pub procedures : List Procedure
+  pub text_of : IsTextOf text procedures
+  pub is : output ≡ canonical procedures
 
--- the text spells no procedure that is built, and this line is where it is refused
-pub record IsRefused (text : List ℕ) (line : ℕ) : Type 0 where
-  pub at_line : IsRefusalLine text line
-  pub no_text : (p : Procedure) → Spells text p → IsSupported p → ⊥
+-- the bytes are no text, and this is their bad line
+pub record IsNoText (text : List ℕ) (line : ℕ) : Type 0 where
+  pub bad : BadLine text line
+  pub none : (procedures : List Procedure) → IsTextOf text procedures → ⊥
 
--- why a text was not compiled: it is refused at a line, or want of memory
+-- the bytes are a text that passes this limit first, on this line
+pub record IsPastLimit (text : List ℕ) (which : LimitName) (line : ℕ) : Type 0 where
+  pub procedures : List Procedure
+  pub spells : Spells text procedures
+  pub first : IsFirstLimit procedures which line
+  pub none : (others : List Procedure) → IsTextOf text others → ⊥
+
+-- the bytes are a text of procedures that aren't all supported, and this is the line of their first fault
+pub record IsNotBuilt (text : List ℕ) (line : ℕ) : Type 0 where
+  pub procedures : List Procedure
+  pub text_of : IsTextOf text procedures
+  pub fault : IsFaultLine procedures line
+  pub none : (others : List Procedure) → IsTextOf text others → AreSupported others → ⊥
+
+-- why a text was not read: it is none, it passes a limit, or want of memory
+abbrev pub IsTextCause : List ℕ → Fault → Type 0
+IsTextCause text (Syntax line) = IsNoText text line
+IsTextCause text (Limit which line) = IsPastLimit text which line
+IsTextCause text (NotBuilt line) = ⊥
+IsTextCause text NoMemory = Unit {0}
+
+-- why a text was not compiled
 abbrev pub IsCause : List ℕ → Fault → Type 0
-IsCause text (NotBuilt line) = IsRefused text line
-IsCause text NoMemory = Unit {0}
+IsCause text (NotBuilt line) = IsNotBuilt text line
+IsCause text fault = IsTextCause text fault
 
 -- a source was read to its end and gave these bytes, where it tells its bytes
 pub record ReadsWhole (left left' : Option (List ℕ)) (text : List ℕ) : Type 0 where

@@ -1,21 +1,27 @@
-//! From the bytes of a text to the bytes of an object.
+//! From the bytes of a text to the bytes of an object, and to its canonical text.
 
-ghost use Rattle.std.specs.Prelude.{◌-◌, ◌^◌, ◌<◌, [], ◌∷◌, length, IfOk, IfErr};
-ghost use Rattle.a64_baseline.specs.Object.{AreSupported, procedures_of};
-ghost use Rattle.b3c_core.specs.Compiled.{IsCause, IsCompiled, IsFileOf};
+ghost use Rattle.std.specs.Prelude.{◌≡◌, ◌-◌, ◌^◌, ◌<◌, length, IfOk, IfErr};
+ghost use Rattle.b3_ir.specs.Procedure.{procedures};
+ghost use Rattle.b3_supported.specs.Supported.{AreSupported};
+ghost use Rattle.b3c_core.specs.Compiled.{IsCause, IsCompiled, IsFileOf, IsPrinted, IsTextCause, IsTextOf};
 
 use a64_baseline::module_object;
 use b3_base::{Bytes, NoMemory};
 use b3_ir::Module;
+use b3_module::{LimitName, TextFault};
 use b3_supported::fault_line;
-use b3_text::TextFault;
 use std::alloc::Global;
 
-/// Why a text is not compiled.
+/// Why a text is refused. Lines are counted from 1.
 #[derive(Clone, Copy, Debug, PartialEq, Eq)]
 pub enum Fault {
-    /// The bytes are no text of a procedure that is built; `line`, counted from 1, is their bad
-    /// line, or that of the first value that breaks a rule.
+    /// The bytes are no text of a module; `line` is their bad line.
+    Syntax { line: u32 },
+    /// The bytes are a text that passes a limit; `line` is the first line that passes one.
+    Limit { which: LimitName, line: u32 },
+    /// The bytes are a text of procedures that aren't all supported; `line` is that of the first header,
+    /// slot, heading or value of another form or, where there is none, of the first value that breaks a
+    /// rule.
     NotBuilt { line: u32 },
     /// Want of memory.
     NoMemory,
@@ -32,29 +38,56 @@ impl From<NoMemory> for Fault {
     }
 }
 
-/// The bytes of the object of the text. It is refused where the bytes are no text of a procedure
-/// that is built, and for want of memory.
+/// The bytes of the object of the text. It is refused where the bytes are no text of procedures that are
+/// supported, and for want of memory.
 pub fn compile(alloc: Global, bytes: &[u8]) -> Result<Bytes, Fault>
     requires { length bytes.now < 2 ^ 32 - 1 }
     ensures object { IfOk result (IsCompiled bytes.now) }
     ensures cause { IfErr result (IsCause bytes.now) }
 {
-    let module = match b3_text::read(alloc, bytes) {
+    let module = match read(alloc, bytes) {
         Ok(module) => module,
-        Err(TextFault::NotBuilt { line }) => return Err(Fault::NotBuilt { line }),
-        Err(TextFault::NoMemory) => return Err(Fault::NoMemory),
+        Err(fault) => return Err(fault),
     };
-    if let Some(line) = fault_line(alloc, module.proc(0))? {
+    if let Some(line) = fault_line(alloc, &module)? {
         return Err(Fault::NotBuilt { line });
     }
     Ok(module_file(alloc, &module)?)
 }
 
-/// The file of the object of a module. It is refused for want of memory alone.
-fn module_file(alloc: Global, procedures: &Module) -> Result<Bytes, NoMemory>
-    requires { AreSupported (procedures_of procedures.now) }
-    ensures { IfOk result (IsFileOf (procedures_of procedures.now)) }
+/// The canonical text of the text. It is refused where the bytes are no text within the limits, and for want
+/// of memory.
+pub fn print(alloc: Global, bytes: &[u8]) -> Result<Bytes, Fault>
+    requires { length bytes.now < 2 ^ 32 - 1 }
+    ensures text { IfOk result (IsPrinted bytes.now) }
+    ensures cause { IfErr result (IsTextCause bytes.now) }
 {
-    let object = module_object(alloc, procedures)?;
+    let module = match read(alloc, bytes) {
+        Ok(module) => module,
+        Err(fault) => return Err(fault),
+    };
+    Ok(b3_print::print(alloc, &module)?)
+}
+
+/// The module that the bytes spell.
+fn read(alloc: Global, bytes: &[u8]) -> Result<Module, Fault>
+    requires { length bytes.now < 2 ^ 32 - 1 }
+    ensures text { IfOk result (λ made. IsTextOf bytes.now (procedures made)) }
+    ensures cause { IfErr result (IsTextCause bytes.now) }
+{
+    match b3_module::read(alloc, bytes) {
+        Ok(module) => Ok(module),
+        Err(TextFault::Syntax { line }) => Err(Fault::Syntax { line }),
+        Err(TextFault::Limit { which, line }) => Err(Fault::Limit { which, line }),
+        Err(TextFault::NoMemory) => Err(Fault::NoMemory),
+    }
+}
+
+/// The file of the object of a module. It is refused for want of memory alone.
+fn module_file(alloc: Global, module_: &Module) -> Result<Bytes, NoMemory>
+    requires { AreSupported (procedures module_.now) }
+    ensures { IfOk result (IsFileOf (procedures module_.now)) }
+{
+    let object = module_object(alloc, module_)?;
     elf_obj::write(alloc, &object)
 }

@@ -1,11 +1,11 @@
 //! How a call of the tool ends: its status, and its line on the error stream.
 
-ghost use Rattle.std.specs.Prelude.{◌≡◌, ◌++◌, ◌+◌, ◌≤◌, length, take, codes};
-ghost use Rattle.std.specs.Fmt.{decimal};
-ghost use Rattle.b3c_core.specs.Tool.{status_of, line_of, TakesLine};
+ghost use Rattle.std.specs.Prelude.{◌≡◌, ◌++◌, ◌+◌, ◌≤◌, length, take};
+ghost use Rattle.b3c_core.specs.Tool.{TakesLine, at_line, limit_name, line_of, status_of};
 
 use b3_base::NoMemory;
 use b3_io::{Sink, WriteFault, write_all};
+use b3_module::LimitName;
 use itoa::Buffer;
 
 /// How a call of the tool ends.
@@ -21,6 +21,10 @@ pub enum Ending {
     WriteFault,
     /// The input has more bytes than a text may have.
     TooLong,
+    /// The input is no text; this is its bad line.
+    Syntax { line: u32 },
+    /// The text passes a limit, first on this line.
+    Limit { which: LimitName, line: u32 },
     /// A form of the text, on this line, is not built yet.
     NotBuilt { line: u32 },
     /// Want of memory.
@@ -48,7 +52,8 @@ impl Ending {
             Ending::Usage => 2,
             Ending::ReadFault => 3,
             Ending::WriteFault => 4,
-            Ending::TooLong => 7,
+            Ending::Syntax { .. } => 5,
+            Ending::TooLong | Ending::Limit { .. } => 7,
             Ending::NoMemory => 9,
             Ending::NotBuilt { .. } => 10,
         }
@@ -65,7 +70,9 @@ impl Ending {
             Ending::WriteFault => write_line(err, b"b3c: write fault\n"),
             Ending::TooLong => write_line(err, b"b3c: input: limit bytes\n"),
             Ending::NoMemory => write_line(err, b"b3c: out of memory\n"),
-            Ending::NotBuilt { line } => report_line(err, line),
+            Ending::Syntax { line } => report_line(err, line, b"syntax", b""),
+            Ending::Limit { which, line } => report_line(err, line, b"limit ", limit_name(which)),
+            Ending::NotBuilt { line } => report_line(err, line, b"not built", b""),
         }
     }
 }
@@ -80,16 +87,38 @@ fn write_line<E: Sink>(err: &mut E, line: &[u8])
     }
 }
 
-/// Writes the line that names a line of the text.
-fn report_line<E: Sink>(err: &mut E, line: u32)
-    ensures { TakesLine (codes "b3c: line " ++ decimal line ++ codes ": not built\n") (E.held err.old) (E.held err.new) (E.faults err.old) (E.faults err.new) }
+/// What is limited, in words.
+fn limit_name(which: LimitName) -> &'static [u8]
+    ensures name { result.now ≡ limit_name which }
+    ensures short { length result.now ≤ 18 }
+{
+    match which {
+        LimitName::Procedures => b"procedures",
+        LimitName::Values => b"values",
+        LimitName::Children => b"children",
+        LimitName::ProcedureValues => b"procedure values",
+        LimitName::ProcedureBlocks => b"procedure blocks",
+        LimitName::ProcedureChildren => b"procedure children",
+        LimitName::Slots => b"slots",
+        LimitName::SlotBytes => b"slot bytes",
+    }
+}
+
+/// Writes the line that names a line of the text, and says two pieces of it.
+fn report_line<E: Sink>(err: &mut E, line: u32, what: &[u8], more: &[u8])
+    requires what { length what.now ≤ 18 }
+    requires more { length more.now ≤ 18 }
+    ensures { TakesLine (at_line line (what.now ++ more.now)) (E.held err.old) (E.held err.new) (E.faults err.old) (E.faults err.new) }
 {
     let mut buffer = Buffer::new();
     let digits = buffer.format(line).as_bytes();
-    let mut text = [0; 40];
+    let mut text = [0; 80];
     let end = put(&mut text, 0, b"b3c: line ");
     let end = put(&mut text, end, digits);
-    let end = put(&mut text, end, b": not built\n");
+    let end = put(&mut text, end, b": ");
+    let end = put(&mut text, end, what);
+    let end = put(&mut text, end, more);
+    let end = put(&mut text, end, b"\n");
     write_line(err, &text[..end]);
 }
 

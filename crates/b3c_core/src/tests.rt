@@ -53,22 +53,40 @@ fn an_object_is_written(rt: HostRuntime) -> Result<(), Fail> {
     Ok(())
 }
 
+/// A text of two procedures with what canonical text leaves out.
+const TWO: &str =
+    "; two\nprocedure f\nBB#0:\n  Int64 @0 = ArgumentReg(%x1) // y\n\tVoid b@01 = Return(@0, Terminal)\n  Successors:\nprocedure g\n\nBB#0: \r\n    Int64 b@0 = Const64(0x10)\n    Void b@1 = Return(b@0)";
+
+const TWO_CANONICAL: &str =
+    "procedure f\nBB#0:\n    Int64 b@0 = ArgumentReg(%x1)\n    Void b@1 = Return(b@0)\nprocedure g\nBB#0:\n    Int64 b@0 = Const64(16)\n    Void b@1 = Return(b@0)\n";
+
 #[test]
 fn refusals_are_told(rt: HostRuntime) -> Result<(), Fail> {
+    let slots = "procedure f\nstack0: byteSize = 65537\nBB#0:\n";
     for (word, text, wanted, line) in [
         ("frob", ADD_ONE, 2, "b3c: usage\n"),
-        ("compile", "", 10, "b3c: line 1: not built\n"),
+        ("compile", "", 5, "b3c: line 1: syntax\n"),
+        ("print", "", 5, "b3c: line 1: syntax\n"),
+        ("compile", slots, 7, "b3c: line 2: limit slot bytes\n"),
+        ("print", slots, 7, "b3c: line 2: limit slot bytes\n"),
         (
             "compile",
-            "procedure f\nBB#0:\n    Void b@0 = Nop()\n",
+            "procedure f\nBB#0:\n    Void b@0 = Frob()\n",
+            5,
+            "b3c: line 3: syntax\n",
+        ),
+        (
+            "compile",
+            "procedure f\nBB#0:\n    Void b@0 = Nop()\n    Void b@1 = Oops()\n",
             10,
             "b3c: line 3: not built\n",
         ),
+        // A block without a terminal is at fault at its heading.
         (
             "compile",
             "procedure f\nBB#0:\n    Int64 b@0 = Const64(7)\n",
             10,
-            "b3c: line 4: not built\n",
+            "b3c: line 2: not built\n",
         ),
         // An argument in block 1, the first of two values at fault.
         (
@@ -77,10 +95,23 @@ fn refusals_are_told(rt: HostRuntime) -> Result<(), Fail> {
             10,
             "b3c: line 6: not built\n",
         ),
-        // A bad line comes before a value that breaks a rule.
+        // Another shape comes before a value that breaks a rule, and a bad line before both.
         (
             "compile",
-            "procedure f\nBB#0:\n    Void b@0 = Jump()\n  Successors: #1\nBB#2:\n",
+            "procedure f\nBB#0:\n    Void b@0 = Jump()\n  Successors: #1\nBB#2:\n    Void b@1 = Oops()\n",
+            10,
+            "b3c: line 5: not built\n",
+        ),
+        (
+            "compile",
+            "procedure f\nBB#0:\n    Void b@0 = Jump()\n  Successors: #1, #2\n",
+            5,
+            "b3c: line 4: syntax\n",
+        ),
+        // A name that stands before.
+        (
+            "compile",
+            "procedure f\nBB#0:\n    Int64 b@0 = Const64(7)\n    Void b@1 = Return(b@0)\nprocedure f\nBB#0:\n    Void b@0 = Jump()\n  Successors: #0\n",
             10,
             "b3c: line 5: not built\n",
         ),
@@ -102,6 +133,56 @@ fn refusals_are_told(rt: HostRuntime) -> Result<(), Fail> {
         assert_eq!(rt; err.bytes(), line.as_bytes());
         assert_eq!(rt; out.bytes(), b"".as_slice());
     }
+    Ok(())
+}
+
+/// What a command writes for a text.
+fn written(rt: &(impl AllocGlobal), word: &str, text: &str) -> Result<VecSink, Fail> {
+    let words = names_of(rt.alloc(), &[word])?;
+    let mut input = SliceSource::new(text.as_bytes());
+    let mut trial = SliceSource::new(&[]);
+    let mut out = VecSink::with_room(rt.alloc(), 4096)?;
+    let mut err = VecSink::with_room(rt.alloc(), 100)?;
+    let status = run_tool(
+        rt.alloc(),
+        words.as_slice(),
+        &mut input,
+        &mut trial,
+        &mut out,
+        &mut err,
+    );
+    if status != 0 {
+        return Err("refused".into());
+    }
+    Ok(out)
+}
+
+#[test]
+fn canonical_text_is_printed(rt: HostRuntime) -> Result<(), Fail> {
+    for text in [TWO, TWO_CANONICAL] {
+        let out = written(&rt, "print", text)?;
+        assert_eq!(rt; out.bytes(), TWO_CANONICAL.as_bytes());
+    }
+    Ok(())
+}
+
+#[test]
+fn an_object_of_two_procedures_is_read_again(rt: HostRuntime) -> Result<(), Fail> {
+    let out = written(&rt, "compile", TWO)?;
+    let object = elf_obj::read(rt.alloc(), out.bytes())?;
+    assert_eq!(rt; object.symbols.len(), 2);
+    // three words of prologue, one of an argument's store, four of the return; and 3, 5 and 4
+    let (f, g) = (object.symbols.get(0), object.symbols.get(1));
+    assert_eq!(rt;
+        (f.name.as_slice(), f.offset, f.size),
+        (b"f".as_slice(), 0, 32)
+    );
+    assert_eq!(rt;
+        (g.name.as_slice(), g.offset, g.size),
+        (b"g".as_slice(), 32, 48)
+    );
+    assert_eq!(rt; object.tables.frames.len(), 2);
+    assert_eq!(rt; object.tables.sites.len(), 0);
     Ok(())
 }
 
@@ -232,11 +313,14 @@ fn returned(
     if bytes.len() > 10_000 {
         return Err("too long".into());
     }
-    let module = b3_text::read(alloc, bytes)?;
-    let p = module.proc(0);
-    if b3_supported::fault_line(alloc, p)?.is_some() {
+    let module = b3_module::read(alloc, bytes)?;
+    if let Some(_) = b3_supported::fault_line(alloc, &module)? {
         return Err("refused".into());
     }
+    if module.procs() == 0 {
+        return Err("no procedure".into());
+    }
+    let p = module.proc(0);
     let code = procedure_code(alloc, p)?;
     let mut memory = Memory::new(alloc);
     memory.map(top.wrapping_sub(512), &[0xaa; 512])?;

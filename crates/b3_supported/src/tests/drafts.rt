@@ -1,21 +1,23 @@
-//! Procedures of the right shape, from lines.
+//! Procedures and modules, from lines.
 
-ghost use Rattle.std.specs.Prelude.{◌≡◌, ◌≤◌, false, IfOk};
-ghost use Rattle.b3_ir.specs.Shape.{IsShaped, IsValueAt};
-ghost use Rattle.b3_ir.specs.Table.{is_terminal};
+ghost use Rattle.std.specs.Prelude.{◌≡◌, ◌≤◌, false, length, IfOk};
+ghost use Rattle.b3_ir.specs.Fits.{Fits};
+ghost use Rattle.b3_ir.specs.Procedure.{total};
 
 use b3_base::{Ids, NoMemory};
-use b3_ir::{Body, Children, Kind, Opcode, Proc, Reg, Ty, Value};
+use b3_ir::{Body, Children, Kind, Module, Opcode, Proc, Reg, Ty, Value};
 use std::alloc::Global;
 use std::test::Fail;
 
-/// The heading of the next block, or a value of that block, by its opcode, its children, and what
-/// it names.
+/// A slot, a heading with a number, or a value of the last block, by its opcode, its children, and what it
+/// names. `Narrow` is a constant of 32 bits.
 #[derive(Clone, Copy)]
 pub(crate) enum Line {
-    Block,
+    Slot,
+    Block(u8),
     Argument,
     Constant,
+    Narrow,
     Add(u8, u8),
     Phi,
     Upsilon(u8, u8),
@@ -24,66 +26,53 @@ pub(crate) enum Line {
     Return(u8),
 }
 
-/// The procedure of these lines. It is refused where a block is not ended, or a child is not an
-/// earlier id.
-pub(crate) fn procedure(alloc: Global, lines: &[Line]) -> Result<Proc, Fail>
-    ensures { IfOk result (λ p. IsShaped p.procedure) }
-{
-    if lines.len() > 1000 {
-        return Err("too many lines".into());
+/// The procedures of these names and lines. The header of each stands on line 1, and what follows on lines 2,
+/// 3 and so on.
+pub(crate) fn module(alloc: Global, parts: &[(&str, &[Line])]) -> Result<Module, Fail> {
+    let mut made = Module::new(alloc);
+    for (name, lines) in parts {
+        let at = made.procs();
+        if at > 9 || lines.len() > 1000 {
+            return Err("too many lines".into());
+        }
+        made.add_proc(*name, 1)?;
+        fill(alloc, made.proc_mut(at), *lines)?;
     }
-    let mut p = Proc::new(alloc, "f", 1)?;
+    Ok(made)
+}
+
+/// Adds what stands on these lines.
+fn fill(alloc: Global, p: &mut Proc, lines: &[Line]) -> Result<(), Fail>
+    requires few { length lines.now ≤ 1000 }
+    requires no_slots { length p.old.procedure.slots ≡ 0 }
+    requires no_blocks { length p.old.procedure.blocks ≡ 0 }
+    requires no_values { total p.old.procedure ≡ 0 }
+{
     let mut id = 0;
     let mut row = 2;
-    let mut is_open = false;
     for line in lines {
-        if is_block(*line) == is_open {
-            return Err("a block is not ended".into());
+        match *line {
+            Line::Slot => p.add_slot_at(0, 8, row)?,
+            Line::Block(number) => {
+                p.add_block_at(number as u32, row)?;
+            }
+            line => {
+                if p.blocks() == 0 {
+                    return Err("a value outside a block".into());
+                }
+                let last = p.blocks() - 1;
+                p.push(last as u32, value(alloc, line, id, row)?)?;
+                id += 1;
+            }
         }
-        if is_open {
-            let value = value(alloc, *line, id, row)?;
-            let block = p.blocks() - 1;
-            is_open = !ends(&value);
-            id += 1;
-            row += rows(&value);
-            p.push(block as u32, value)?;
-        } else {
-            p.add_block()?;
-            row += 1;
-            is_open = true;
-        }
+        row += 1;
     }
-    if is_open || p.blocks() == 0 {
-        return Err("a block is not ended".into());
-    }
-    Ok(p)
-}
-
-fn is_block(line: Line) -> bool {
-    matches!(line, Line::Block)
-}
-
-fn ends(value: &Value) -> bool
-    ensures { result ≡ is_terminal value.now.kind.opcode }
-{
-    matches!(
-        value.kind.opcode,
-        Opcode::Jump | Opcode::Oops | Opcode::Branch | Opcode::Switch | Opcode::Return
-    )
-}
-
-fn rows(value: &Value) -> u32
-    ensures { result ≤ 2 }
-{
-    match value.body {
-        Body::Targets(_) => 2,
-        _ => 1,
-    }
+    Ok(())
 }
 
 /// The value of a line, with this id and on this row.
 fn value(alloc: Global, line: Line, id: u32, row: u32) -> Result<Value, Fail>
-    ensures { IfOk result (IsValueAt id) }
+    ensures { IfOk result Fits }
 {
     match line {
         Line::Argument => {
@@ -108,7 +97,18 @@ fn value(alloc: Global, line: Line, id: u32, row: u32) -> Result<Value, Fail>
                 body,
             ))
         }
-        Line::Add(i, j) if (i as u32) < id && (j as u32) < id => {
+        Line::Narrow => {
+            let body = Body::Constant(7);
+            Ok(made(
+                id,
+                row,
+                Ty::Int32,
+                Opcode::Const32,
+                children(alloc, &[])?,
+                body,
+            ))
+        }
+        Line::Add(i, j) => {
             let children = children(alloc, &[i as u32, j as u32])?;
             Ok(made(id, row, Ty::Int64, Opcode::Add, children, Body::Plain))
         }
@@ -126,10 +126,10 @@ fn value(alloc: Global, line: Line, id: u32, row: u32) -> Result<Value, Fail>
 
 /// The value of a line whose type is Void.
 fn effect(alloc: Global, line: Line, id: u32, row: u32) -> Result<Value, Fail>
-    ensures { IfOk result (IsValueAt id) }
+    ensures { IfOk result Fits }
 {
     match line {
-        Line::Upsilon(i, phi) if (i as u32) < id => {
+        Line::Upsilon(i, phi) => {
             let children = children(alloc, &[i as u32])?;
             Ok(made(
                 id,
@@ -144,7 +144,7 @@ fn effect(alloc: Global, line: Line, id: u32, row: u32) -> Result<Value, Fail>
             let body = Body::Targets(ids(alloc, &[to as u32])?);
             Ok(made(id, row, Ty::Void, Opcode::Jump, children(alloc, &[])?, body))
         }
-        Line::Branch(i, to, other) if (i as u32) < id => {
+        Line::Branch(i, to, other) => {
             let body = Body::Targets(ids(alloc, &[to as u32, other as u32])?);
             Ok(made(
                 id,
@@ -155,11 +155,11 @@ fn effect(alloc: Global, line: Line, id: u32, row: u32) -> Result<Value, Fail>
                 body,
             ))
         }
-        Line::Return(i) if (i as u32) < id => {
+        Line::Return(i) => {
             let children = children(alloc, &[i as u32])?;
             Ok(made(id, row, Ty::Void, Opcode::Return, children, Body::Plain))
         }
-        _ => Err("no value, or no earlier child".into()),
+        _ => Err("no value".into()),
     }
 }
 

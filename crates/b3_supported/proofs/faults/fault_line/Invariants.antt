@@ -1,8 +1,9 @@
-use Rattle.b3_ir.specs.Procedure.{values_by_block}
-use Rattle.b3_ir.specs.Shape.{first_id}
-use Rattle.b3_supported.specs.Supported.{KeepsRules}
-use Rattle.b3_supported.specs.Table.{AllBelow}
+use Rattle.std.proofs.Common.{◌≡◌, ℕ, ◌<◌, [], None, Some}
+use Rattle.std.specs.Prelude.{slice_get}
+use Rattle.b3_ir.specs.Procedure.{Procedure, procedures}
+use Rattle.b3_supported.specs.Shapes.{module_fault}
+use Rattle.b3_supported.specs.Supported.{IsSupported}
 use Rattle.b3_supported.proofs.faults.fault_line.Given as goal
 
-abbrev pub invariant-loop-block : goal.invariant-loop-block
-invariant-loop-block l = AllBelow l.p.procedure (first_id (values_by_block l.p.procedure) l.block) (KeepsRules l.p.procedure)
+abbrev pub invariant-loop-at : goal.invariant-loop-at
+invariant-loop-at l = (k : ℕ) (q : Procedure) → slice_get (procedures l.module_) k ≡ Some q → k < l.at → IsSupported q
