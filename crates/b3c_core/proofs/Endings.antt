@@ -1,5 +1,5 @@
 -- What has come about at an ending, put together; and that bytes spell one module alone.
-use Rattle.std.proofs.Common.{◌≡◌, ℕ, List, Some, refl, sym, subst, ◌∙◌}
+use Rattle.std.proofs.Common.{◌≡◌, ◌≤◌, ℕ, List, length, Some, refl, sym, subst, ◌∙◌}
 use Rattle.b3_ir.specs.Procedure.{Procedure}
 use Rattle.b3_module.specs.Limits.{IsFirstLimit, KeepsLimits}
 use Rattle.b3_module.specs.Texts.{BadLine, Spells}
@@ -12,20 +12,20 @@ use Rattle.b3c_core.specs.declared.command.Command.{Command}
 use Rattle.b3c_core.specs.declared.ending.Ending.{Ending}
 use Rattle.b3c_core.specs.declared.ending.Ending.TheVariants.{Written, Usage, ReadFault, WriteFault, TooLong, Syntax, Limit, NotBuilt, NoMemory}
 use Rattle.b3c_core.specs.Compiled.{IsNoText, IsNotBuilt, IsPastLimit, IsTextOf, ReadsWhole}
-use Rattle.b3c_core.specs.Tool.{Call, HasAnswered, HasEnded, cause_of, command_of, output_of}
+use Rattle.b3c_core.specs.Tool.{Call, HasAnswered, HasEnded, cause_of, command_of, output_of, text_limit}
 
 -- an ending that follows once the input was read
-pub ended_after : (call : Call) (ending : Ending) (command : Command) (text : List ℕ) → command_of call.words ≡ Some command → ReadsWhole call.left call.left' text
+pub ended_after : (call : Call) (ending : Ending) (command : Command) (text : List ℕ) → command_of call.words ≡ Some command → ReadsWhole call.left call.left' text → length text ≤ text_limit
     → HasAnswered (output_of command) (cause_of command) text call ending → HasEnded call ending
-ended_after call Written command text named read h = record { command = command; named = named; text = text; read = read; answered = h }
-ended_after call WriteFault command text named read h = record { command = command; named = named; text = text; read = read; answered = h }
-ended_after call (Syntax line) command text named read h = record { command = command; named = named; text = text; read = read; answered = h }
-ended_after call (Limit which line) command text named read h = record { command = command; named = named; text = text; read = read; answered = h }
-ended_after call (NotBuilt line) command text named read h = record { command = command; named = named; text = text; read = read; answered = h }
-ended_after call NoMemory command text named read h = tt
-ended_after call Usage command text named read h = absurd h
-ended_after call ReadFault command text named read h = absurd h
-ended_after call TooLong command text named read h = absurd h
+ended_after call Written command text named read small h = record { command = command; named = named; text = text; read = read; small = small; answered = h }
+ended_after call WriteFault command text named read small h = record { command = command; named = named; text = text; read = read; small = small; answered = h }
+ended_after call (Syntax line) command text named read small h = record { command = command; named = named; text = text; read = read; small = small; answered = h }
+ended_after call (Limit which line) command text named read small h = record { command = command; named = named; text = text; read = read; small = small; answered = h }
+ended_after call (NotBuilt line) command text named read small h = record { command = command; named = named; text = text; read = read; small = small; answered = h }
+ended_after call NoMemory command text named read small h = tt
+ended_after call Usage command text named read small h = absurd h
+ended_after call ReadFault command text named read small h = absurd h
+ended_after call TooLong command text named read small h = absurd h
 
 -- ---- one module
 

@@ -1,5 +1,5 @@
 -- The command line, the statuses and their lines, and the causes of each.
-use Rattle.std.specs.Prelude.{◌≡◌, ℕ, ◌<◌, if◌then◌else◌, List, [], ◌∷◌, ◌++◌, length, take, codes, bytes_eq, Option, Some, None}
+use Rattle.std.specs.Prelude.{◌≡◌, ℕ, ◌<◌, ◌≤◌, if◌then◌else◌, List, [], ◌∷◌, ◌++◌, length, take, codes, bytes_eq, Option, Some, None}
 use Rattle.std.specs.Fmt.{decimal}
 use Rattle.std.specs.Io.KnownBytes.{Appends}
 use Rattle.b3_io.specs.Faults.{Rose}
@@ -121,12 +121,13 @@ HasAnswered Output Cause text call (NotBuilt line) = Cause text (fault.NotBuilt 
 HasAnswered Output Cause text call NoMemory = Unit {0}
 HasAnswered Output Cause text call _ = ⊥
 
--- the words name a command, whose input was read to its end
+-- the words name a command, whose input was read to its end and has no more bytes than a text may have
 pub record HasRead (call : Call) (ending : Ending) : Type 0 where
   pub command : Command
   pub named : command_of call.words ≡ Some command
   pub text : List ℕ
   pub read : ReadsWhole call.left call.left' text
+  pub small : length text ≤ text_limit
   pub answered : HasAnswered (output_of command) (cause_of command) text call ending
 
 -- what has come about at each ending

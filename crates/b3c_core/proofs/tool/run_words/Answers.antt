@@ -16,4 +16,4 @@ returns-in-Ok-clause-ended g c =
       output_faults = g.K.Sink.faults c.args.out.now;
       output_faults' = g.K.Sink.faults c.answer_to.new.out;
     } in
-    ended_after call c.answer_to.result c.in-Some.command c.in-Ok.bytes (sym c.command_of.ensures ∙ c.in-Some.is) (record { all = c.in-Ok.ensures.all; end = c.in-Ok.ensures.end }) (c.answer_to.ensures.answered call refl refl refl refl)
+    ended_after call c.answer_to.result c.in-Some.command c.in-Ok.bytes (sym c.command_of.ensures ∙ c.in-Some.is) (record { all = c.in-Ok.ensures.all; end = c.in-Ok.ensures.end }) c.in-Ok.ensures.bound (c.answer_to.ensures.answered call refl refl refl refl)
