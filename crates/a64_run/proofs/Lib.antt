@@ -11,3 +11,4 @@ pub mod Unchanged
 pub mod Gathered
 pub mod Stepping
 pub mod Sample
+pub mod Ended

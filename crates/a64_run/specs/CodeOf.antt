@@ -1,9 +1,10 @@
 -- When an object is the code of some procedures.
-use Rattle.std.specs.Prelude.{◌≡◌, ℕ, ◌+◌, ◌<◌, ◌≤◌, ◌⊎◌, List, length, map, Some, slice_get}
+use Rattle.std.specs.Prelude.{◌≡◌, ℕ, ◌+◌, ◌<◌, ◌≤◌, ◌⊎◌, true, List, length, map, Some, slice_get}
 use Rattle.b3_ir.specs.Naming.{value_named}
 use Rattle.b3_ir.specs.Procedure.{Procedure}
 use Rattle.b3_ir.specs.declared.value.Value.{Value}
-use Rattle.b3_meaning.specs.Keeps.{Keeps}
+use Rattle.b3_meaning.specs.Keeps.{Keeps, is_outward}
+use Rattle.b3_meaning.specs.Roles.{role_of}
 use Rattle.stackmap.specs.Obeys.{IsSiteOf}
 use Rattle.stackmap.specs.declared.site.SiteKind.TheVariants.{Patchpoint, Exit}
 use Rattle.exit_table.specs.declared.tables.FrameRow.{FrameRow}
@@ -17,12 +18,15 @@ use Rattle.a64_run.specs.Agrees.{Agrees}
 abbrev pub StandsIn : Symbol → SiteRow → Type 0
 StandsIn symbol row = (symbol.offset ≤ row.pc) × (row.pc < symbol.offset + symbol.size)
 
--- a patchpoint or an exit is the site of the value that its id names
+-- a patchpoint or an exit is the site of the value that its id names, which acts on the outside: so it is
+-- that of no other value, also in a block that no run reaches
 abbrev pub HasItsValue : Procedure → SiteRow → Type 0
-HasItsValue p row = (row.site.kind ≡ Patchpoint) ⊎ (row.site.kind ≡ Exit) → (v : Value) × (value_named p row.site.value ≡ Some v) × IsSiteOf p v row.site
+HasItsValue p row = (row.site.kind ≡ Patchpoint) ⊎ (row.site.kind ≡ Exit)
+    → (v : Value) × (value_named p row.site.value ≡ Some v) × (is_outward (role_of v.kind.opcode) v.kind.traps ≡ true)
+    × IsSiteOf p v row.site
 
 -- the symbol's code and frame agree with a procedure p, and each patchpoint and exit in the code is the site of
--- its value in q, which keeps p, and obeys that value's constraints. p is the text's own procedure, and q what
+-- its value in q, which keeps p, and obeys that value's constraints; by `Keeps` that value is like one of p. p is the text's own procedure, and q what
 -- it was reduced to
 pub record IsCodeOfOne (p q : Procedure) (o : Object) (symbol : Symbol) (frame : FrameRow) : Type 0 where
   pub agrees : Agrees p o symbol frame

@@ -2,6 +2,7 @@ pub mod Placement
 pub mod Machine
 pub mod Moments
 pub mod Agrees
+pub mod Ended
 pub mod CodeOf
 pub mod Finding
 pub mod Taking

@@ -31,7 +31,7 @@ use Rattle.a64_inst.specs.declared.inst.BranchKind.TheVariants.{Ret}
 use Rattle.a64_inst.specs.declared.state.Flags.{Flags}
 use Rattle.a64_inst.specs.declared.state.Outcome.{Outcome}
 use Rattle.a64_inst.specs.declared.state.Outcome.TheVariants.{Next, Linked, Fault, Break}
-use Rattle.a64_run.specs.Placement.{in_frame, in_slot, visible, entry_memory}
+use Rattle.a64_run.specs.Placement.{in_frame, in_slot, in_text, visible, entry_memory}
 
 -- what a run is of: a procedure of an object, by its symbol and its frame, and a start
 pub record Entry : Type 0 where
@@ -78,9 +78,13 @@ abbrev pub word_at : Entry → ℕ → Option ℕ
 word_at e address =
     if nat_le e.start.code address && nat_eq ((address - e.start.code) % 4) 0 then slice_get e.object.text ((address - e.start.code) / 4) else None
 
--- whether an address is that of a word of the text
-abbrev pub is_in_text : Entry → ℕ → Bool
-is_in_text e address = is_some (word_at e address)
+-- whether an address is that of a word of the text, and of a byte of it: a byte inside a word is the second
+-- alone
+abbrev pub is_text_word : Entry → ℕ → Bool
+is_text_word e address = is_some (word_at e address)
+
+abbrev pub is_text_byte : Entry → ℕ → Bool
+is_text_byte e address = in_text e.object e.start address
 
 -- the site that is listed at a byte of the text, and at an address
 abbrev pub site_among : ℕ → List SiteRow → Option Site
@@ -175,11 +179,11 @@ abbrev pub is_ret : Inst → Bool
 is_ret (BranchReg Ret rn) = true
 is_ret _ = false
 
--- the run goes on in the text, or is stuck outside
+-- the run goes on at a word of the text, or is stuck
 abbrev pub goes_on : Entry → State → Config
-goes_on e s = if is_in_text e s.registers.pc then Runs s else stuck e s
+goes_on e s = if is_text_word e s.registers.pc then Runs s else stuck e s
 
--- after an instruction: a return to the caller, the next instruction, or a stop outside the text
+-- after an instruction: a return to the caller, the next instruction, or a stop where no word begins
 abbrev pub arrive : Entry → Inst → State → Config
 arrive e inst s =
     if is_ret inst && has_returned e s.registers then stops e s (Returned (returned_word e.frame.returns s.registers)) else goes_on e s
@@ -222,11 +226,11 @@ world_step e site kind pc s = world e site kind pc s (words_in s.registers.x s.m
 
 -- ---- steps
 
--- after a BLR: at a call, to an address outside the text, the outside acts, and the run goes on after the
--- BLR; else it goes on at the address
+-- after a BLR: at a call, to an address that is no byte of the text, the outside acts, and the run goes on
+-- after the BLR; else it goes on at the address, and is stuck inside a word
 abbrev pub linked : Entry → Inst → ℕ → ℕ → State → Option Site → Config
 linked e inst pc target s (Some site) =
-    if is_in_text e target then arrive e inst s else world_step e site (event.Call target) ((pc + 4) % 2 ^ 64) s
+    if is_text_byte e target then arrive e inst s else world_step e site (event.Call target) ((pc + 4) % 2 ^ 64) s
 linked e inst pc target s None = arrive e inst s
 
 -- a fault at a trap ends the run with the trap's value and the access's first address

@@ -36,7 +36,7 @@ TouchesAbove e s inst = (address n i : ℕ) → touched inst s.registers ≡ Som
 
 -- SP is a multiple of 16 (AAPCS64, 6.4.5.1); data accesses touch nothing of the frame below SP; the platform
 -- register x18 is left as it is (AAPCS64, 6.1.1); at a patchpoint and at an exit the saved registers are
--- kept; and at a call SP is the entry SP less the frame's bytes
+-- kept; and at a call's site, wherever the call leads, SP is the entry SP less the frame's bytes
 pub record IsProperState (e : Entry) (s : State) : Type 0 where
   pub aligned : s.registers.sp % 16 ≡ 0
   pub access : (inst : Inst) → instruction_at e s ≡ Some inst → TouchesAbove e s inst

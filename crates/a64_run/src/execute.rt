@@ -8,7 +8,7 @@ ghost use Rattle.a64_run.specs.Machine as spec;
 use crate::entry::{Entry, Flow, State};
 use crate::outside::{goes_on, words_in, world_step};
 use crate::saved::{has_returned, keeps_saved, returned_word};
-use crate::text::{is_in_text, site_of, word_at};
+use crate::text::{is_text_byte, site_of, word_at};
 use crate::touching::touches_empty_at;
 use a64_inst::{BranchKind, Inst, Outcome, step};
 use a64_word::decode;
@@ -29,7 +29,7 @@ fn is_ret(inst: &Inst) -> bool
     )
 }
 
-/// After an instruction: a return to the caller, the next instruction, or a stop outside the text.
+/// After an instruction: a return to the caller, the next instruction, or a stop where no word begins.
 fn arrive(e: &Entry<'_>, st: &State<'_>, inst: &Inst) -> Flow
     ensures { Leads (entry_of e.now) result (state_of st.now)
         (spec.arrive (entry_of e.now) inst.now (state_of st.now)) }
@@ -41,7 +41,7 @@ fn arrive(e: &Entry<'_>, st: &State<'_>, inst: &Inst) -> Flow
     }
 }
 
-/// After a BLR at `pc`: at a call, to an address outside the text, the outside acts.
+/// After a BLR at `pc`: at a call, to an address that is no byte of the text, the outside acts.
 fn linked(
     alloc: Global,
     e: &Entry<'_>,
@@ -56,7 +56,7 @@ fn linked(
         (spec.of_kind SiteKind.Call (spec.site_at (entry_of e.now) pc)))) }
 {
     match site_of(e, SiteKind::Call, pc) {
-        Some(site) if !is_in_text(e, target) => {
+        Some(site) if !is_text_byte(e, target) => {
             let kind = EventKind::Call { callee: target };
             world_step(alloc, e, st, site, kind, pc.wrapping_add(4))
         }

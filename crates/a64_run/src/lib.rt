@@ -9,6 +9,7 @@ mod execute;
 mod fault;
 mod find;
 mod hidden;
+mod laws;
 mod leaving;
 mod memories;
 mod outside;
@@ -21,5 +22,6 @@ mod text;
 mod touching;
 
 pub use fault::PlaceFault;
+pub use laws::ended_runs_agree;
 pub use placement::place;
 pub use running::run;

@@ -12,7 +12,7 @@ use crate::clobbers::leave_registers;
 use crate::entry::{Entry, Flow, State};
 use crate::leaving::leave_memory;
 use crate::memories::visible;
-use crate::text::is_in_text;
+use crate::text::is_text_word;
 use a64_inst::State as Registers;
 use b3_base::{Answer, Event, EventKind, Memory, NoMemory, Status, Width, Widths, Words, low};
 use b3_ir::Reg;
@@ -109,11 +109,11 @@ fn event_of(
     })
 }
 
-/// The run goes on in the text, or is stuck outside.
+/// The run goes on at a word of the text, or is stuck.
 pub(crate) fn goes_on(e: &Entry<'_>, st: &State<'_>) -> Flow
     ensures { Leads (entry_of e.now) result (state_of st.now) (spec.goes_on (entry_of e.now) (state_of st.now)) }
 {
-    if is_in_text(e, st.registers.pc) {
+    if is_text_word(e, st.registers.pc) {
         Flow::On
     } else {
         Flow::Over(Status::Stuck)

@@ -199,14 +199,15 @@ fn object(alloc: Global) -> Result<Object, NoMemory>
     })
 }
 
-/// A start that goes to a byte of the text. Word i of the junk is i, with i + 1 in its upper half.
-fn start(alloc: Global, to: u64) -> Result<MachineStart, Fail>
+/// A start that goes to a byte of the text, with a callee in x9. Word i of the junk is i, with i + 1 in its
+/// upper half.
+fn start(alloc: Global, to: u64, callee: u64) -> Result<MachineStart, Fail>
     requires { to < 100 }
 {
     let mut registers = [0; 31];
     registers[0] = 7;
     registers[1] = 0x1_0000_0009;
-    registers[9] = 0x9000;
+    registers[9] = callee;
     registers[10] = CODE + to;
     registers[30] = 0x3000_0000;
     let mut memory = Memory::new(alloc);
@@ -227,13 +228,23 @@ fn start(alloc: Global, to: u64) -> Result<MachineStart, Fail>
     })
 }
 
-/// What is seen after `k` steps from a byte of the text.
+/// What is seen after `k` steps from a byte of the text, where x9 is 0x9000.
 fn seen(alloc: Global, to: u64, answers: &Answers, k: u64) -> Result<Observation, Fail>
     requires { to < 100 }
 {
+    let start = start(alloc, to, 0x9000)?;
+    seen_from(alloc, &start, answers, k)
+}
+
+/// What is seen after `k` steps from a start.
+fn seen_from(
+    alloc: Global,
+    start: &MachineStart,
+    answers: &Answers,
+    k: u64,
+) -> Result<Observation, Fail> {
     let object = object(alloc)?;
-    let start = start(alloc, to)?;
-    let seen = run(alloc, &object, "f", &start, answers.as_slice(), k);
+    let seen = run(alloc, &object, "f", start, answers.as_slice(), k);
     Ok(seen.ok().ok_or("the run begins")?)
 }
 
@@ -290,6 +301,25 @@ fn a_call_that_is_not_answered(rt: HostRuntime) -> Result<(), Fail> {
 }
 
 #[test]
+fn a_call_of_a_byte_of_the_text(rt: HostRuntime) -> Result<(), Fail> {
+    let answers = answers(rt.alloc())?;
+    for byte in [1, 34, 55] {
+        let inside = start(rt.alloc(), 4, CODE + byte)?;
+        let stuck = seen_from(rt.alloc(), &inside, &answers, 9)?;
+        assert!(rt; matches!(stuck.status, Status::Stuck));
+        assert_eq!(rt; stuck.events.len(), 0);
+    }
+    for callee in [CODE - 1, CODE + 56] {
+        let outside = start(rt.alloc(), 4, callee)?;
+        let going = seen_from(rt.alloc(), &outside, &answers, 4)?;
+        assert!(rt; matches!(going.status, Status::Going));
+        assert_eq!(rt; going.events.len(), 1);
+        assert_eq!(rt; going.events.get(0).kind, EventKind::Call { callee });
+    }
+    Ok(())
+}
+
+#[test]
 fn an_exit(rt: HostRuntime) -> Result<(), Fail> {
     let none = Answers::new(rt.alloc());
     let over = seen(rt.alloc(), 36, &none, 2)?;
@@ -326,7 +356,7 @@ fn a_trap(rt: HostRuntime) -> Result<(), Fail> {
 #[test]
 fn a_start_is_placed(rt: HostRuntime) -> Result<(), Fail> {
     let object = object(rt.alloc())?;
-    let machine = start(rt.alloc(), 4)?;
+    let machine = start(rt.alloc(), 4, 0x9000)?;
     let placed = place(rt.alloc(), &object, "f", &machine)
         .ok()
         .ok_or("the start may begin it")?;

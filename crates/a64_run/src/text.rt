@@ -1,6 +1,6 @@
 //! The words of the text, and the sites that stand at them.
 
-ghost use Rattle.std.specs.Prelude.{◌≡◌, ◌<◌, ◌≤◌, Some, None, IfSome, IfNone, length, slice_get};
+ghost use Rattle.std.specs.Prelude.{◌≡◌, ◌^◌, ◌<◌, ◌≤◌, Some, None, IfSome, IfNone, length, slice_get};
 ghost use Rattle.std.specs.List.Sorted.{IsNonDecreasingBy, IsPartitionPoint};
 ghost use Rattle.elf_obj.specs.Good.{IsGood};
 ghost use Rattle.exit_table.specs.declared.tables.SiteRow.{SiteRow as Row};
@@ -8,6 +8,7 @@ ghost use Rattle.a64_run.specs.Kept.{entry_of, HasRegisters};
 ghost use Rattle.a64_run.specs.Machine as spec;
 
 use crate::entry::Entry;
+use crate::placement::{is_within, text_bytes};
 use exit_table::SiteRow;
 use stackmap::{Site, SiteKind};
 
@@ -23,10 +24,18 @@ pub(crate) fn word_at(e: &Entry<'_>, address: u64) -> Option<u32>
 }
 
 /// Whether an address is that of a word of the text.
-pub(crate) fn is_in_text(e: &Entry<'_>, address: u64) -> bool
-    ensures { result ≡ spec.is_in_text (entry_of e.now) address }
+pub(crate) fn is_text_word(e: &Entry<'_>, address: u64) -> bool
+    ensures { result ≡ spec.is_text_word (entry_of e.now) address }
 {
     word_at(e, address).is_some()
+}
+
+/// Whether an address is that of a byte of the text.
+pub(crate) fn is_text_byte(e: &Entry<'_>, address: u64) -> bool
+    requires { length e.now.object.now.text < 2 ^ 24 }
+    ensures { result ≡ spec.is_text_byte (entry_of e.now) address }
+{
+    is_within(e.start.code, text_bytes(e.object), address)
 }
 
 /// How many sites stand before a byte of the text.

@@ -1,8 +1,7 @@
 -- A pure opcode on children that its row allows has an outcome: a word, or something that B3 leaves undefined.
-use Rattle.std.proofs.Common.{◌≡◌, ℕ, ◌/◌, ◌%◌, Bool, true, false, List, [], ◌∷◌, Option, Some, None, nat_eq}
+use Rattle.std.proofs.Common.{◌≡◌, ℕ, ◌/◌, ◌%◌, Bool, true, false, List, [], ◌∷◌, nat_eq}
 use Rattle.std.specs.Prelude.{if◌then◌else◌, IfNone}
 use Rattle.b3_base.specs.declared.word.Width.{Width}
-use Rattle.b3_ir.specs.Table.{row_of}
 use Rattle.b3_ir.specs.Types.{AreTaken, width_of}
 use Rattle.b3_ir.specs.declared.table.More.TheVariants.{NoMore}
 use Rattle.b3_ir.specs.declared.table.Takes.{Takes}

@@ -29,9 +29,9 @@ is_outward _ traps = false
 abbrev pub child_types : Procedure → Value → List Ty
 child_types p v = map (type_of p) v.children
 
--- value v of p and value w of q have the same opcode, type, body and types of children
+-- value v of p and value w of q have the same opcode and flags, type, body and types of children
 pub record IsLike (p : Procedure) (v : Value) (q : Procedure) (w : Value) : Type 0 where
-  pub opcode : w.kind.opcode ≡ v.kind.opcode
+  pub kind : w.kind ≡ v.kind
   pub ty : w.ty ≡ v.ty
   pub body : w.body ≡ v.body
   pub types : child_types q w ≡ child_types p v
@@ -55,3 +55,11 @@ pub record Keeps (p q : Procedure) : Type 0 where
       → (b3_run p start answers n).status ≢ Undefined → b3_run q start answers n ≡ b3_run p start answers n
   pub outward : (id : ℕ) (w : Value) → value_named q id ≡ Some w → is_outward (role_of w.kind.opcode) w.kind.traps ≡ true
       → (v : Value) × (value_named p id ≡ Some v) × IsLike p v q w
+
+-- each procedure keeps itself
+abbrev pub KeepsItself : Type 0
+KeepsItself = (p : Procedure) → Keeps p p
+
+-- what keeps a procedure that keeps another keeps that one
+abbrev pub KeepsThrough : Type 0
+KeepsThrough = (p q r : Procedure) → Keeps p q → Keeps q r → Keeps p r

@@ -1,11 +1,10 @@
 -- What an opcode does in a run.
-use Rattle.std.specs.Prelude.{ℕ, ◌/◌, Bool, true, false}
+use Rattle.std.specs.Prelude.{ℕ, ◌/◌, true, false}
 use Rattle.b3_base.specs.Word.{bits}
 use Rattle.b3_ir.specs.declared.opcode.Opcode.{Opcode}
 use Rattle.b3_ir.specs.declared.opcode.Opcode.TheVariants as op
 use Rattle.b3_ir.specs.declared.opcode.Ty.{Ty}
 use Rattle.b3_ir.specs.Types.{width_of}
-use Rattle.b3_meaning.specs.declared.role.Checked.{Checked}
 use Rattle.b3_meaning.specs.declared.role.Checked.TheVariants.{Sum, Difference, Product}
 use Rattle.b3_meaning.specs.declared.role.Extent.{Extent}
 use Rattle.b3_meaning.specs.declared.role.Extent.TheVariants.{Byte, Half, Whole}

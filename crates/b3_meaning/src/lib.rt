@@ -2,11 +2,13 @@
 //! and the opcode table as a call.
 #![tactic(auto)]
 
+mod laws;
 mod opcodes;
 mod role;
 #[cfg(test)]
 mod tests;
 mod words;
 
+pub use laws::keeping_laws;
 pub use opcodes::fold;
 pub use role::{Checked, Extent, Role, role_of};
