@@ -1,0 +1,4 @@
+pub mod Loops
+pub mod FixedApart
+pub mod WordsApart
+pub mod LeastOfSites
