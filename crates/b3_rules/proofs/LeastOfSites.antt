@@ -30,17 +30,29 @@ module _ (keeps : Rule → Type 0) where
   constraints_broken broken = ((lit≤ tt, lit≤ tt), broken, λ r within less. absurd (let low = within.0 in omega (arith, low, less)))
 
   pub registers_broken : keeps rule.Constraints → ¬ (keeps rule.Registers) → IsLeastBroken 15 18 keeps (Some rule.Registers)
-  registers_broken a broken = ((lit≤ tt, lit≤ tt), broken, of_stackmaps (λ r. number_of r < 16 → keeps r)
-      (λ _. a) (λ h. absurd (omega (arith, h))) (λ h. absurd (omega (arith, h))) (λ h. absurd (omega (arith, h))))
+  registers_broken a broken = (
+    (lit≤ tt, lit≤ tt),
+    broken,
+    of_stackmaps (λ r. number_of r < 16 → keeps r)
+        (λ _. a) (λ h. absurd (omega (arith, h))) (λ h. absurd (omega (arith, h))) (λ h. absurd (omega (arith, h))),
+  )
 
   pub fixed_broken : keeps rule.Constraints → keeps rule.Registers → ¬ (keeps rule.FixedRegisters) → IsLeastBroken 15 18 keeps (Some rule.FixedRegisters)
-  fixed_broken a b broken = ((lit≤ tt, lit≤ tt), broken, of_stackmaps (λ r. number_of r < 17 → keeps r)
-      (λ _. a) (λ _. b) (λ h. absurd (omega (arith, h))) (λ h. absurd (omega (arith, h))))
+  fixed_broken a b broken = (
+    (lit≤ tt, lit≤ tt),
+    broken,
+    of_stackmaps (λ r. number_of r < 17 → keeps r)
+        (λ _. a) (λ _. b) (λ h. absurd (omega (arith, h))) (λ h. absurd (omega (arith, h))),
+  )
 
   pub demand_broken : keeps rule.Constraints → keeps rule.Registers → keeps rule.FixedRegisters → ¬ (keeps rule.RegisterDemand)
       → IsLeastBroken 15 18 keeps (Some rule.RegisterDemand)
-  demand_broken a b c broken = ((lit≤ tt, lit≤ tt), broken, of_stackmaps (λ r. number_of r < 18 → keeps r)
-      (λ _. a) (λ _. b) (λ _. c) (λ h. absurd (omega (arith, h))))
+  demand_broken a b c broken = (
+    (lit≤ tt, lit≤ tt),
+    broken,
+    of_stackmaps (λ r. number_of r < 18 → keeps r)
+        (λ _. a) (λ _. b) (λ _. c) (λ h. absurd (omega (arith, h))),
+  )
 
   -- with the rule on sizes, the last
   pub still_least : (r : Rule) → IsLeastBroken 15 18 keeps (Some r) → IsLeastBroken 15 19 keeps (Some r)

@@ -1,3 +1,4 @@
+mod Examples
 pub mod Loops
 pub mod FixedApart
 pub mod WordsApart

@@ -4,6 +4,8 @@
 mod cases;
 mod rule;
 mod sites;
+#[cfg(test)]
+mod tests;
 
 pub use cases::cases_keep;
 pub use rule::Rule;

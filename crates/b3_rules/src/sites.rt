@@ -1,7 +1,6 @@
 //! The rules that a value keeps by itself: those on its stackmap, and on its sizes.
 
 ghost use Rattle.std.specs.Prelude.{◌≡◌, ◌≢◌, ◌↔◌, ℕ, true, IsTrue, All, AllPairs};
-ghost use Rattle.b3_ir.specs.Fits.{Fits};
 ghost use Rattle.b3_ir.specs.Procedure.{Procedure};
 ghost use Rattle.stackmap.specs.Rules.{FixApart, FixesAllocatable, FixesApart, IsAllocatable, LeavesReserved, MayResult, NamesConstraints, NamesRegisters};
 ghost use Rattle.b3_rules.specs.Least.{IsLeastBroken};
@@ -28,7 +27,6 @@ const FRAME_POINTER: u8 = 29;
 /// The first rule on its stackmap or its sizes that the value breaks: of Constraints to Sizes. It
 /// takes no memory.
 pub fn site_breach(value: &Value) -> Option<Rule>
-    requires { Fits value.now }
     ensures { (p : Procedure) (b j : ℕ) → IsLeastBroken 15 19 (λ r. ValueKeeps r p b j value.now) result }
 {
     match stackmap_breach(value) {
