@@ -1,9 +1,8 @@
 -- The definitions computed on worked values. No public clause cites this module.
-use Rattle.std.proofs.Common.{◌≡◌, ◌≢◌, ◌∙◌, ℕ, ◌+◌, ◌-◌, ◌^◌, ◌<◌, ◌≤◌, ◌⊎◌, Bool, true, false, List, [], ◌∷◌, ◌++◌, Option, Some, None, zero, suc, slice_get, refl, sym, ap, subst, arith, inl, inr, lit<, lit≤, All, AllPairs, Contains, codes}
+use Rattle.std.proofs.Common.{◌≡◌, ◌∙◌, ℕ, ◌-◌, ◌^◌, ◌<◌, ◌⊎◌, false, List, [], ◌∷◌, Some, zero, suc, slice_get, refl, sym, ap, subst, arith, inl, inr, lit<, lit≤, Contains, codes}
 use Rattle.std.proofs.lemmas.List.Elements.{All-cons, All-nil}
 use Rattle.std.proofs.lemmas.List.Kept.{AllPairs-cons}
-use Rattle.b3_ir.specs.Naming.{all_values, type_of}
-use Rattle.b3_ir.specs.Procedure.{Block, Procedure, StandsAt, empty_procedure, values_of}
+use Rattle.b3_ir.specs.Procedure.{Block, Procedure, empty_procedure, values_of}
 use Rattle.b3_ir.specs.declared.opcode.Opcode.{Opcode}
 use Rattle.b3_ir.specs.declared.opcode.Opcode.TheVariants as op
 use Rattle.b3_ir.specs.declared.opcode.Ty.{Ty}
@@ -11,9 +10,9 @@ use Rattle.b3_ir.specs.declared.opcode.Ty.TheVariants.{Void, Int32, Int64}
 use Rattle.b3_ir.specs.declared.value.Body.{Body}
 use Rattle.b3_ir.specs.declared.value.Body.TheVariants.{Plain, Constant, Argument, Cases, Targets}
 use Rattle.b3_ir.specs.declared.value.Value.{Value}
-use Rattle.b3_rules.specs.Breaches.{Breach, BreaksRule, Counts, IsBreach, IsFirstBreach, IsNoLater, RepeatsName}
-use Rattle.b3_rules.specs.Paths.{IsCoveredAt, IsPath, IsSuccessor}
-use Rattle.b3_rules.specs.Rules.{AreCasesOf, CoversUses, DifferAt, HasNewName, IsCaseOf, ReturnsAlike, first_type, types_of}
+use Rattle.b3_rules.specs.Breaches.{Breach, IsBreach, IsFirstBreach, IsNoLater}
+use Rattle.b3_rules.specs.Paths.{IsCoveredAt, IsPath, IsSuccessor, successors_in}
+use Rattle.b3_rules.specs.Rules.{AreCasesOf, CoversUses, DifferAt, IsCaseOf, first_type, types_of}
 use Rattle.b3_rules.specs.Valid.{HeaderKeeps, IsPartOf, Keeps, Part, Header, SlotAt, HeadingAt, ValueAt, ValueKeeps}
 use Rattle.b3_rules.specs.declared.rule.Rule.{Rule}
 use Rattle.b3_rules.specs.declared.rule.Rule.TheVariants as rule
@@ -163,3 +162,129 @@ first_of_all = record {
   };
   first = λ other counts. no_other other counts.is_breach;
 }
+
+-- ---- uses
+
+nil_has : {X : Type 0} (x : X) → ¬ (Contains [] x)
+nil_has x h = absurd (let less = h.1 in omega (arith, less))
+
+one_of : {X : Type 0} (x : X) (xs : List X) (y : X) → Contains (x ∷ xs) y → (x ≡ y) ⊎ Contains xs y
+one_of x xs y (zero, less, e) = inl e
+one_of x xs y (suc k, less, e) = inr (k, omega (arith, less), e)
+
+first_of : {X : Type 0} (x : X) (xs : List X) → Contains (x ∷ xs) x
+first_of x xs = (0, omega arith, refl)
+
+-- in block 1 a constant, which block 2 returns
+abbrev constant : Value
+constant = value 2 Int64 op.Const64 [] (Constant 5) 7
+
+abbrev jump : Value
+jump = value 3 Void op.Jump [] (Targets (2 ∷ [])) 8
+
+abbrev return : Value
+return = value 4 Void op.Return (2 ∷ []) Plain 11
+
+-- block 0 branches to both
+abbrev branch : Value
+branch = value 1 Void op.Branch (0 ∷ []) (Targets (1 ∷ 2 ∷ [])) 4
+
+abbrev branching : Procedure
+branching = procedure_of
+    (block 0 2 (argument ∷ branch ∷ []) ∷ block 1 6 (constant ∷ jump ∷ []) ∷ block 2 10 (return ∷ []) ∷ [])
+
+-- the path from block 0 to block 2 doesn't pass block 1
+short_path : IsPath branching (0 ∷ []) 2
+short_path = ((branch, (1, lit< tt, refl), (1, lit< tt, refl)), refl)
+
+not_covered : ¬ (CoversUses branching 2 0 return)
+not_covered covers = none (covers 0 0 (lit< tt) (0 ∷ []) short_path)
+  where
+    in_block : (v : Value) → v.id ≡ 2 → Contains (values_of branching 0) v → ⊥
+    in_block v id h = elim (one_of argument (branch ∷ []) v h) [
+      | inl e ↦ (let same : 0 ≡ v.id = ap (λ (w : Value). w.id) e in omega (arith, id, same))
+      | inr rest ↦ elim (one_of branch [] v rest) [
+        | inl e ↦ (let same : 1 ≡ v.id = ap (λ (w : Value). w.id) e in omega (arith, id, same))
+        | inr last ↦ nil_has v last
+      ]
+    ]
+
+    none : (v : Value) × (v.id ≡ 2) × (Contains [] v ⊎ ((b : ℕ) × Contains (0 ∷ []) b × Contains (values_of branching b) v)) → ⊥
+    none (v, id, run) = elim run [
+      | inl before ↦ nil_has v before
+      | inr passed ↦ elim (one_of 0 [] passed.0 passed.1) [
+        | inl e ↦ in_block v id (subst (λ (b : ℕ). Contains (values_of branching b) v) (sym e) passed.2)
+        | inr rest ↦ nil_has passed.0 rest
+      ]
+    ]
+
+-- block 0 jumps to block 1, and block 3, which no path reaches, to block 2
+abbrev start : Value
+start = value 1 Void op.Jump [] (Targets (1 ∷ [])) 4
+
+abbrev stray : Value
+stray = value 5 Void op.Jump [] (Targets (2 ∷ [])) 13
+
+abbrev jumping : Procedure
+jumping = procedure_of (block 0 2 (argument ∷ start ∷ []) ∷ block 1 6 (constant ∷ jump ∷ []) ∷ block 2 10 (return ∷ [])
+    ∷ block 3 12 (stray ∷ []) ∷ [])
+
+-- the successors of the blocks
+from_start : (next : ℕ) → IsSuccessor jumping 0 next → 1 ≡ next
+from_start next (v, there, names) = elim (one_of argument (start ∷ []) v there) [
+  | inl e ↦ absurd (nil_has next (subst (λ (w : Value). Contains (successors_in w.body) next) (sym e) names))
+  | inr rest ↦ elim (one_of start [] v rest) [
+    | inl e ↦ elim (one_of 1 [] next (subst (λ (w : Value). Contains (successors_in w.body) next) (sym e) names)) [
+      | inl same ↦ same
+      | inr none ↦ absurd (nil_has next none)
+    ]
+    | inr none ↦ absurd (nil_has v none)
+  ]
+]
+
+from_middle : (next : ℕ) → IsSuccessor jumping 1 next → 2 ≡ next
+from_middle next (v, there, names) = elim (one_of constant (jump ∷ []) v there) [
+  | inl e ↦ absurd (nil_has next (subst (λ (w : Value). Contains (successors_in w.body) next) (sym e) names))
+  | inr rest ↦ elim (one_of jump [] v rest) [
+    | inl e ↦ elim (one_of 2 [] next (subst (λ (w : Value). Contains (successors_in w.body) next) (sym e) names)) [
+      | inl same ↦ same
+      | inr none ↦ absurd (nil_has next none)
+    ]
+    | inr none ↦ absurd (nil_has v none)
+  ]
+]
+
+from_last : (next : ℕ) → IsSuccessor jumping 2 next → ⊥
+from_last next (v, there, names) = elim (one_of return [] v there) [
+  | inl e ↦ nil_has next (subst (λ (w : Value). Contains (successors_in w.body) next) (sym e) names)
+  | inr none ↦ nil_has v none
+]
+
+from_stray : (next : ℕ) → IsSuccessor jumping 3 next → 2 ≡ next
+from_stray next (v, there, names) = elim (one_of stray [] v there) [
+  | inl e ↦ elim (one_of 2 [] next (subst (λ (w : Value). Contains (successors_in w.body) next) (sym e) names)) [
+    | inl same ↦ same
+    | inr none ↦ absurd (nil_has next none)
+  ]
+  | inr none ↦ absurd (nil_has v none)
+]
+
+-- no path comes to block 3
+never_stray : (passed : List ℕ) → IsPath jumping passed 3 → ⊥
+never_stray [] e = omega (arith, e)
+never_stray (zero ∷ passed) path = let e = from_start 3 path.0 in omega (arith, e)
+never_stray (suc zero ∷ passed) path = let e = from_middle 3 path.0 in omega (arith, e)
+never_stray (suc (suc zero) ∷ passed) path = from_last 3 path.0
+never_stray (suc (suc (suc zero)) ∷ passed) path = let e = from_stray 3 path.0 in omega (arith, e)
+never_stray (suc (suc (suc (suc b))) ∷ passed) path = nil_has path.0.0 path.0.1
+
+covered : CoversUses jumping 2 0 return
+covered = All-cons (IsCoveredAt jumping 2 0) 2 [] by (All-nil (IsCoveredAt jumping 2 0))
+  where
+    by : IsCoveredAt jumping 2 0 2
+    by [] e = absurd (omega (arith, e))
+    by (zero ∷ passed) path = absurd (let e = from_start 2 path.0 in omega (arith, e))
+    by (suc zero ∷ passed) path = (constant, refl, inr (1, first_of 1 passed, first_of constant (jump ∷ [])))
+    by (suc (suc zero) ∷ passed) path = absurd (from_last 2 path.0)
+    by (suc (suc (suc zero)) ∷ passed) path = absurd (never_stray passed path.1)
+    by (suc (suc (suc (suc b))) ∷ passed) path = absurd (nil_has path.0.0 path.0.1)

@@ -1,6 +1,5 @@
 -- The least broken rule of those on stackmaps and sizes.
-use Rattle.std.proofs.Common.{◌≡◌, ℕ, ◌<◌, ◌≤◌, Bool, true, List, Option, Some, None, refl, sym, ap, subst, arith, lit≤}
-use Rattle.b3_ir.specs.declared.value.Body.{Body}
+use Rattle.std.proofs.Common.{◌≡◌, ℕ, ◌<◌, Bool, Option, Some, None, sym, ap, subst, arith, lit≤}
 use Rattle.b3_ir.specs.declared.value.Body.TheVariants.{Map}
 use Rattle.b3_ir.specs.declared.value.Stackmap.{Stackmap}
 use Rattle.b3_ir.specs.declared.value.Value.{Value}

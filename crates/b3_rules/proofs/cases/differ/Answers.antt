@@ -1,4 +1,4 @@
-use Rattle.std.proofs.Common.{◌≡◌, ◌∙◌, ℕ, Bool, true, false, cond, not, refl, subst}
+use Rattle.std.proofs.Common.{◌≡◌, ℕ, Bool, true, false, cond, not, refl, subst}
 use Rattle.std.specs.BTreeSet.{contains}
 use Rattle.std.specs.Ordering.{is_eq, nat_cmp}
 use Rattle.b3_rules.proofs.WordsApart.{new_from_pairs, seen_step}

@@ -1,4 +1,4 @@
-use Rattle.std.proofs.Common.{◌≡◌, ◌≤◌, ◌+◌, ◌<◌, ◌↔◌, ◌∙◌, ℕ, Bool, true, false, cond, sym, ap, arith, nat_lt, nat_le, length}
+use Rattle.std.proofs.Common.{◌≡◌, ◌≤◌, ◌+◌, ◌↔◌, ◌∙◌, ℕ, Bool, true, false, cond, sym, ap, arith, nat_lt, nat_le}
 use Rattle.std.proofs.lemmas.Bool.{le-leb, leb-true, lt-ltb, ltb-true}
 use Rattle.std.proofs.lemmas.List.{take_all}
 use Rattle.stackmap.specs.Placing.{placed_count}
