@@ -44,7 +44,8 @@ no_cases_of_an_int32 h = equal_at_32_bits (h.0 0 1 0 (lit< tt) (lit< tt))
 cases_of_an_int64 : AreCasesOf Int64 both
 cases_of_an_int64 = (
   AllPairs-cons (DifferAt Int64) 18446744073709551615 (4294967295 ∷ [])
-      (All-cons (DifferAt Int64 18446744073709551615) 4294967295 [] (λ e. (let h : 18446744073709551615 ≡ 4294967295 = e in omega (arith, h))) (All-nil (DifferAt Int64 18446744073709551615)))
+      (All-cons (DifferAt Int64 18446744073709551615) 4294967295 [] (λ e. (let h : 18446744073709551615 ≡ 4294967295 = e in omega (arith, h)))
+      (All-nil (DifferAt Int64 18446744073709551615)))
       (AllPairs-cons (DifferAt Int64) 4294967295 [] (All-nil (DifferAt Int64 4294967295)) (no_pairs (DifferAt Int64))),
   All-cons (IsCaseOf Int64) 18446744073709551615 (4294967295 ∷ []) tt (All-cons (IsCaseOf Int64) 4294967295 [] tt (All-nil (IsCaseOf Int64))),
 )

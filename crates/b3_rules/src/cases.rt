@@ -56,7 +56,8 @@ fn width_of(ty: Ty) -> Width
 
 // Whether no two words are equal in a width.
 fn differ(alloc: Global, width: Width, words: &[u64]) -> Result<bool, NoMemory>
-    ensures { IfOk result (λ differ. IsTrue differ ↔ AllPairs (λ a b. arithmetic.low width a ≢ arithmetic.low width b) words.now) }
+    ensures { IfOk result (λ differ.
+        IsTrue differ ↔ AllPairs (λ a b. arithmetic.low width a ≢ arithmetic.low width b) words.now) }
 {
     let mut seen = BTreeSet::new(alloc);
     for word in words {

@@ -7,7 +7,8 @@ use Rattle.b3_rules.proofs.sites.all_stand_apart.Goals as goal
 
 pub loop-constraint-preserved : goal.loop-constraint-preserved
 loop-constraint-preserved c =
-    All-more (StandsApart c.args.typed c.args.map.now) c.as_slice-constraint-items.result.now c.loop-constraint.constraint-index _ c.loop-constraint-test.true c.loop-constraint.invariant (c.stands_apart.ensures.0 c.if-not-stands_apart.false)
+    All-more (StandsApart c.args.typed c.args.map.now) c.as_slice-constraint-items.result.now c.loop-constraint.constraint-index _ c.loop-constraint-test.true
+    c.loop-constraint.invariant (c.stands_apart.ensures.0 c.if-not-stands_apart.false)
 
 pub returns : goal.returns
 returns c =
