@@ -1,0 +1,5 @@
+pub mod Arriving
+pub mod Distinct
+pub mod Kept
+pub mod Lists
+pub mod Results
