@@ -1,5 +1,9 @@
 pub mod Arriving
 pub mod Distinct
+pub mod Effects
+pub mod FromValid
 pub mod Kept
 pub mod Lists
+pub mod Ranged
 pub mod Results
+pub mod Rows

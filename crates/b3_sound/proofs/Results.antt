@@ -45,7 +45,7 @@ pub low_in : (width : Width) (n : ℕ) → low width n < limit_of width
 low_in W32 n = omega arith
 low_in W64 n = omega arith
 
-narrow_in : (width : Width) (n : ℕ) → n < 2 ^ 32 → n < limit_of width
+pub narrow_in : (width : Width) (n : ℕ) → n < 2 ^ 32 → n < limit_of width
 narrow_in W32 n lt = lt
 narrow_in W64 n lt = omega arith
 
@@ -62,7 +62,7 @@ leading_in W64 word = let le = leading_le 64 word in omega arith
 -- ---- signed numbers
 
 -- a number is at most this where it isn't negative, and its size is
-abbrev UpTo : ℕ → ℤ → Type 0
+abbrev pub UpTo : ℕ → ℤ → Type 0
 UpTo most (pos n) = n ≤ most
 UpTo most (negsuc n) = Unit {0}
 
@@ -85,7 +85,7 @@ remainder_up most (pos a) b le = let less : a % nat_abs b ≤ a = mod-le a (nat_
 remainder_up most (negsuc a) b lt = negative_up most (suc a % nat_abs b)
 
 -- a word as a signed number is at most half of the width's limit
-abbrev half_of : Width → ℕ
+abbrev pub half_of : Width → ℕ
 half_of width = 2 ^ (bits width - 1)
 
 signed_sized : (width : Width) (word : ℕ) → word < limit_of width → Sized (half_of width) (signed width word)
@@ -100,7 +100,7 @@ signed_sized W64 word lt =
     (λ (high : 2 ^ 63 ≤ word). rw (le-ltb word (2 ^ 63) high) (omega arith))
     (cases_lt word (2 ^ 63))
 
-unsigned_in : (width : Width) (number : ℤ) → UpTo (half_of width) number → unsigned width number < limit_of width
+pub unsigned_in : (width : Width) (number : ℤ) → UpTo (half_of width) number → unsigned width number < limit_of width
 unsigned_in W32 (pos n) le = omega arith
 unsigned_in W32 (negsuc n) le = omega arith
 unsigned_in W64 (pos n) le = omega arith
