@@ -2,8 +2,12 @@ pub mod Arriving
 pub mod Distinct
 pub mod Effects
 pub mod FromValid
+pub mod Keeping
 pub mod Kept
+pub mod Law
 pub mod Lists
 pub mod Ranged
+pub mod Reached
+pub mod Ready
 pub mod Results
 pub mod Rows
