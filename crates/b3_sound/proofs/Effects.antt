@@ -34,9 +34,10 @@ use Rattle.b3_meaning.specs.declared.role.Role.{Role}
 use Rattle.b3_meaning.specs.declared.role.Role.TheVariants.{Skip, Constant, Argument, Frame, SlotAddress, Pure, SetPhi, GetPhi, Load, Store, Call, Patch, Check, CheckedResult, Jump, Branch, Switch, Return, Fail}
 use Rattle.b3_rules.specs.Paths.{successors_in}
 use Rattle.b3_rules.specs.Rules.{SuitsPhi}
+use Rattle.b3_sound.specs.Laws.{IsRangedState}
 use Rattle.b3_sound.proofs.Kept.{NamesSlot}
 use Rattle.b3_sound.proofs.Lists.{contains_head, contains_tail}
-use Rattle.b3_sound.proofs.Ranged.{IsRangedState, loaded_below, put_ranged, writes_bytes}
+use Rattle.b3_sound.proofs.Ranged.{loaded_below, put_ranged, writes_bytes}
 use Rattle.b3_sound.proofs.Results.{IsBelow, IsIn, half_of, limit_of, low_in, unsigned_in, UpTo}
 use Rattle.b3_sound.proofs.Rows.{HasFirst, IsOne, IsRow, is_ending}
 

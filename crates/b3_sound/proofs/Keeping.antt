@@ -24,13 +24,12 @@ use Rattle.b3_meaning.specs.declared.role.Role.{Role}
 use Rattle.b3_meaning.specs.declared.role.Role.TheVariants.{Constant, Pure}
 use Rattle.b3_rules.specs.Paths.{HasRun, IsCovered, successors_in}
 use Rattle.b3_rules.specs.Rules.{types_of}
-use Rattle.b3_sound.specs.Laws.{HasResult, HasWord, StandsAfter}
+use Rattle.b3_sound.specs.Laws.{HasResult, HasWord, IsRangedState, StandsAfter}
 use Rattle.b3_sound.proofs.Arriving.{not_used_before}
 use Rattle.b3_sound.proofs.Distinct.{same_value, type_of_value}
 use Rattle.b3_sound.proofs.Effects.{Goes, IsEffectOf, by_role}
 use Rattle.b3_sound.proofs.Kept.{IsKept}
 use Rattle.b3_sound.proofs.Lists.{contains_none, contains_head, contains_tail, contains_cases, contains_middle, contains_split, not_longer}
-use Rattle.b3_sound.proofs.Ranged.{IsRangedState}
 use Rattle.b3_sound.proofs.Reached.{IsReached}
 use Rattle.b3_sound.proofs.Results.{IsIn, result_fits}
 use Rattle.b3_sound.proofs.Rows.{child_typed, ending_void, is_ending, row_by_role, terminal_ends}

@@ -106,3 +106,7 @@ module _ (p : Procedure) (valid : IsKept p) (start : Start) (answers : List Answ
   -- no run of a valid procedure is malformed
   pub never_malformed : (n : ℕ) → run_of p start answers n ≢ Lost Malformed
   never_malformed n e = subst (λ c. IsSound p c) e (run_sound n)
+
+  -- and it stands at its blocks alone
+  pub stays_inside : (n block : ℕ) (st : State) → run_of p start answers n ≡ At block st → block < length p.blocks
+  stays_inside n block st e = let sound : IsSound p (At block st) = subst (λ c. IsSound p c) e (run_sound n) in path_in p valid sound.0 block sound.1.path

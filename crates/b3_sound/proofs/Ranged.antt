@@ -16,14 +16,6 @@ use Rattle.b3_ir.specs.Procedure.{Procedure}
 use Rattle.b3_meaning.specs.Run.{State, extended, loaded, with_writes}
 use Rattle.b3_sound.proofs.Results.{IsBelow, IsIn, limit_of, low_in, narrow_in}
 
--- each word, and the word in each location, is one of its id's type; the memory holds bytes; and the answers that
--- are left are in range
-pub record IsRangedState (p : Procedure) (st : State) : Type 0 where
-  pub words : (id word : ℕ) → st.words id ≡ Some word → IsIn (type_of p id) word
-  pub locations : (id word : ℕ) → st.locations id ≡ Some word → IsIn (type_of p id) word
-  pub memory : AreBytes st.memory
-  pub answers : All IsRangedAnswer st.answers
-
 -- ---- one word more
 
 same_some : (a b : ℕ) → Some a ≡ Some b → a ≡ b

@@ -9,8 +9,7 @@ use Rattle.b3_meaning.specs.Roles.{role_of}
 use Rattle.b3_meaning.specs.Run.{At, Config, Lost, Malformed, Over, State, Undefined_}
 use Rattle.b3_meaning.specs.declared.role.Role.TheVariants.{Constant, Pure}
 use Rattle.b3_rules.specs.Paths.{HasRun, IsPath}
-use Rattle.b3_sound.specs.Laws.{HasResult}
-use Rattle.b3_sound.proofs.Ranged.{IsRangedState}
+use Rattle.b3_sound.specs.Laws.{HasResult, IsRangedState}
 
 -- a run came along a path to the place of a block after these values: each value that has run has a word if it has
 -- a type, each constant its own, and each pure value of this pass of the block what its opcode gives for the words

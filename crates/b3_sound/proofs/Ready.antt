@@ -53,6 +53,7 @@ module _ (p : Procedure) (valid : IsKept p) (start : Start) (answers : List Answ
             let same : w ≡ d.0 = same_value p valid.distinct c there.0 w d.0 in_c there.1 (sym d.1) in
             reached.constants w word (subst (λ (x : Value). HasRun p passed before x) (sym same) d.2) is holds;
         pure = reached.pure;
+        in_range = reached.ranged;
       }
 
   pub always_ready : (b : ℕ) (before : List Value) (v : Value) (st : State) → RunsIn p start answers b before v st → IsReady p b before v st

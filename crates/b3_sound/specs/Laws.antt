@@ -1,5 +1,7 @@
--- The laws of the run of a valid procedure: it is never lost as malformed, and what a value finds when it runs.
+-- The laws of the run of a valid procedure: it is never lost as malformed, it stays inside the procedure, and what a
+-- value finds when it runs.
 use Rattle.std.specs.Prelude.{◌≡◌, ◌≢◌, ℕ, ◌^◌, ◌<◌, List, [], ◌∷◌, ◌++◌, Option, Some, None, All, Contains, length, map}
+use Rattle.b3_base.specs.Memory.{AreBytes}
 use Rattle.b3_base.specs.Observed.{Answer, Start}
 use Rattle.b3_base.specs.Ranged.{IsRangedAnswer, IsRangedStart}
 use Rattle.b3_base.specs.Word.{bits}
@@ -33,6 +35,12 @@ NeverMalformed p =
     (start : Start) (answers : List Answer) (n : ℕ) → IsStarted p start answers →
     run_of p start answers n ≢ Lost Malformed
 
+-- wherever a run stands at a block, it is one of the procedure's
+abbrev pub StaysInside : Procedure → Type 0
+StaysInside p =
+    (start : Start) (answers : List Answer) (n block : ℕ) (st : State) → IsStarted p start answers →
+    run_of p start answers n ≡ At block st → block < length p.blocks
+
 -- ---- what a value finds
 
 -- value v stands in a block, after the values `before` of it
@@ -59,9 +67,13 @@ pub record RunsIn (p : Procedure) (start : Start) (answers : List Answer) (block
   pub comes : run_of p start answers steps ≡ At block entry
   pub leads : state_after p start before entry ≡ Some st
 
+-- a number is a word of the type of what an id names
+abbrev pub IsWordOf : Procedure → ℕ → ℕ → Type 0
+IsWordOf p id word = word < 2 ^ bits (width_of (type_of p id))
+
 -- an id has a word of its type
 abbrev pub HasWord : Procedure → State → ℕ → Type 0
-HasWord p st id = (word : ℕ) × (st.words id ≡ Some word) × (word < 2 ^ bits (width_of (type_of p id)))
+HasWord p st id = (word : ℕ) × (st.words id ≡ Some word) × IsWordOf p id word
 
 -- a value has the word that its opcode gives for the words that its children have now
 pub record HasResult (p : Procedure) (st : State) (v : Value) : Type 0 where
@@ -71,15 +83,24 @@ pub record HasResult (p : Procedure) (st : State) (v : Value) : Type 0 where
   pub gives : result v.kind.opcode v.kind.chill v.ty words (map (type_of p) v.children) ≡ Gives word
   pub has : st.words v.id ≡ Some word
 
+-- each word, and the word in each location, is one of its id's type; the memory holds bytes; and the answers
+-- that are left are in range
+pub record IsRangedState (p : Procedure) (st : State) : Type 0 where
+  pub words : (id word : ℕ) → st.words id ≡ Some word → IsWordOf p id word
+  pub locations : (id word : ℕ) → st.locations id ≡ Some word → IsWordOf p id word
+  pub memory : AreBytes st.memory
+  pub answers : All IsRangedAnswer st.answers
+
 -- what a value finds when it runs: each of its children has a word; so has each id with a type that is covered
 -- here, and that of a constant has the constant's; and each pure value that stands earlier in the block has the
--- word that its opcode gives for the words that its children have now
+-- word that its opcode gives for the words that its children have now; and all is in range
 pub record IsReady (p : Procedure) (block : ℕ) (before : List Value) (v : Value) (st : State) : Type 0 where
   pub children : (id : ℕ) → Contains v.children id → HasWord p st id
   pub covered : (id : ℕ) → IsCovered p block before id → type_of p id ≢ Void → HasWord p st id
   pub constants : (c : ℕ) (w : Value) (word : ℕ) → Contains (values_of p c) w → IsCovered p block before w.id →
       role_of w.kind.opcode ≡ Constant → w.body ≡ ConstantOf word → st.words w.id ≡ Some word
   pub pure : (w : Value) → Contains before w → role_of w.kind.opcode ≡ Pure → HasResult p st w
+  pub in_range : IsRangedState p st
 
 -- every value that runs finds this
 abbrev pub AlwaysReady : Procedure → Type 0
@@ -91,6 +112,9 @@ AlwaysReady p =
 
 abbrev pub NeverMalformedIfValid : Type 0
 NeverMalformedIfValid = (p : Procedure) → IsValidProcedure p → AllFit p.blocks → NeverMalformed p
+
+abbrev pub StaysInsideIfValid : Type 0
+StaysInsideIfValid = (p : Procedure) → IsValidProcedure p → AllFit p.blocks → StaysInside p
 
 abbrev pub AlwaysReadyIfValid : Type 0
 AlwaysReadyIfValid = (p : Procedure) → IsValidProcedure p → AllFit p.blocks → AlwaysReady p
