@@ -1,6 +1,7 @@
 pub mod Arriving
 pub mod Distinct
 pub mod Effects
+pub mod Examples
 pub mod FromValid
 pub mod Keeping
 pub mod Kept
