@@ -1,5 +1,5 @@
 -- The first time that a path comes to a block, and what that says of the uses in the block.
-use Rattle.std.proofs.Common.{◌≡◌, ◌≢◌, ℕ, ◌⊎◌, inl, inr, List, [], ◌∷◌, ◌++◌, refl, ap, ◌∙◌, subst, ⊎_elim}
+use Rattle.std.proofs.Common.{◌≡◌, ◌≢◌, ℕ, ◌⊎◌, inl, inr, List, [], ◌∷◌, ◌++◌, ap, ◌∙◌, subst, ⊎_elim}
 use Rattle.std.proofs.lemmas.Bool.{cases_eq}
 use Rattle.std.proofs.lemmas.List.{append_assoc}
 use Rattle.std.proofs.lemmas.List.Elements.{All-contains}
@@ -9,7 +9,7 @@ use Rattle.b3_ir.specs.Procedure.{Procedure, values_of}
 use Rattle.b3_rules.specs.Paths.{IsPath, IsCovered}
 use Rattle.b3_sound.specs.Laws.{StandsAfter}
 use Rattle.b3_sound.proofs.Kept.{IsKept}
-use Rattle.b3_sound.proofs.Lists.{contains_none, contains_head, contains_tail, contains_cases, contains_split, not_longer}
+use Rattle.b3_sound.proofs.Lists.{contains_none, contains_cases, contains_split, not_longer}
 use Rattle.b3_sound.proofs.Distinct.{stands}
 
 -- a path to a block that it didn't pass before

@@ -1,6 +1,6 @@
 -- What one value leads to, by its role, where its row is kept and its children have words.
-use Rattle.std.proofs.Common.{◌≡◌, ◌≢◌, ℕ, ℤ, pos, negsuc, ◌+◌, ◌*◌, ◌^◌, ◌<◌, ◌≤◌, ◌⊎◌, inl, inr, Bool, true, false, List, [], ◌∷◌, ◌++◌, map, length, slice_index_or, Option, Some, None, is_some, nat_eq, nat_lt, refl, sym, ap, ◌∙◌, subst, arith, rules, ⊎_elim}
-use Rattle.std.specs.Prelude.{All, Contains, IsSome, if◌then◌else◌, slice_get}
+use Rattle.std.proofs.Common.{◌≡◌, ◌≢◌, ℕ, ℤ, pos, negsuc, ◌+◌, ◌*◌, ◌^◌, ◌<◌, ◌≤◌, ◌⊎◌, inl, inr, Bool, true, false, List, [], ◌∷◌, map, length, Option, Some, None, nat_eq, refl, sym, ap, ◌∙◌, subst, arith, rules}
+use Rattle.std.specs.Prelude.{All, Contains, IsSome, if◌then◌else◌}
 use Rattle.std.proofs.lemmas.Bool.{eq-eqb, ltb-true, ne_eqb}
 use Rattle.std.proofs.lemmas.List.Elements.{All-get_or, All-head, All-tail}
 use Rattle.std.proofs.lemmas.Option.{slice_get-get_or}
@@ -10,7 +10,7 @@ use Rattle.b3_base.specs.Arithmetic.{low}
 use Rattle.b3_base.specs.Memory.{is_mapped, read_word}
 use Rattle.b3_base.specs.Observed.{Answer, Event, Give, Leave, Start}
 use Rattle.b3_base.specs.Ranged.{IsRangedAnswer, IsRangedStart}
-use Rattle.b3_base.specs.Signed.{is_signed, signed, unsigned}
+use Rattle.b3_base.specs.Signed.{is_signed, unsigned}
 use Rattle.b3_base.specs.Word.{bits}
 use Rattle.b3_base.specs.declared.observation.Status.TheVariants.{Exited}
 use Rattle.b3_base.specs.declared.word.Width.{Width}
@@ -24,10 +24,10 @@ use Rattle.b3_ir.specs.declared.opcode.Ty.TheVariants.{Void, Int32, Int64}
 use Rattle.b3_ir.specs.declared.value.Body.{Body}
 use Rattle.b3_ir.specs.declared.value.Body.TheVariants as body
 use Rattle.b3_ir.specs.declared.value.Value.{Value}
-use Rattle.b3_meaning.specs.Access.{Done, Refused, Trap, access, offset_address, touches_private}
+use Rattle.b3_meaning.specs.Access.{Done, Refused, Trap, offset_address, touches_private}
 use Rattle.b3_meaning.specs.Opcodes.{AreWordsOf, Outcome, Gives, Undefines, Misfits, PrivateByte, UnmappedByte, result}
 use Rattle.b3_meaning.specs.Roles.{extent_bytes}
-use Rattle.b3_meaning.specs.Run.{At, Effect, End, Lost, Malformed, Next, Over, State, To, Undefined_, accesses, answers, argument_of, branches, calls, calls_out, checked, checked_result, checks, checks_result, chosen, constant_of, effect_by, ends, event_of, given, gives, jumps, leads_to, loaded, loaded_phi, loads, malformed, returns, sets, slot_of, stores, switches, with_answer, with_location, with_word}
+use Rattle.b3_meaning.specs.Run.{At, Effect, End, Lost, Malformed, Next, Over, State, To, Undefined_, accesses, answers, argument_of, branches, calls, checked, checks, checks_result, chosen, constant_of, effect_by, ends, given, gives, jumps, leads_to, loaded, loaded_phi, loads, returns, sets, slot_of, stores, switches, with_answer, with_location, with_word}
 use Rattle.b3_meaning.specs.declared.role.Checked.{Checked}
 use Rattle.b3_meaning.specs.declared.role.Extent.{Extent}
 use Rattle.b3_meaning.specs.declared.role.Role.{Role}
@@ -83,7 +83,8 @@ argument_below : (start : Start) → IsRangedStart start → (b : Body) → IsAr
 argument_below start ranged (body.Argument reg) is = ranged.arguments reg.0
 argument_below start ranged _ is = absurd is
 
-slot_below : (start : Start) → IsRangedStart start → (p : Procedure) → length start.slots ≡ length p.slots → (b : Body) → IsSlot b → NamesSlot p b → IsBelow (2 ^ 64) (slot_of start b)
+slot_below : (start : Start) → IsRangedStart start → (p : Procedure) → length start.slots ≡ length p.slots → (b : Body) → IsSlot b → NamesSlot p b
+    → IsBelow (2 ^ 64) (slot_of start b)
 slot_below start ranged p slots (body.Slot number) is lt =
     let within : number < length start.slots = subst (λ (n : ℕ). number < n) (sym slots) lt in
     subst (λ (o : Option ℕ). IsBelow (2 ^ 64) (given o)) (sym (slice_get-get_or start.slots number 0 within))
@@ -140,12 +141,14 @@ two_words t u ts ws is words = cut ws (subst (λ (l : List Ty). AreWordsOf l ws)
 
 -- ---- a switch
 
-chosen_in : (width : Width) (word : ℕ) (cases targets : List ℕ) → length targets ≡ length cases + 1 → (block : ℕ) × (chosen width word cases targets ≡ Some block) × Contains targets block
+chosen_in : (width : Width) (word : ℕ) (cases targets : List ℕ) → length targets ≡ length cases + 1
+    → (block : ℕ) × (chosen width word cases targets ≡ Some block) × Contains targets block
 chosen_in width word cases [] count = absurd (omega arith)
 chosen_in width word [] (target ∷ targets) count = (target, refl, contains_head target targets)
 chosen_in width word (case ∷ cases) (target ∷ targets) count = pick (chosen_in width word cases targets (omega arith)) (nat_eq (low width case) word)
   where
-    pick : ((block : ℕ) × (chosen width word cases targets ≡ Some block) × Contains targets block) → (b : Bool) → (block : ℕ) × ((if b then Some target else chosen width word cases targets) ≡ Some block) × Contains (target ∷ targets) block
+    pick : ((block : ℕ) × (chosen width word cases targets ≡ Some block) × Contains targets block) → (b : Bool)
+        → (block : ℕ) × ((if b then Some target else chosen width word cases targets) ≡ Some block) × Contains (target ∷ targets) block
     pick rest true = (target, refl, contains_head target targets)
     pick rest false = (rest.0, rest.1, contains_tail target targets rest.0 rest.2)
 
@@ -153,7 +156,8 @@ chosen_in width word (case ∷ cases) (target ∷ targets) count = pick (chosen_
 
 module _ (p : Procedure) (st : State) (v : Value) (ws : List ℕ) (ranged : IsRangedState p st) (own : type_of p v.id ≡ v.ty) where
   -- a word for the value, in a state with the same words
-  gave : (role : Role) (base : State) → base.words ≡ st.words → IsRangedState p base → (word : ℕ) → IsIn v.ty word → (role ≡ Constant → (k : ℕ) → v.body ≡ body.Constant k → word ≡ k)
+  gave : (role : Role) (base : State) → base.words ≡ st.words → IsRangedState p base → (word : ℕ) → IsIn v.ty word
+      → (role ≡ Constant → (k : ℕ) → v.body ≡ body.Constant k → word ≡ k)
       → (role ≡ Pure → result v.kind.opcode v.kind.chill v.ty ws (map (type_of p) v.children) ≡ Gives word) → Goes role p st v ws (with_word base v.id word)
   gave role base same in_range word small constant pure = record {
     others = λ q differ. word_there base v.id word q differ ∙ ap (λ (f : ℕ → Option ℕ). f q) same;
@@ -178,7 +182,8 @@ module _ (p : Procedure) (st : State) (v : Value) (ws : List ℕ) (ranged : IsRa
     ranged = in_range;
   }
 
-  gives_fits : (role : Role) (outcome : Outcome) → is_ending role ≡ false → IsBelow (limit_of (width_of v.ty)) outcome → (role ≡ Constant → (k : ℕ) → v.body ≡ body.Constant k → outcome ≡ Gives k)
+  gives_fits : (role : Role) (outcome : Outcome) → is_ending role ≡ false → IsBelow (limit_of (width_of v.ty)) outcome
+      → (role ≡ Constant → (k : ℕ) → v.body ≡ body.Constant k → outcome ≡ Gives k)
       → (role ≡ Pure → result v.kind.opcode v.kind.chill v.ty ws (map (type_of p) v.children) ≡ outcome) → IsEffectOf role p st v ws (gives st v.id outcome)
   gives_fits role (Gives word) goes below constant pure =
       (goes, gave role st refl ranged word below (λ is k e. gives_same word k (constant is k e)) pure)
@@ -186,7 +191,8 @@ module _ (p : Procedure) (st : State) (v : Value) (ws : List ℕ) (ranged : IsRa
   gives_fits role Misfits goes below constant pure = below
 
   -- a value that is neither a constant nor pure
-  gives_other : (role : Role) (outcome : Outcome) → is_ending role ≡ false → role ≢ Constant → role ≢ Pure → IsBelow (limit_of (width_of v.ty)) outcome → IsEffectOf role p st v ws (gives st v.id outcome)
+  gives_other : (role : Role) (outcome : Outcome) → is_ending role ≡ false → role ≢ Constant → role ≢ Pure → IsBelow (limit_of (width_of v.ty)) outcome
+      → IsEffectOf role p st v ws (gives st v.id outcome)
   gives_other role outcome goes no_constant no_pure below = gives_fits role outcome goes below (λ is k e. absurd (no_constant is)) (λ is. absurd (no_pure is))
 
   -- ---- Phis
@@ -195,22 +201,32 @@ module _ (p : Procedure) (st : State) (v : Value) (ws : List ℕ) (ranged : IsRa
   sets_fit ts (body.Target phi) void (t, is) target (w, named, phi_is, types) words =
       let same : type_of p phi ≡ w.ty = ap type_or_void named in
       let one = one_word w.ty ts ws types words in
-      subst (λ (l : List ℕ). IsEffectOf SetPhi p st v ws (sets st (body.Target phi) l)) (sym one.1)
-      (refl, kept SetPhi (with_location st phi one.0) refl
-      (record { words = ranged.words; locations = put_ranged p st.locations phi one.0 (subst (λ (u : Ty). IsIn u one.0) (sym same) one.2) ranged.locations; memory = ranged.memory; answers = ranged.answers })
-      void (λ e. cc) (λ e. cc))
+      subst (λ (l : List ℕ). IsEffectOf SetPhi p st v ws (sets st (body.Target phi) l)) (sym one.1) (
+        refl,
+        kept SetPhi (with_location st phi one.0) refl
+            (record {
+              words = ranged.words;
+              locations = put_ranged p st.locations phi one.0
+                  (subst (λ (u : Ty). IsIn u one.0) (sym same) one.2) ranged.locations;
+              memory = ranged.memory;
+              answers = ranged.answers;
+            })
+            void (λ e. cc) (λ e. cc),
+      )
   sets_fit ts _ void one target suits words = absurd target
 
   -- ---- accesses
 
   accesses_fit : (role : Role) (private mapped traps : Bool) (address : ℕ) (done : Effect) → (mapped ≡ true → IsEffectOf role p st v ws done)
-      → IsEffectOf role p st v ws (accesses st v.id (if private then Refused PrivateByte else if mapped then Done else if traps then Trap address else Refused UnmappedByte) done)
+      → IsEffectOf role p st v ws
+      (accesses st v.id (if private then Refused PrivateByte else if mapped then Done else if traps then Trap address else Refused UnmappedByte) done)
   accesses_fit role true mapped traps address done fits = tt
   accesses_fit role false true traps address done fits = fits refl
   accesses_fit role false false true address done fits = tt
   accesses_fit role false false false address done fits = tt
 
-  loads_fit : (start : Start) (extent : Extent) (extends : Bool) (ts : List Ty) (b : Body) → IsOne ts → IsOffset b → 8 * extent_bytes extent v.ty ≤ bits (width_of v.ty) → AreWordsOf ts ws
+  loads_fit : (start : Start) (extent : Extent) (extends : Bool) (ts : List Ty) (b : Body) → IsOne ts → IsOffset b
+      → 8 * extent_bytes extent v.ty ≤ bits (width_of v.ty) → AreWordsOf ts ws
       → IsEffectOf (Load extent extends) p st v ws (loads start st v extent extends b ws)
   loads_fit start extent extends ts (body.Offset offset) (t, is) in_range narrow words =
       let one = one_word t ts ws is words in
@@ -224,7 +240,8 @@ module _ (p : Procedure) (st : State) (v : Value) (ws : List ℕ) (ranged : IsRa
       (read_word-lt st.memory address bytes ranged.memory) narrow)))
   loads_fit start extent extends ts _ one in_range narrow words = absurd in_range
 
-  stores_fit : (start : Start) (extent : Extent) (ts : List Ty) (b : Body) → v.ty ≡ Void → ((t : Ty) × (u : Ty) × (ts ≡ t ∷ u ∷ [])) → IsOffset b → AreWordsOf ts ws
+  stores_fit : (start : Start) (extent : Extent) (ts : List Ty) (b : Body) → v.ty ≡ Void → ((t : Ty) × (u : Ty) × (ts ≡ t ∷ u ∷ [])) → IsOffset b
+      → AreWordsOf ts ws
       → IsEffectOf (Store extent) p st v ws (stores start st v extent b ts ws)
   stores_fit start extent ts (body.Offset offset) void (t, u, is) in_range words =
       let two = two_words t u ts ws is words in
@@ -233,9 +250,17 @@ module _ (p : Procedure) (st : State) (v : Value) (ws : List ℕ) (ranged : IsRa
       subst (λ (l : List ℕ). IsEffectOf (Store extent) p st v ws (stores start st v extent (body.Offset offset) ts l)) (sym two.2)
       (subst (λ (l : List Ty). IsEffectOf (Store extent) p st v ws (stores start st v extent (body.Offset offset) l (two.0 ∷ two.1 ∷ []))) (sym is)
       (accesses_fit (Store extent) (touches_private start address bytes) (is_mapped st.memory address bytes) v.kind.traps address _
-      (λ mapped. (refl, kept (Store extent) _ refl
-      (record { words = ranged.words; locations = ranged.locations; memory = write_word-AreBytes st.memory address bytes two.0 ranged.memory; answers = ranged.answers })
-      void (λ e. cc) (λ e. cc)))))
+      (λ mapped. (
+        refl,
+        kept (Store extent) _ refl
+            (record {
+              words = ranged.words;
+              locations = ranged.locations;
+              memory = write_word-AreBytes st.memory address bytes two.0 ranged.memory;
+              answers = ranged.answers;
+            })
+            void (λ e. cc) (λ e. cc),
+      ))))
   stores_fit start extent ts _ void two in_range words = absurd in_range
 
   -- ---- calls
@@ -255,12 +280,20 @@ module _ (p : Procedure) (st : State) (v : Value) (ws : List ℕ) (ranged : IsRa
   answers_fit role goes no_constant no_pure events [] all = tt
   answers_fit role goes no_constant no_pure events (Leave ∷ rest) all = tt
   answers_fit role goes no_constant no_pure events (Give value writes ∷ rest) all =
-      let head = All-head IsRangedAnswer (Give value writes) rest all in
-      (goes, answered role no_constant no_pure _ refl
-      (record { words = ranged.words; locations = ranged.locations; memory = writes_bytes st.memory writes ranged.memory head.1; answers = All-tail IsRangedAnswer (Give value writes) rest all })
-      value v.ty refl)
+      let head = All-head IsRangedAnswer (Give value writes) rest all in (
+        goes,
+        answered role no_constant no_pure _ refl
+            (record {
+              words = ranged.words;
+              locations = ranged.locations;
+              memory = writes_bytes st.memory writes ranged.memory head.1;
+              answers = All-tail IsRangedAnswer (Give value writes) rest all;
+            })
+            value v.ty refl,
+      )
 
-  either_effect : (role : Role) (b : Bool) (x y : Effect) → IsEffectOf role p st v ws x → IsEffectOf role p st v ws y → IsEffectOf role p st v ws (if b then x else y)
+  either_effect : (role : Role) (b : Bool) (x y : Effect) → IsEffectOf role p st v ws x → IsEffectOf role p st v ws y
+      → IsEffectOf role p st v ws (if b then x else y)
   either_effect role true x y first second = first
   either_effect role false x y first second = second
 
@@ -286,9 +319,13 @@ module _ (p : Procedure) (st : State) (v : Value) (ws : List ℕ) (ranged : IsRa
   checked_fits : (kind : Checked) (number : ℤ) (reported : List ℕ) → IsEffectOf (CheckedResult kind) p st v ws (checked st v number reported)
   checked_fits kind number reported = pick (is_signed (width_of v.ty) number) refl
     where
-      pick : (b : Bool) → is_signed (width_of v.ty) number ≡ b → IsEffectOf (CheckedResult kind) p st v ws (if b then Next (with_word st v.id (unsigned (width_of v.ty) number)) else ends st (Exited v.id reported))
-      pick true e = (refl, gave (CheckedResult kind) st refl ranged (unsigned (width_of v.ty) number) (unsigned_in (width_of v.ty) number (signed_up (width_of v.ty) number e))
-          (λ is k f. absurd (cc)) (λ is. absurd (cc)))
+      pick : (b : Bool) → is_signed (width_of v.ty) number ≡ b
+          → IsEffectOf (CheckedResult kind) p st v ws (if b then Next (with_word st v.id (unsigned (width_of v.ty) number)) else ends st (Exited v.id reported))
+      pick true e = (
+        refl,
+        gave (CheckedResult kind) st refl ranged (unsigned (width_of v.ty) number) (unsigned_in (width_of v.ty) number (signed_up (width_of v.ty) number e))
+            (λ is k f. absurd (cc)) (λ is. absurd (cc)),
+      )
       pick false e = tt
 
   checks_result_fit : (kind : Checked) (ts : List Ty) → ((t : Ty) × (u : Ty) × (more : List Ty) × (ts ≡ t ∷ u ∷ more)) → AreWordsOf ts ws
@@ -344,21 +381,25 @@ module _ (p : Procedure) (st : State) (v : Value) (ws : List ℕ) (ranged : IsRa
 
   -- ---- by the role
 
-  pub by_role : (role : Role) (start : Start) (ts : List Ty) → IsRangedStart start → length start.slots ≡ length p.slots → ts ≡ map (type_of p) v.children → IsRow role v.ty ts v.body
-      → SuitsPhi p ts v.body → NamesSlot p v.body → AreWordsOf ts ws → (role ≡ Pure → IsBelow (limit_of (width_of v.ty)) (result v.kind.opcode v.kind.chill v.ty ws ts))
+  pub by_role : (role : Role) (start : Start) (ts : List Ty) → IsRangedStart start → length start.slots ≡ length p.slots → ts ≡ map (type_of p) v.children
+      → IsRow role v.ty ts v.body
+      → SuitsPhi p ts v.body → NamesSlot p v.body → AreWordsOf ts ws
+      → (role ≡ Pure → IsBelow (limit_of (width_of v.ty)) (result v.kind.opcode v.kind.chill v.ty ws ts))
       → IsEffectOf role p st v ws (effect_by role start st v ts ws)
   by_role Skip start ts fine slots are row suits slot words below = (refl, kept Skip st refl ranged row (λ e. cc) (λ e. cc))
   by_role Constant start ts fine slots are row suits slot words below =
       gives_fits Constant (constant_of v.body) refl (constant_below (limit_of (width_of v.ty)) v.body row) (λ is k e. ap constant_of e) (λ is. absurd (cc))
   by_role Argument start ts fine slots are row suits slot words below =
-      gives_other Argument (argument_of start v.body) refl (λ e. cc) (λ e. cc) (below_typed v.ty Int64 (argument_of start v.body) row.0 (argument_below start fine v.body row.1))
+      gives_other Argument (argument_of start v.body) refl (λ e. cc) (λ e. cc)
+      (below_typed v.ty Int64 (argument_of start v.body) row.0 (argument_below start fine v.body row.1))
   by_role Frame start ts fine slots are row suits slot words below =
       gives_other Frame (Gives start.frame_pointer) refl (λ e. cc) (λ e. cc) (below_typed v.ty Int64 (Gives start.frame_pointer) row fine.frame_pointer)
   by_role SlotAddress start ts fine slots are row suits slot words below =
       gives_other SlotAddress (slot_of start v.body) refl (λ e. cc) (λ e. cc)
       (below_typed v.ty Int64 (slot_of start v.body) row.0 (slot_below start fine p slots v.body row.1 slot))
   by_role Pure start ts fine slots are row suits slot words below =
-      gives_fits Pure (result v.kind.opcode v.kind.chill v.ty ws ts) refl (below refl) (λ is k e. absurd (cc)) (λ is. ap (result v.kind.opcode v.kind.chill v.ty ws) (sym are))
+      gives_fits Pure (result v.kind.opcode v.kind.chill v.ty ws ts) refl (below refl) (λ is k e. absurd (cc))
+      (λ is. ap (result v.kind.opcode v.kind.chill v.ty ws) (sym are))
   by_role SetPhi start ts fine slots are row suits slot words below = sets_fit ts v.body row.0 row.1 row.2 suits words
   by_role GetPhi start ts fine slots are row suits slot words below =
       gives_other GetPhi (loaded_phi (st.locations v.id)) refl (λ e. cc) (λ e. cc)

@@ -1,10 +1,10 @@
 -- No public clause cites this module. A procedure that is valid; one that breaks the rule on uses alone, and whose run is malformed; and
 -- starts out of range, from which runs of valid values are malformed.
-use Rattle.std.proofs.Common.{◌≡◌, ◌≢◌, ℕ, zero, suc, ◌+◌, ◌^◌, ◌<◌, ◌⊎◌, inl, inr, Bool, true, false, List, [], ◌∷◌, Option, Some, None, length, refl, sym, ap, ◌∙◌, subst, arith, nat_eq}
-use Rattle.std.specs.Prelude.{All, Contains, codes, if◌then◌else◌, pos, slice_get}
+use Rattle.std.proofs.Common.{◌≡◌, ◌≢◌, ℕ, zero, suc, ◌^◌, inl, inr, true, false, List, [], ◌∷◌, Some, refl, ap, subst, arith}
+use Rattle.std.specs.Prelude.{All, codes, pos, slice_get}
 use Rattle.std.proofs.lemmas.List.Elements.{All-nil, All-cons, All-head}
 use Rattle.b3_base.specs.Memory.{is_mapped, read_word}
-use Rattle.b3_base.specs.Observed.{Memory, Start, no_memory}
+use Rattle.b3_base.specs.Observed.{Give, Memory, Start, no_memory}
 use Rattle.b3_base.specs.Run.{iterate}
 use Rattle.b3_base.specs.declared.observation.Status.TheVariants.{Returned}
 use Rattle.b3_ir.specs.Fits.{Fits}
@@ -86,19 +86,28 @@ ten_runs start = refl
 -- ---- what may be out of range
 
 -- an argument that is no word
-wide_argument : run_of (procedure_of [] (value_of 0 Int64 op.ArgumentReg [] (Argument (record { 0 = 0 })) ∷ return_of 1 0 ∷ [])) (start_of (2 ^ 64) [] no_memory) [] 1 ≡ Lost Malformed
+wide_argument : run_of (procedure_of [] (value_of 0 Int64 op.ArgumentReg [] (Argument (record { 0 = 0 })) ∷ return_of 1 0 ∷ []))
+    (start_of (2 ^ 64) [] no_memory) [] 1 ≡ Lost Malformed
 unfolding iterate
 wide_argument = refl
 
 -- a slot without an address
-no_address : run_of (procedure_of (record { number = 0; bytes = 8; line = 0 } ∷ []) (value_of 0 Int64 op.SlotBase [] (Slot 0) ∷ return_of 1 0 ∷ [])) (start_of 0 [] no_memory) [] 1 ≡ Lost Malformed
+no_address : run_of (procedure_of (record { number = 0; bytes = 8; line = 0 } ∷ []) (value_of 0 Int64 op.SlotBase [] (Slot 0) ∷ return_of 1 0 ∷ []))
+    (start_of 0 [] no_memory) [] 1 ≡ Lost Malformed
 unfolding iterate
 no_address = refl
 
 -- memory that holds more than bytes
-wide_byte : run_of (procedure_of [] (constant 0 0 ∷ value_of 1 Int64 op.Load (0 ∷ []) (Offset (pos 0)) ∷ return_of 2 1 ∷ [])) (start_of 0 [] (λ q. Some (2 ^ 64))) [] 1 ≡ Lost Malformed
+wide_byte : run_of (procedure_of [] (constant 0 0 ∷ value_of 1 Int64 op.Load (0 ∷ []) (Offset (pos 0)) ∷ return_of 2 1 ∷ []))
+    (start_of 0 [] (λ q. Some (2 ^ 64))) [] 1 ≡ Lost Malformed
 unfolding iterate is_mapped read_word
 wide_byte = refl
+
+-- an answer that writes more than bytes
+wide_write : run_of (procedure_of [] (constant 0 0 ∷ value_of 1 Void op.CCall (0 ∷ []) Plain ∷ value_of 2 Int64 op.Load (0 ∷ []) (Offset (pos 0)) ∷ return_of 3 2 ∷ []))
+    (start_of 0 [] (λ q. Some 0)) (Give 0 (λ q. Some (2 ^ 64)) ∷ []) 1 ≡ Lost Malformed
+unfolding iterate is_mapped read_word
+wide_write = refl
 
 -- ---- both keep the other rules
 
@@ -211,7 +220,8 @@ module _ (v w u : Value) where
   each_of P first second third (suc zero) m x at = absurd (cc)
   each_of P first second third (suc (suc c)) m x at = absurd (cc)
 
-  parts_keep : (r : Rule) → ((c m : ℕ) (x : Value) → StandsAt three_in c m x → ValueKeeps r three_in c m x) → (part : Part) → IsPartOf three_in part → Keeps r three_in part
+  parts_keep : (r : Rule) → ((c m : ℕ) (x : Value) → StandsAt three_in c m x → ValueKeeps r three_in c m x) → (part : Part) → IsPartOf three_in part
+      → Keeps r three_in part
   parts_keep r values Header is = header_keeps r
   parts_keep r values (SlotAt place slot) is = absurd (cc)
   parts_keep r values (HeadingAt zero block) is =
@@ -246,7 +256,8 @@ module _ (v w u : Value) where
   valid_where keeps covers rule.RegisterDemand part is = keeps rule.RegisterDemand part (λ e. cc) is
   valid_where keeps covers rule.Sizes part is = keeps rule.Sizes part (λ e. cc) is
 
-placed_three : (values : List Value) (v w u : Value) → values ≡ v ∷ w ∷ u ∷ [] → v.id ≡ 0 → w.id ≡ 1 → u.id ≡ 2 → (m : ℕ) (x : Value) → slice_get values m ≡ Some x → x.id ≡ m
+placed_three : (values : List Value) (v w u : Value) → values ≡ v ∷ w ∷ u ∷ [] → v.id ≡ 0 → w.id ≡ 1 → u.id ≡ 2 → (m : ℕ) (x : Value)
+    → slice_get values m ≡ Some x → x.id ≡ m
 placed_three values v w u is first second third m x at =
     (each_of v w u (λ c n y. y.id ≡ n) first second third 0 m x (subst (λ (l : List Value). slice_get l m ≡ Some x) is at))
 
@@ -351,7 +362,8 @@ ten_covers : CoversAll ten
 ten_covers = each_of (constant 0 5) (sum 1 0 0) (return_of 2 1) (λ c m x. CoversUses ten c m x)
     (All-nil _)
     (All-cons (IsCoveredAt ten 0 1) 0 (0 ∷ []) zeroth (All-cons (IsCoveredAt ten 0 1) 0 [] zeroth (All-nil _)))
-    (All-cons (IsCoveredAt ten 0 2) 1 [] (λ passed path. (sum 1 0 0, refl, inl (contains_tail (constant 0 5) (sum 1 0 0 ∷ []) (sum 1 0 0) (contains_head (sum 1 0 0) [])))) (All-nil _))
+    (All-cons (IsCoveredAt ten 0 2) 1 []
+    (λ passed path. (sum 1 0 0, refl, inl (contains_tail (constant 0 5) (sum 1 0 0 ∷ []) (sum 1 0 0) (contains_head (sum 1 0 0) [])))) (All-nil _))
   where
     zeroth : IsCoveredAt ten 0 1 0
     zeroth passed path = (constant 0 5, refl, inl (contains_head (constant 0 5) []))
@@ -370,7 +382,8 @@ fits_return = record { body = tt; chill = refl; traps = refl }
 
 ten_fits : AllFit ten.blocks
 ten_fits = All-cons (λ (b : Block). All Fits b.values) _ []
-    (All-cons Fits (constant 0 5) (sum 1 0 0 ∷ return_of 2 1 ∷ []) fits_five (All-cons Fits (sum 1 0 0) (return_of 2 1 ∷ []) fits_sum (All-cons Fits (return_of 2 1) [] fits_return (All-nil Fits)))) (All-nil _)
+    (All-cons Fits (constant 0 5) (sum 1 0 0 ∷ return_of 2 1 ∷ []) fits_five
+    (All-cons Fits (sum 1 0 0) (return_of 2 1 ∷ []) fits_sum (All-cons Fits (return_of 2 1) [] fits_return (All-nil Fits)))) (All-nil _)
 
 -- so the laws speak of it
 ten_is_never_malformed : NeverMalformed ten

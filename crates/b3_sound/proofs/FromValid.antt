@@ -1,9 +1,9 @@
 -- A valid procedure keeps the rules that a run needs.
-use Rattle.std.proofs.Common.{◌≡◌, ◌≢◌, ℕ, zero, suc, ◌+◌, ◌<◌, ◌≤◌, ◌⊎◌, inl, inr, Bool, true, false, List, [], ◌∷◌, ◌++◌, length, take, Option, Some, None, slice_index_or, refl, sym, ap, ◌∙◌, subst, arith, ⊎_elim}
+use Rattle.std.proofs.Common.{◌≡◌, ℕ, suc, ◌+◌, ◌<◌, ◌≤◌, inl, inr, Bool, true, false, List, [], ◌∷◌, ◌++◌, length, take, Some, slice_index_or, refl, sym, ap, ◌∙◌, subst, arith, ⊎_elim}
 use Rattle.std.specs.Prelude.{All, Contains, slice_get}
 use Rattle.std.proofs.Math.Seq.{take-append_seam}
 use Rattle.std.proofs.lemmas.Bool.{cases_lt}
-use Rattle.std.proofs.lemmas.List.Elements.{All-contains, All-get_or, All-same, All-weaker}
+use Rattle.std.proofs.lemmas.List.Elements.{All-contains, All-get_or, All-weaker}
 use Rattle.std.proofs.lemmas.Option.{slice_get-get_or, slice_get_within}
 use Rattle.std.proofs.lemmas.List.{get_or_past}
 use Rattle.b3_ir.specs.Fits.{Fits}
@@ -13,7 +13,7 @@ use Rattle.b3_ir.specs.declared.value.Body.{Body}
 use Rattle.b3_ir.specs.declared.value.Body.TheVariants.{Slot}
 use Rattle.b3_ir.specs.declared.value.Value.{Value}
 use Rattle.b3_rules.specs.Paths.{IsCovered, successors_in}
-use Rattle.b3_rules.specs.Rules.{HasNewId, IsBlockNumber, KnowsSlot, IsEarlier}
+use Rattle.b3_rules.specs.Rules.{HasNewId, IsBlockNumber, KnowsSlot}
 use Rattle.b3_rules.specs.Valid.{Header, HeadingAt, IsValidProcedure, SlotAt, ValueAt}
 use Rattle.b3_rules.specs.declared.rule.Rule.TheVariants as rule
 use Rattle.b3_sound.specs.Laws.{StandsAfter}
@@ -39,8 +39,11 @@ ends_of : (vs : List Value) → 0 < length vs → ((j : ℕ) (v : Value) → sli
     → ((j : ℕ) (v : Value) → slice_get vs j ≡ Some v → is_terminal v.kind.opcode ≡ true → j + 1 ≡ length vs) → EndsBlock vs
 ends_of [] some last ends = absurd (omega arith)
 ends_of (v ∷ []) some last ends = last 0 v refl (omega arith)
-ends_of (v ∷ w ∷ vs) some last ends = (first (is_terminal v.kind.opcode) refl, ends_of (w ∷ vs) (omega arith) (λ j u at e. last (suc j) u at (omega (arith, e))) (λ j u at
-    is. let e = ends (suc j) u at is in omega (arith, e)))
+ends_of (v ∷ w ∷ vs) some last ends = (
+  first (is_terminal v.kind.opcode) refl,
+  ends_of (w ∷ vs) (omega arith) (λ j u at e. last (suc j) u at (omega (arith, e))) (λ j u at
+      is. let e = ends (suc j) u at is in omega (arith, e)),
+)
   where
     first : (b : Bool) → is_terminal v.kind.opcode ≡ b → is_terminal v.kind.opcode ≡ false
     first false e = e
@@ -63,13 +66,16 @@ module _ (p : Procedure) (valid : IsValidProcedure p) (fit : AllFit p.blocks) wh
       (λ (lt : b < c). absurd (new_id c m w at_w b j v at_v (inl lt) e))
       (λ (ge : c ≤ b). ⊎_elim
       (λ (lt : c < b). absurd (new_id b j v at_v c m w at_w (inl lt) (sym e)))
-      (λ (le : b ≤ c). let blocks : b ≡ c = omega arith in (blocks, ⊎_elim
-      (λ (lt : j < m). absurd (new_id c m w at_w b j v at_v (inr (blocks, lt)) e))
-      (λ (ge_j : m ≤ j). ⊎_elim
-      (λ (lt : m < j). absurd (new_id b j v at_v c m w at_w (inr (sym blocks, lt)) (sym e)))
-      (λ (le_j : j ≤ m). let places : j ≡ m = omega arith in places)
-      (cases_lt m j))
-      (cases_lt j m)))
+      (λ (le : b ≤ c). let blocks : b ≡ c = omega arith in (
+        blocks,
+        ⊎_elim
+            (λ (lt : j < m). absurd (new_id c m w at_w b j v at_v (inr (blocks, lt)) e))
+            (λ (ge_j : m ≤ j). ⊎_elim
+            (λ (lt : m < j). absurd (new_id b j v at_v c m w at_w (inr (sym blocks, lt)) (sym e)))
+            (λ (le_j : j ≤ m). let places : j ≡ m = omega arith in places)
+            (cases_lt m j))
+            (cases_lt j m),
+      ))
       (cases_lt c b))
       (cases_lt b c)
 
@@ -110,7 +116,8 @@ module _ (p : Procedure) (valid : IsValidProcedure p) (fit : AllFit p.blocks) wh
         slot = slot_named v.body (valid rule.KnownSlots (ValueAt b (length before) v) place);
         successors = All-weaker (IsBlockNumber p) (λ next. next < length p.blocks) block_place (successors_in v.body)
             (valid rule.Successors (ValueAt b (length before) v) place);
-        covered = subst (λ (front : List Value). All (IsCovered p b front) v.children) (front p b before v at) (valid rule.Uses (ValueAt b (length before) v) place);
+        covered = subst (λ (early : List Value). All (IsCovered p b early) v.children) (front p b before v at)
+            (valid rule.Uses (ValueAt b (length before) v) place);
       }
 
   pub is_kept : IsKept p

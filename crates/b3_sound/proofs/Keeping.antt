@@ -1,5 +1,5 @@
 -- A value that leads to the next one, or to another block, keeps what holds along the run.
-use Rattle.std.proofs.Common.{◌≡◌, ◌≢◌, ℕ, ◌^◌, ◌⊎◌, inl, inr, List, [], ◌∷◌, ◌++◌, map, true, false, Option, Some, None, length, refl, sym, ap, ◌∙◌, subst, rules, ⊎_elim}
+use Rattle.std.proofs.Common.{◌≡◌, ◌≢◌, ℕ, ◌^◌, ◌⊎◌, inl, inr, List, [], ◌∷◌, ◌++◌, map, true, Option, Some, None, length, refl, sym, ap, ◌∙◌, subst, rules, ⊎_elim}
 use Rattle.std.specs.Prelude.{Contains, IsSome}
 use Rattle.std.proofs.lemmas.Bool.{cases_eq, lt-ltb}
 use Rattle.std.proofs.lemmas.List.{append-nil, append_assoc}
@@ -10,18 +10,16 @@ use Rattle.b3_base.specs.Word.{bits}
 use Rattle.b3_ir.proofs.Typing.{allowed}
 use Rattle.b3_ir.specs.Naming.{type_of}
 use Rattle.b3_ir.specs.Procedure.{Procedure, values_of}
-use Rattle.b3_ir.specs.Table.{is_terminal}
 use Rattle.b3_ir.specs.Types.{width_of}
 use Rattle.b3_ir.specs.declared.opcode.Ty.{Ty}
 use Rattle.b3_ir.specs.declared.opcode.Ty.TheVariants.{Void}
-use Rattle.b3_ir.specs.declared.value.Body.TheVariants as body
 use Rattle.b3_ir.specs.declared.value.Value.{Value}
 use Rattle.b3_ir.specs.Fits.{reported_count}
-use Rattle.b3_meaning.specs.Opcodes.{AreWordsOf, Gives, result}
+use Rattle.b3_meaning.specs.Opcodes.{AreWordsOf}
 use Rattle.b3_meaning.specs.Roles.{role_of}
 use Rattle.b3_meaning.specs.Run.{State, and_word, effect, effect_on, word_in, words_of}
 use Rattle.b3_meaning.specs.declared.role.Role.{Role}
-use Rattle.b3_meaning.specs.declared.role.Role.TheVariants.{Constant, Pure}
+use Rattle.b3_meaning.specs.declared.role.Role.TheVariants.{Constant}
 use Rattle.b3_rules.specs.Paths.{HasRun, IsCovered, successors_in}
 use Rattle.b3_rules.specs.Rules.{types_of}
 use Rattle.b3_sound.specs.Laws.{HasResult, HasWord, IsRangedState, StandsAfter}
@@ -32,14 +30,15 @@ use Rattle.b3_sound.proofs.Kept.{IsKept}
 use Rattle.b3_sound.proofs.Lists.{contains_none, contains_head, contains_tail, contains_cases, contains_middle, contains_split, not_longer}
 use Rattle.b3_sound.proofs.Reached.{IsReached}
 use Rattle.b3_sound.proofs.Results.{IsIn, result_fits}
-use Rattle.b3_sound.proofs.Rows.{child_typed, ending_void, is_ending, row_by_role, terminal_ends}
+use Rattle.b3_sound.proofs.Rows.{child_typed, ending_void, is_ending, row_by_role}
 
 -- ---- where values stand
 pub in_block : (p : Procedure) (b : ℕ) (before : List Value) (v : Value) → StandsAfter p b before v → Contains (values_of p b) v
 in_block p b before v at = subst (λ l. Contains l v) (sym at.1) (contains_middle before at.0 v)
 
 -- what has run stands in a block
-pub ran_in_block : (p : Procedure) (b : ℕ) (passed : List ℕ) (before rest : List Value) → values_of p b ≡ before ++ rest → (v : Value) → HasRun p passed before v → (c : ℕ) × Contains (values_of p c) v
+pub ran_in_block : (p : Procedure) (b : ℕ) (passed : List ℕ) (before rest : List Value) → values_of p b ≡ before ++ rest → (v : Value)
+    → HasRun p passed before v → (c : ℕ) × Contains (values_of p c) v
 ran_in_block p b passed before rest is v (inl here) = (b, subst (λ l. Contains l v) (sym is) (Contains-append_left before rest v here))
 ran_in_block p b passed before rest is v (inr there) = (there.0, there.2)
 
@@ -62,9 +61,12 @@ words_some types words [] each = ([], refl, tt)
 words_some types words (i ∷ ids) each =
     let rest = words_some types words ids (λ q has. each q (contains_tail i ids q has)) in
     let here = each i (contains_head i ids) in
-    let fits : word_in (width_of (types i)) (Some here.0) ≡ Some here.0 = rw (lt-ltb here.0 (2 ^ bits (width_of (types i))) here.2) refl in
-    (here.0 ∷ rest.0, ap (λ o. and_word (word_in (width_of (types i)) o) (words_of types words ids)) here.1
-    ∙ ap (λ o. and_word o (words_of types words ids)) fits ∙ ap (and_word (Some here.0)) rest.1, (here.2, rest.2))
+    let fits : word_in (width_of (types i)) (Some here.0) ≡ Some here.0 = rw (lt-ltb here.0 (2 ^ bits (width_of (types i))) here.2) refl in (
+      here.0 ∷ rest.0,
+      ap (λ o. and_word (word_in (width_of (types i)) o) (words_of types words ids)) here.1
+          ∙ ap (λ o. and_word o (words_of types words ids)) fits ∙ ap (and_word (Some here.0)) rest.1,
+      (here.2, rest.2),
+    )
 
 -- a word that is there is one of its type
 pub word_of : (p : Procedure) (st : State) → IsRangedState p st → (id : ℕ) → IsSome (st.words id) → HasWord p st id
@@ -87,17 +89,20 @@ child_has_word p valid b passed before st v reached at i has =
     (word_of p st reached.ranged (d.0).id (reached.words d.0 d.2 (λ void. typed (ap (type_of p) (sym d.1) ∙ same_type ∙ void))))
 
 -- ---- what a value leads to
-module _ (p : Procedure) (valid : IsKept p) (b : ℕ) (passed : List ℕ) (before : List Value) (st : State) (v : Value) (at : StandsAfter p b before v) (reached : IsReached p passed b before st) where
+module _ (p : Procedure) (valid : IsKept p) (b : ℕ) (passed : List ℕ) (before : List Value) (st : State) (v : Value) (at : StandsAfter p b before v)
+    (reached : IsReached p passed b before st) where
   pub child_words : (ws : List ℕ) × (words_of (type_of p) st.words v.children ≡ Some ws) × AreWordsOf (map (type_of p) v.children) ws
   child_words = words_some (type_of p) st.words v.children (λ i has. child_has_word p valid b passed before st v reached at i has)
 
-  pub reached_effect : (start : Start) → IsRangedStart start → length start.slots ≡ length p.slots → IsEffectOf (role_of v.kind.opcode) p st v child_words.0 (effect (type_of p) start st v)
+  pub reached_effect : (start : Start) → IsRangedStart start → length start.slots ≡ length p.slots
+      → IsEffectOf (role_of v.kind.opcode) p st v child_words.0 (effect (type_of p) start st v)
   reached_effect start fine slots =
       let rules_here = valid.rules b before v at in
       let allows = allowed v.kind.opcode v.ty (types_of p v) rules_here.typed in
       let all : effect (type_of p) start st v ≡ effect_on (type_of p) start st v (words_of (type_of p) st.words v.children) = rw rules_here.typed refl in
       subst (λ e. IsEffectOf (role_of v.kind.opcode) p st v child_words.0 e) (sym (all ∙ ap (effect_on (type_of p) start st v) child_words.1))
-      (by_role p st v child_words.0 reached.ranged (type_of_value p valid.distinct b v (in_block p b before v at)) (role_of v.kind.opcode) start (types_of p v) fine slots refl
+      (by_role p st v child_words.0 reached.ranged (type_of_value p valid.distinct b v (in_block p b before v at)) (role_of v.kind.opcode) start
+      (types_of p v) fine slots refl
       (row_by_role v.kind.opcode v.ty (types_of p v) (reported_count v) v.body allows rules_here.fits.body) rules_here.phi rules_here.slot child_words.2
       (λ pure. result_fits v.kind.opcode v.kind.chill v.ty child_words.0 (types_of p v) pure allows child_words.2))
 
@@ -182,7 +187,8 @@ module _ (p : Procedure) (valid : IsKept p) (b : ℕ) (passed : List ℕ) (befor
   void_at_end ends =
       let rules_here = valid.rules b before v at in
       ending_void (role_of v.kind.opcode) v.ty (types_of p v) v.body
-      (row_by_role v.kind.opcode v.ty (types_of p v) (reported_count v) v.body (allowed v.kind.opcode v.ty (types_of p v) rules_here.typed) rules_here.fits.body) ends
+      (row_by_role v.kind.opcode v.ty (types_of p v) (reported_count v) v.body
+      (allowed v.kind.opcode v.ty (types_of p v) rules_here.typed) rules_here.fits.body) ends
 
   ends_no_constant : (role : Role) → role ≡ Constant → is_ending role ≡ true → ⊥
   ends_no_constant role is ends = let no : is_ending Constant ≡ true = ap is_ending (sym is) ∙ ends in cc
@@ -191,7 +197,8 @@ module _ (p : Procedure) (valid : IsKept p) (b : ℕ) (passed : List ℕ) (befor
   enters next last ends leads =
       record {
         path = ((v, in_block p b before v at, leads), reached.path);
-        words = λ w ran typed. ⊎_elim (λ old. reached.words w old typed) (λ (e : v ≡ w). absurd (typed (ap (λ (x : Value). x.ty) (sym e) ∙ void_at_end ends))) (back w ran);
+        words = λ w ran typed. ⊎_elim (λ old. reached.words w old typed)
+            (λ (e : v ≡ w). absurd (typed (ap (λ (x : Value). x.ty) (sym e) ∙ void_at_end ends))) (back w ran);
         constants = λ w word ran is holds. ⊎_elim (λ old. reached.constants w word old is holds)
             (λ (e : v ≡ w). absurd (ends_no_constant (role_of v.kind.opcode) (ap (λ (x : Value). role_of x.kind.opcode) e ∙ is) ends)) (back w ran);
         pure = λ w has is. absurd (contains_none w has);

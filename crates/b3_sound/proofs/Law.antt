@@ -1,8 +1,7 @@
 -- No run of a valid procedure is malformed.
-use Rattle.std.proofs.Common.{◌≡◌, ◌≢◌, ℕ, ◌<◌, inl, inr, List, [], ◌∷◌, ◌++◌, length, true, false, None, refl, sym, ◌∙◌, subst}
+use Rattle.std.proofs.Common.{◌≡◌, ◌≢◌, ℕ, ◌<◌, inl, inr, List, [], ◌∷◌, ◌++◌, length, true, false, refl, sym, ◌∙◌, subst}
 use Rattle.std.proofs.lemmas.List.{append_assoc}
 use Rattle.std.proofs.lemmas.List.Elements.{All-contains}
-use Rattle.std.specs.Prelude.{Contains}
 use Rattle.b3_base.proofs.Run.{iterate-keeps}
 use Rattle.b3_base.specs.Observed.{Answer, Start}
 use Rattle.b3_ir.specs.Procedure.{Procedure, values_of}
@@ -30,7 +29,8 @@ path_in p valid (last ∷ passed) b path =
     All-contains (λ next. next < length p.blocks) (successors_in (v.0).body) b (valid.rules last at.0 v.0 at.1).successors v.2
 
 module _ (p : Procedure) (valid : IsKept p) (start : Start) (answers : List Answer) (started : IsStarted p start answers) where
-  pub effect_here : (b : ℕ) (passed : List ℕ) (before : List Value) (st : State) (v : Value) (at : StandsAfter p b before v) (reached : IsReached p passed b before st)
+  pub effect_here : (b : ℕ) (passed : List ℕ) (before : List Value) (st : State) (v : Value) (at : StandsAfter p b before v)
+      (reached : IsReached p passed b before st)
       → IsEffectOf (role_of v.kind.opcode) p st v (child_words p valid b passed before st v at reached).0 (effect (type_of p) start st v)
   effect_here b passed before st v at reached = reached_effect p valid b passed before st v at reached start started.start_in_range started.slots
 
@@ -40,17 +40,22 @@ module _ (p : Procedure) (valid : IsKept p) (start : Start) (answers : List Answ
   neither : {X : Type 0} (v : Value) → is_ending (role_of v.kind.opcode) ≡ true → is_terminal v.kind.opcode ≡ false → X
   neither v ends goes = let e : true ≡ false = sym ends ∙ sym (terminal_ends v.kind.opcode) ∙ goes in cc
 
-  last_sound : (b : ℕ) (passed : List ℕ) (before : List Value) (st : State) (v : Value) → values_of p b ≡ before ++ v ∷ [] → is_terminal v.kind.opcode ≡ true → IsReached p passed b before st
+  last_sound : (b : ℕ) (passed : List ℕ) (before : List Value) (st : State) (v : Value) → values_of p b ≡ before ++ v ∷ [] → is_terminal v.kind.opcode ≡ true
+      → IsReached p passed b before st
       → (ws : List ℕ) (e : Effect) → IsEffectOf (role_of v.kind.opcode) p st v ws e → IsSound p (after e (run_values (type_of p) start []))
   last_sound b passed before st v is ends reached ws (Next next) fits = not_both v fits.0 ends
-  last_sound b passed before st v is ends reached ws (To block next) fits =
-      (b ∷ passed, subst (λ (s : State). IsReached p (b ∷ passed) block [] s) (sym fits.2) (enters p valid b passed before st v ([], is) reached block refl fits.0 fits.1))
+  last_sound b passed before st v is ends reached ws (To block next) fits = (
+    b ∷ passed,
+    subst (λ (s : State). IsReached p (b ∷ passed) block [] s) (sym fits.2)
+        (enters p valid b passed before st v ([], is) reached block refl fits.0 fits.1),
+  )
   last_sound b passed before st v is ends reached ws (End (Lost Malformed)) fits = fits
   last_sound b passed before st v is ends reached ws (End (Lost (Undefined_ u))) fits = tt
   last_sound b passed before st v is ends reached ws (End (Over seen)) fits = tt
   last_sound b passed before st v is ends reached ws (End (At block next)) fits = absurd fits
 
-  middle_sound : (st : State) (v : Value) (others : State → Config) → is_terminal v.kind.opcode ≡ false → (ws : List ℕ) (e : Effect) → IsEffectOf (role_of v.kind.opcode) p st v ws e
+  middle_sound : (st : State) (v : Value) (others : State → Config) → is_terminal v.kind.opcode ≡ false → (ws : List ℕ) (e : Effect)
+      → IsEffectOf (role_of v.kind.opcode) p st v ws e
       → ((next : State) → Goes (role_of v.kind.opcode) p st v ws next → IsSound p (others next)) → IsSound p (after e others)
   middle_sound st v others goes ws (Next next) fits onward = onward next fits.1
   middle_sound st v others goes ws (To block next) fits onward = neither v fits.0 goes
@@ -60,14 +65,16 @@ module _ (p : Procedure) (valid : IsKept p) (start : Start) (answers : List Answ
   middle_sound st v others goes ws (End (At block next)) fits onward = absurd fits
 
   -- the values of a block from a place on
-  values_sound : (b : ℕ) (passed : List ℕ) (rest before : List Value) (st : State) → values_of p b ≡ before ++ rest → EndsBlock rest → IsReached p passed b before st
+  values_sound : (b : ℕ) (passed : List ℕ) (rest before : List Value) (st : State) → values_of p b ≡ before ++ rest → EndsBlock rest
+      → IsReached p passed b before st
       → IsSound p (run_values (type_of p) start rest st)
   values_sound b passed [] before st is ends reached = absurd ends
   values_sound b passed (v ∷ []) before st is ends reached =
       last_sound b passed before st v is ends reached (child_words p valid b passed before st v ([], is) reached).0 (effect (type_of p) start st v)
       (effect_here b passed before st v ([], is) reached)
   values_sound b passed (v ∷ w ∷ vs) before st is ends reached =
-      middle_sound st v (run_values (type_of p) start (w ∷ vs)) ends.0 (child_words p valid b passed before st v (w ∷ vs, is) reached).0 (effect (type_of p) start st v)
+      middle_sound st v (run_values (type_of p) start (w ∷ vs)) ends.0 (child_words p valid b passed before st v (w ∷ vs, is) reached).0
+      (effect (type_of p) start st v)
       (effect_here b passed before st v (w ∷ vs, is) reached)
       (λ next goes. values_sound b passed (w ∷ vs) (before ++ v ∷ []) next (is ∙ sym (append_assoc before (v ∷ []) (w ∷ vs))) ends.1
       (goes_on p valid b passed before st v (w ∷ vs, is) reached next goes))

@@ -1,19 +1,17 @@
 -- States whose words are words of their types, and how they stay so.
-use Rattle.std.proofs.Common.{◌≡◌, ◌≢◌, ℕ, ◌*◌, ◌/◌, ◌^◌, ◌<◌, ◌≤◌, Bool, true, false, Option, Some, None, is_some, refl, sym, ◌∙◌, subst, arith, ⊎_elim, nat_eq}
-use Rattle.std.specs.Prelude.{All, IfSome, if◌then◌else◌}
+use Rattle.std.proofs.Common.{◌≡◌, ◌≢◌, ℕ, ◌*◌, ◌^◌, ◌<◌, ◌≤◌, Bool, true, false, Option, Some, None, is_some, sym, subst, arith, ⊎_elim, nat_eq}
+use Rattle.std.specs.Prelude.{IfSome, if◌then◌else◌}
 use Rattle.std.specs.Option.{option_or}
 use Rattle.std.proofs.Math.Pow.{pow_mono}
 use Rattle.std.proofs.lemmas.Bool.Decides.{eqb_tells}
 use Rattle.b3_base.specs.Memory.{AreBytes}
-use Rattle.b3_base.specs.Observed.{Answer, Memory}
-use Rattle.b3_base.specs.Ranged.{IsRangedAnswer}
+use Rattle.b3_base.specs.Observed.{Memory}
 use Rattle.b3_base.specs.declared.word.Width.{Width}
 use Rattle.b3_base.specs.declared.word.Width.TheVariants.{W32}
-use Rattle.b3_base.specs.Arithmetic.{low}
 use Rattle.b3_base.specs.Word.{bits}
 use Rattle.b3_ir.specs.Naming.{type_of}
 use Rattle.b3_ir.specs.Procedure.{Procedure}
-use Rattle.b3_meaning.specs.Run.{State, extended, loaded, with_writes}
+use Rattle.b3_meaning.specs.Run.{extended, loaded, with_writes}
 use Rattle.b3_sound.proofs.Results.{IsBelow, IsIn, limit_of, low_in, narrow_in}
 
 -- ---- one word more
@@ -26,7 +24,8 @@ pub put_ranged : (p : Procedure) (f : ℕ → Option ℕ) (id new : ℕ) → IsI
 put_ranged p f id new small old q word =
     ⊎_elim
     (λ (yes : (nat_eq q id ≡ true) × (q ≡ id)). subst (λ b. (if b then Some new else f q) ≡ Some word → IsIn (type_of p q) word) (sym yes.0)
-    (λ (e : Some new ≡ Some word). subst (λ (i : ℕ). IsIn (type_of p i) word) (sym yes.1) (subst (λ (w : ℕ). IsIn (type_of p id) w) (same_some new word e) small)))
+    (λ (e : Some new ≡ Some word). subst (λ (i : ℕ). IsIn (type_of p i) word) (sym yes.1)
+    (subst (λ (w : ℕ). IsIn (type_of p id) w) (same_some new word e) small)))
     (λ (no : (nat_eq q id ≡ false) × (q ≢ id)). subst (λ b. (if b then Some new else f q) ≡ Some word → IsIn (type_of p q) word) (sym no.0)
     (λ (e : f q ≡ Some word). old q word e))
     (eqb_tells q id)

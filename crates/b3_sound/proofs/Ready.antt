@@ -1,7 +1,6 @@
 -- What a value finds when it runs.
-use Rattle.std.proofs.Common.{◌≡◌, ℕ, inl, inr, List, [], ◌∷◌, ◌++◌, Some, sym, ap, ◌∙◌, subst, ⊎_elim}
+use Rattle.std.proofs.Common.{◌≡◌, ℕ, List, [], ◌∷◌, ◌++◌, Some, sym, ap, ◌∙◌, subst}
 use Rattle.std.proofs.lemmas.List.{append_assoc, append-nil}
-use Rattle.std.specs.Prelude.{Contains}
 use Rattle.b3_base.specs.Observed.{Answer, Start}
 use Rattle.b3_ir.specs.Naming.{type_of}
 use Rattle.b3_ir.specs.Procedure.{Procedure, values_of}
@@ -18,26 +17,30 @@ use Rattle.b3_sound.proofs.Law.{effect_here, run_sound}
 use Rattle.b3_sound.proofs.Reached.{IsReached, IsSound}
 
 module _ (p : Procedure) (valid : IsKept p) (start : Start) (answers : List Answer) (started : IsStarted p start answers) where
-  one_more : (b : ℕ) (passed : List ℕ) (before vs : List Value) (v : Value) (st later : State) (at : StandsAfter p b before v) (reached : IsReached p passed b before st)
-      → (e : Effect) → IsEffectOf (role_of v.kind.opcode) p st v (child_words p valid b passed before st v at reached).0 e → goes_to e (state_after p start vs) ≡ Some later
+  one_more : (b : ℕ) (passed : List ℕ) (before vs : List Value) (v : Value) (st later : State) (at : StandsAfter p b before v)
+      (reached : IsReached p passed b before st)
+      → (e : Effect) → IsEffectOf (role_of v.kind.opcode) p st v (child_words p valid b passed before st v at reached).0 e
+      → goes_to e (state_after p start vs) ≡ Some later
       → (next : State) × IsReached p passed b (before ++ v ∷ []) next × (state_after p start vs next ≡ Some later)
   one_more b passed before vs v st later at reached (Next next) fits leads = (next, goes_on p valid b passed before st v at reached next fits.1, leads)
   one_more b passed before vs v st later at reached (To block next) fits leads = absurd (cc)
   one_more b passed before vs v st later at reached (End config) fits leads = absurd (cc)
 
   -- the values before a place lead to what holds there
-  reached_after : (b : ℕ) (passed : List ℕ) (vs before rest : List Value) (st later : State) → values_of p b ≡ before ++ (vs ++ rest) → IsReached p passed b before st
+  reached_after : (b : ℕ) (passed : List ℕ) (vs before rest : List Value) (st later : State) → values_of p b ≡ before ++ (vs ++ rest)
+      → IsReached p passed b before st
       → state_after p start vs st ≡ Some later → IsReached p passed b (before ++ vs) later
   reached_after b passed [] before rest st later is reached leads =
       let same : st ≡ later = cc in
       subst (λ (s : State). IsReached p passed b (before ++ []) s) same (subst (λ l. IsReached p passed b l st) (sym (append-nil before)) reached)
   reached_after b passed (v ∷ vs) before rest st later is reached leads =
       let one = one_more b passed before vs v st later (vs ++ rest, is) reached (effect (type_of p) start st v)
-          (effect_here p valid start answers started b passed before st v (vs ++ rest, is) reached) leads in
+      (effect_here p valid start answers started b passed before st v (vs ++ rest, is) reached) leads in
       subst (λ l. IsReached p passed b l later) (append_assoc before (v ∷ []) vs)
       (reached_after b passed vs (before ++ v ∷ []) rest one.0 later (is ∙ sym (append_assoc before (v ∷ []) (vs ++ rest))) one.1 one.2)
 
-  ready : (b : ℕ) (passed : List ℕ) (before : List Value) (v : Value) (st : State) → StandsAfter p b before v → IsReached p passed b before st → IsReady p b before v st
+  ready : (b : ℕ) (passed : List ℕ) (before : List Value) (v : Value) (st : State) → StandsAfter p b before v → IsReached p passed b before st
+      → IsReady p b before v st
   ready b passed before v st at reached =
       record {
         children = child_has_word p valid b passed before st v reached at;

@@ -5,7 +5,7 @@ use Rattle.std.specs.Int.RustNames.{int_div, int_rem}
 use Rattle.std.proofs.lemmas.Bool.{cases_lt, lt-ltb, le-ltb}
 use Rattle.std.proofs.Math.IntN.{nat_abs, neg_ℤ}
 use Rattle.std.proofs.Math.Pow.{pow_mono}
-use Rattle.std.specs.Int.Bits.{bit_and, bit_or, bit_xor}
+use Rattle.std.specs.Int.Bits.{bit_and}
 use Rattle.std.proofs.Math.Nat.{div-le_self, mod-le, div-lt_iff_lt-mul}
 use Rattle.std.proofs.lemmas.Nat.{and_le_l, or_lt, xor_lt, leading_le, mul-add-lt, pow_pos}
 use Rattle.b3_base.proofs.Rotations.{rotated_right-lt}
@@ -22,7 +22,7 @@ use Rattle.b3_ir.specs.declared.opcode.Ty.TheVariants.{Int32, Int64}
 use Rattle.b3_ir.specs.declared.table.More.TheVariants.{NoMore}
 use Rattle.b3_ir.specs.declared.table.Takes.{Takes}
 use Rattle.b3_ir.specs.declared.table.Takes.TheVariants.{Alike, Any, This}
-use Rattle.b3_meaning.specs.Opcodes.{AreWordsOf, Outcome, Gives, Undefined, Undefines, Misfits, chilled, divided, is_least_by_minus_one, left_over, quotient, remainder, result, rotate_left, truth, unless_zero}
+use Rattle.b3_meaning.specs.Opcodes.{AreWordsOf, Outcome, Gives, Undefined, Undefines, Misfits, chilled, divided, is_least_by_minus_one, left_over, quotient, remainder, result, truth, unless_zero}
 use Rattle.b3_meaning.specs.Roles.{role_of}
 use Rattle.b3_meaning.specs.declared.role.Role.TheVariants.{Pure}
 
@@ -112,7 +112,8 @@ zero_in W64 = omega arith
 
 -- ---- children by their places
 
-one_child : (P : List ℕ → List Ty → Type 0) (alike : Ty) (a : Takes) → ((x : ℕ) (t : Ty) → IsTaken alike a t → IsIn t x → P (x ∷ []) (t ∷ [])) → (xs : List ℕ) (ts : List Ty)
+one_child : (P : List ℕ → List Ty → Type 0) (alike : Ty) (a : Takes) → ((x : ℕ) (t : Ty) → IsTaken alike a t → IsIn t x → P (x ∷ []) (t ∷ []))
+    → (xs : List ℕ) (ts : List Ty)
     → AreTaken alike (a ∷ []) NoMore ts → AreWordsOf ts xs → P xs ts
 one_child P alike a each xs [] taken words = absurd taken
 one_child P alike a each [] (t ∷ ts) taken words = absurd words
@@ -120,7 +121,8 @@ one_child P alike a each (x ∷ xs) (t ∷ u ∷ ts) taken words = absurd (let n
 one_child P alike a each (x ∷ y ∷ xs) (t ∷ []) taken words = absurd words.1
 one_child P alike a each (x ∷ []) (t ∷ []) taken words = each x t taken.0 words.0
 
-two_children : (P : List ℕ → List Ty → Type 0) (alike : Ty) (a b : Takes) → ((x y : ℕ) (t u : Ty) → IsTaken alike a t → IsTaken alike b u → IsIn t x → IsIn u y → P (x ∷ y ∷ []) (t ∷ u ∷ []))
+two_children : (P : List ℕ → List Ty → Type 0) (alike : Ty) (a b : Takes)
+    → ((x y : ℕ) (t u : Ty) → IsTaken alike a t → IsTaken alike b u → IsIn t x → IsIn u y → P (x ∷ y ∷ []) (t ∷ u ∷ []))
     → (xs : List ℕ) (ts : List Ty) → AreTaken alike (a ∷ b ∷ []) NoMore ts → AreWordsOf ts xs → P xs ts
 two_children P alike a b each xs [] taken words = absurd taken
 two_children P alike a b each [] (t ∷ ts) taken words = absurd words
@@ -128,12 +130,14 @@ two_children P alike a b each (x ∷ xs) (t ∷ ts) taken words =
     one_child (λ ys us. P (x ∷ ys) (t ∷ us)) alike b (λ y u is lt. each x y t u taken.0 is words.0 lt) xs ts taken.1 words.1
 
 three_children : (P : List ℕ → List Ty → Type 0) (alike : Ty) (a b c : Takes)
-    → ((x y z : ℕ) (t u v : Ty) → IsTaken alike a t → IsTaken alike b u → IsTaken alike c v → IsIn t x → IsIn u y → IsIn v z → P (x ∷ y ∷ z ∷ []) (t ∷ u ∷ v ∷ []))
+    → ((x y z : ℕ) (t u v : Ty) → IsTaken alike a t → IsTaken alike b u → IsTaken alike c v → IsIn t x → IsIn u y → IsIn v z
+    → P (x ∷ y ∷ z ∷ []) (t ∷ u ∷ v ∷ []))
     → (xs : List ℕ) (ts : List Ty) → AreTaken alike (a ∷ b ∷ c ∷ []) NoMore ts → AreWordsOf ts xs → P xs ts
 three_children P alike a b c each xs [] taken words = absurd taken
 three_children P alike a b c each [] (t ∷ ts) taken words = absurd words
 three_children P alike a b c each (x ∷ xs) (t ∷ ts) taken words =
-    two_children (λ ys us. P (x ∷ ys) (t ∷ us)) alike b c (λ y z u v is_u is_v lt_y lt_z. each x y z t u v taken.0 is_u is_v words.0 lt_y lt_z) xs ts taken.1 words.1
+    two_children (λ ys us. P (x ∷ ys) (t ∷ us)) alike b c
+    (λ y z u v is_u is_v lt_y lt_z. each x y z t u v taken.0 is_u is_v words.0 lt_y lt_z) xs ts taken.1 words.1
 
 -- ---- divisions and shifts
 
@@ -148,12 +152,14 @@ chilled_below limit false word undefined lt = tt
 divided_below : (width : Width) (chill : Bool) (x y : ℕ) → x < limit_of width → IsBelow (limit_of width) (divided width chill x y)
 divided_below width chill x y lt =
     if_below (limit_of width) (nat_eq y 0) _ _ (chilled_below (limit_of width) chill 0 _ (zero_in width))
-    (if_below (limit_of width) (is_least_by_minus_one width x y) _ (Gives (quotient width x y)) (chilled_below (limit_of width) chill x _ lt) (unsigned_in width _ (quotient_up (half_of width) (signed width x) (signed width y) (signed_sized width x lt))))
+    (if_below (limit_of width) (is_least_by_minus_one width x y) _ (Gives (quotient width x y)) (chilled_below (limit_of width) chill x _ lt)
+    (unsigned_in width _ (quotient_up (half_of width) (signed width x) (signed width y) (signed_sized width x lt))))
 
 left_over_below : (width : Width) (chill : Bool) (x y : ℕ) → x < limit_of width → IsBelow (limit_of width) (left_over width chill x y)
 left_over_below width chill x y lt =
     if_below (limit_of width) (nat_eq y 0) _ _ (chilled_below (limit_of width) chill 0 _ (zero_in width))
-    (if_below (limit_of width) (is_least_by_minus_one width x y) _ (Gives (remainder width x y)) (chilled_below (limit_of width) chill 0 _ (zero_in width)) (unsigned_in width _ (remainder_up (half_of width) (signed width x) (signed width y) (signed_sized width x lt))))
+    (if_below (limit_of width) (is_least_by_minus_one width x y) _ (Gives (remainder width x y)) (chilled_below (limit_of width) chill 0 _ (zero_in width))
+    (unsigned_in width _ (remainder_up (half_of width) (signed width x) (signed width y) (signed_sized width x lt))))
 
 unless_zero_below : (limit y word : ℕ) → word < limit → IsBelow limit (unless_zero y word)
 unless_zero_below limit y word lt = if_below limit (nat_eq y 0) _ _ tt lt
@@ -180,9 +186,11 @@ as_own t alike ty x e f lt = subst (λ (u : Ty). IsIn u x) (e ∙ sym f) lt
 
 module _ (chill : Bool) (ty alike : Ty) where
   own_one : (o : Opcode) → ty ≡ alike → (xs : List ℕ) (ts : List Ty) → AreTaken alike (Alike ∷ []) NoMore ts → AreWordsOf ts xs
-      → ((x : ℕ) (t : Ty) → IsIn ty x → IsBelow (limit_of (width_of ty)) (result o chill ty (x ∷ []) (t ∷ []))) → IsBelow (limit_of (width_of ty)) (result o chill ty xs ts)
+      → ((x : ℕ) (t : Ty) → IsIn ty x → IsBelow (limit_of (width_of ty)) (result o chill ty (x ∷ []) (t ∷ [])))
+      → IsBelow (limit_of (width_of ty)) (result o chill ty xs ts)
   own_one o is xs ts taken words each =
-      one_child (λ ys us. IsBelow (limit_of (width_of ty)) (result o chill ty ys us)) alike Alike (λ x t same lt. each x t (as_own t alike ty x same is lt)) xs ts taken words
+      one_child (λ ys us. IsBelow (limit_of (width_of ty)) (result o chill ty ys us)) alike Alike
+      (λ x t same lt. each x t (as_own t alike ty x same is lt)) xs ts taken words
 
   own_two : (o : Opcode) → ty ≡ alike → (xs : List ℕ) (ts : List Ty) → AreTaken alike (Alike ∷ Alike ∷ []) NoMore ts → AreWordsOf ts xs
       → ((x y : ℕ) (t u : Ty) → IsIn ty x → IsIn ty y → IsBelow (limit_of (width_of ty)) (result o chill ty (x ∷ y ∷ []) (t ∷ u ∷ [])))
@@ -199,12 +207,15 @@ module _ (chill : Bool) (ty alike : Ty) where
       (λ x s t u same other lt_x lt_s. each x s t u (as_own t alike ty x same is lt_x)) xs ts taken words
 
   compared : (o : Opcode) (xs : List ℕ) (ts : List Ty) → AreTaken alike (Alike ∷ Alike ∷ []) NoMore ts → AreWordsOf ts xs
-      → ((x y : ℕ) (t u : Ty) → IsBelow (limit_of (width_of ty)) (result o chill ty (x ∷ y ∷ []) (t ∷ u ∷ []))) → IsBelow (limit_of (width_of ty)) (result o chill ty xs ts)
+      → ((x y : ℕ) (t u : Ty) → IsBelow (limit_of (width_of ty)) (result o chill ty (x ∷ y ∷ []) (t ∷ u ∷ [])))
+      → IsBelow (limit_of (width_of ty)) (result o chill ty xs ts)
   compared o xs ts taken words each =
-      two_children (λ ys us. IsBelow (limit_of (width_of ty)) (result o chill ty ys us)) alike Alike Alike (λ x y t u same other lt_x lt_y. each x y t u) xs ts taken words
+      two_children (λ ys us. IsBelow (limit_of (width_of ty)) (result o chill ty ys us)) alike Alike Alike
+      (λ x y t u same other lt_x lt_y. each x y t u) xs ts taken words
 
   converted : (o : Opcode) (from : Ty) (xs : List ℕ) (ts : List Ty) → AreTaken alike (This from ∷ []) NoMore ts → AreWordsOf ts xs
-      → ((x : ℕ) (t : Ty) → IsIn from x → IsBelow (limit_of (width_of ty)) (result o chill ty (x ∷ []) (t ∷ []))) → IsBelow (limit_of (width_of ty)) (result o chill ty xs ts)
+      → ((x : ℕ) (t : Ty) → IsIn from x → IsBelow (limit_of (width_of ty)) (result o chill ty (x ∷ []) (t ∷ [])))
+      → IsBelow (limit_of (width_of ty)) (result o chill ty xs ts)
   converted o from xs ts taken words each =
       one_child (λ ys us. IsBelow (limit_of (width_of ty)) (result o chill ty ys us)) alike (This from)
       (λ x t same lt. each x t (subst (λ (u : Ty). IsIn u x) same lt)) xs ts taken words
@@ -213,7 +224,8 @@ module _ (chill : Bool) (ty alike : Ty) where
       → IsBelow (limit_of (width_of ty)) (result op.Select chill ty xs ts)
   selected is xs ts taken words =
       three_children (λ ys us. IsBelow (limit_of (width_of ty)) (result op.Select chill ty ys us)) alike Any Alike Alike
-      (λ c x y t u v worded same other lt_c lt_x lt_y. either_in (nat_eq c 0) x y (as_own u alike ty x same is lt_x) (as_own v alike ty y other is lt_y)) xs ts taken words
+      (λ c x y t u v worded same other lt_c lt_x lt_y. either_in (nat_eq c 0) x y (as_own u alike ty x same is lt_x)
+      (as_own v alike ty y other is lt_y)) xs ts taken words
     where
       either_in : (b : Bool) (x y : ℕ) → IsIn ty x → IsIn ty y → IsIn ty (if b then y else x)
       either_in true x y first second = second
@@ -241,14 +253,17 @@ result_fits op.Add chill ty xs ts pure h words = own_two chill ty h.alike op.Add
 result_fits op.Sub chill ty xs ts pure h words = own_two chill ty h.alike op.Sub h.gives xs ts h.children words (λ x y t u lt_x lt_y. low_in (width_of ty) _)
 result_fits op.Mul chill ty xs ts pure h words = own_two chill ty h.alike op.Mul h.gives xs ts h.children words (λ x y t u lt_x lt_y. low_in (width_of ty) _)
 result_fits op.BitAnd chill ty xs ts pure h words =
-    own_two chill ty h.alike op.BitAnd h.gives xs ts h.children words (λ x y t u lt_x lt_y. no_more (limit_of (width_of ty)) x (bit_and x y) (and_le_l x y) lt_x)
+    own_two chill ty h.alike op.BitAnd h.gives xs ts h.children words
+    (λ x y t u lt_x lt_y. no_more (limit_of (width_of ty)) x (bit_and x y) (and_le_l x y) lt_x)
 result_fits op.BitOr chill ty xs ts pure h words =
     own_two chill ty h.alike op.BitOr h.gives xs ts h.children words (λ x y t u lt_x lt_y. or_lt (bits (width_of ty)) x y lt_x lt_y)
 result_fits op.BitXor chill ty xs ts pure h words =
     own_two chill ty h.alike op.BitXor h.gives xs ts h.children words (λ x y t u lt_x lt_y. xor_lt (bits (width_of ty)) x y lt_x lt_y)
 result_fits op.Neg chill ty xs ts pure h words = own_one chill ty h.alike op.Neg h.gives xs ts h.children words (λ x t lt. low_in (width_of ty) _)
-result_fits op.Div chill ty xs ts pure h words = own_two chill ty h.alike op.Div h.gives xs ts h.children words (λ x y t u lt_x lt_y. divided_below (width_of ty) chill x y lt_x)
-result_fits op.Mod chill ty xs ts pure h words = own_two chill ty h.alike op.Mod h.gives xs ts h.children words (λ x y t u lt_x lt_y. left_over_below (width_of ty) chill x y lt_x)
+result_fits op.Div chill ty xs ts pure h words =
+    own_two chill ty h.alike op.Div h.gives xs ts h.children words (λ x y t u lt_x lt_y. divided_below (width_of ty) chill x y lt_x)
+result_fits op.Mod chill ty xs ts pure h words =
+    own_two chill ty h.alike op.Mod h.gives xs ts h.children words (λ x y t u lt_x lt_y. left_over_below (width_of ty) chill x y lt_x)
 result_fits op.UDiv chill ty xs ts pure h words =
     own_two chill ty h.alike op.UDiv h.gives xs ts h.children words
     (λ x y t u lt_x lt_y. unless_zero_below (limit_of (width_of ty)) y (x / y) (no_more (limit_of (width_of ty)) x (x / y) (div-le_self x y) lt_x))
@@ -260,15 +275,21 @@ result_fits op.SShr chill ty xs ts pure h words =
     own_shift chill ty h.alike op.SShr h.gives xs ts h.children words (λ x s t u lt. signed_shift_below (bits (width_of ty)) _ x _ lt)
 result_fits op.ZShr chill ty xs ts pure h words =
     own_shift chill ty h.alike op.ZShr h.gives xs ts h.children words (λ x s t u lt. no_more (limit_of (width_of ty)) x _ (div-le_self x _) lt)
-result_fits op.RotL chill ty xs ts pure h words = own_shift chill ty h.alike op.RotL h.gives xs ts h.children words (λ x s t u lt. rotated_in (width_of ty) x _ lt)
-result_fits op.RotR chill ty xs ts pure h words = own_shift chill ty h.alike op.RotR h.gives xs ts h.children words (λ x s t u lt. rotated_in (width_of ty) x s lt)
+result_fits op.RotL chill ty xs ts pure h words =
+    own_shift chill ty h.alike op.RotL h.gives xs ts h.children words (λ x s t u lt. rotated_in (width_of ty) x _ lt)
+result_fits op.RotR chill ty xs ts pure h words =
+    own_shift chill ty h.alike op.RotR h.gives xs ts h.children words (λ x s t u lt. rotated_in (width_of ty) x s lt)
 result_fits op.Clz chill ty xs ts pure h words = own_one chill ty h.alike op.Clz h.gives xs ts h.children words (λ x t lt. leading_in (width_of ty) x)
-result_fits op.SExt8 chill ty xs ts pure h words = converted chill ty h.alike op.SExt8 Int32 xs ts h.children words (λ x t lt. narrow_in (width_of ty) _ (low_in W32 _))
-result_fits op.SExt16 chill ty xs ts pure h words = converted chill ty h.alike op.SExt16 Int32 xs ts h.children words (λ x t lt. narrow_in (width_of ty) _ (low_in W32 _))
+result_fits op.SExt8 chill ty xs ts pure h words =
+    converted chill ty h.alike op.SExt8 Int32 xs ts h.children words (λ x t lt. narrow_in (width_of ty) _ (low_in W32 _))
+result_fits op.SExt16 chill ty xs ts pure h words =
+    converted chill ty h.alike op.SExt16 Int32 xs ts h.children words (λ x t lt. narrow_in (width_of ty) _ (low_in W32 _))
 result_fits op.SExt32 chill ty xs ts pure h words =
-    converted chill ty h.alike op.SExt32 Int32 xs ts h.children words (λ x t lt. wide_word ty (sign_extended 32 x) h.gives (extended_below 32 (x % 2 ^ 32) (omega arith) (omega arith) (omega arith)))
+    converted chill ty h.alike op.SExt32 Int32 xs ts h.children words
+    (λ x t lt. wide_word ty (sign_extended 32 x) h.gives (extended_below 32 (x % 2 ^ 32) (omega arith) (omega arith) (omega arith)))
 result_fits op.ZExt32 chill ty xs ts pure h words = converted chill ty h.alike op.ZExt32 Int32 xs ts h.children words (λ x t lt. narrow_in (width_of ty) x lt)
-result_fits op.Trunc chill ty xs ts pure h words = converted chill ty h.alike op.Trunc Int64 xs ts h.children words (λ x t lt. narrow_in (width_of ty) _ (low_in W32 x))
+result_fits op.Trunc chill ty xs ts pure h words =
+    converted chill ty h.alike op.Trunc Int64 xs ts h.children words (λ x t lt. narrow_in (width_of ty) _ (low_in W32 x))
 result_fits op.Equal chill ty xs ts pure h words = compared chill ty h.alike op.Equal xs ts h.children words (λ x y t u. truth_in (width_of ty) _)
 result_fits op.NotEqual chill ty xs ts pure h words = compared chill ty h.alike op.NotEqual xs ts h.children words (λ x y t u. truth_in (width_of ty) _)
 result_fits op.LessThan chill ty xs ts pure h words = compared chill ty h.alike op.LessThan xs ts h.children words (λ x y t u. truth_in (width_of ty) _)

@@ -17,7 +17,7 @@ use Rattle.b3_ir.specs.declared.table.Takes.{Takes}
 use Rattle.b3_ir.specs.declared.table.Takes.TheVariants.{Alike, Any, This}
 use Rattle.b3_ir.specs.declared.value.Body.{Body}
 use Rattle.b3_meaning.specs.Roles.{extent_bytes, role_of}
-use Rattle.b3_meaning.specs.declared.role.Extent.TheVariants.{Byte, Half, Whole}
+use Rattle.b3_meaning.specs.declared.role.Extent.TheVariants.{Whole}
 use Rattle.b3_meaning.specs.declared.role.Role.{Role}
 use Rattle.b3_meaning.specs.declared.role.Role.TheVariants.{Skip, Constant, Argument, Frame, SlotAddress, Pure, SetPhi, GetPhi, Load, Store, Call, Patch, Check, CheckedResult, Jump, Branch, Switch, Return, Fail}
 use Rattle.b3_sound.proofs.Lists.{contains_none, contains_cases, contains_head, contains_tail}
@@ -78,7 +78,8 @@ first : (alike : Ty) (a : Takes) (more : More) (ts : List Ty) → AreTaken alike
 first alike a more [] taken = absurd taken
 first alike a more (t ∷ ts) taken = (t, ts, refl)
 
-first_two : (alike : Ty) (a b : Takes) (more : More) (ts : List Ty) → AreTaken alike (a ∷ b ∷ []) more ts → (t : Ty) × (u : Ty) × (rest : List Ty) × (ts ≡ t ∷ u ∷ rest)
+first_two : (alike : Ty) (a b : Takes) (more : More) (ts : List Ty) → AreTaken alike (a ∷ b ∷ []) more ts
+    → (t : Ty) × (u : Ty) × (rest : List Ty) × (ts ≡ t ∷ u ∷ rest)
 first_two alike a b more [] taken = absurd taken
 first_two alike a b more (t ∷ []) taken = absurd taken.1
 first_two alike a b more (t ∷ u ∷ ts) taken = (t, u, ts, refl)
@@ -100,7 +101,8 @@ part_fits Int64 n le = omega arith
 constant_in : (ty is : Ty) (body : Body) → ty ≡ is → IsConstantBelow (2 ^ bits (width_of is)) body → IsConstantBelow (2 ^ bits (width_of ty)) body
 constant_in ty is body e below = subst (λ (t : Ty). IsConstantBelow (2 ^ bits (width_of t)) body) (sym e) below
 
-pub row_by_role : (o : Opcode) (ty : Ty) (ts : List Ty) (reported : ℕ) (body : Body) → AllowsTypes o ty ts → IsBody (row_of o).carries ty reported body → IsRow (role_of o) ty ts body
+pub row_by_role : (o : Opcode) (ty : Ty) (ts : List Ty) (reported : ℕ) (body : Body) → AllowsTypes o ty ts → IsBody (row_of o).carries ty reported body
+    → IsRow (role_of o) ty ts body
 row_by_role op.Nop ty ts n body h fits = h.gives
 row_by_role op.Const32 ty ts n body h fits = constant_in ty Int32 body h.gives fits
 row_by_role op.Const64 ty ts n body h fits = constant_in ty Int64 body h.gives fits
@@ -169,10 +171,12 @@ more_typed One ts (inr (t, typed, is)) = All-same IsTyped ts (t ∷ []) is (All-
 more_typed Arguments ts all = all
 more_typed Reported ts all = all
 
-taken_typed : (alike : Ty) → IsTyped alike → (takes : List Takes) (more : More) (ts : List Ty) → are_typed takes ≡ true → AreTaken alike takes more ts → All IsTyped ts
+taken_typed : (alike : Ty) → IsTyped alike → (takes : List Takes) (more : More) (ts : List Ty) → are_typed takes ≡ true → AreTaken alike takes more ts
+    → All IsTyped ts
 taken_typed alike typed [] more ts e taken = more_typed more ts taken
 taken_typed alike typed (a ∷ rest) more [] e taken = absurd taken
-taken_typed alike typed (Alike ∷ rest) more (t ∷ ts) e taken = All-cons IsTyped t ts (like_typed t alike taken.0 typed) (taken_typed alike typed rest more ts e taken.1)
+taken_typed alike typed (Alike ∷ rest) more (t ∷ ts) e taken =
+    All-cons IsTyped t ts (like_typed t alike taken.0 typed) (taken_typed alike typed rest more ts e taken.1)
 taken_typed alike typed (Any ∷ rest) more (t ∷ ts) e taken = All-cons IsTyped t ts taken.0 (taken_typed alike typed rest more ts e taken.1)
 taken_typed alike typed (This wanted ∷ rest) more (t ∷ ts) e taken =
     let parts = and_parts (has_word wanted) (are_typed rest) e in
@@ -188,4 +192,5 @@ contains_map f (q ∷ ids) i has =
 
 pub child_typed : (o : Opcode) (ty : Ty) (f : ℕ → Ty) (ids : List ℕ) (i : ℕ) → AllowsTypes o ty (map f ids) → Contains ids i → f i ≢ Void
 child_typed o ty f ids i h has =
-    All-contains IsTyped (map f ids) (f i) (taken_typed h.alike h.typed (row_of o).takes (row_of o).more (map f ids) (table_typed o) h.children) (contains_map f ids i has)
+    All-contains IsTyped (map f ids) (f i) (taken_typed h.alike h.typed (row_of o).takes (row_of o).more (map f ids) (table_typed o) h.children)
+    (contains_map f ids i has)

@@ -1,5 +1,5 @@
--- The laws of the run of a valid procedure: it is never lost as malformed, it stays inside the procedure, and what a
--- value finds when it runs.
+-- The laws of the run of a valid procedure: it is never lost as malformed, it stays inside the procedure, and what
+-- a value finds when it runs.
 use Rattle.std.specs.Prelude.{◌≡◌, ◌≢◌, ℕ, ◌^◌, ◌<◌, List, [], ◌∷◌, ◌++◌, Option, Some, None, All, Contains, length, map}
 use Rattle.b3_base.specs.Memory.{AreBytes}
 use Rattle.b3_base.specs.Observed.{Answer, Start}
