@@ -17,13 +17,7 @@ use Rattle.b3_sound.proofs.Lists.{contains_none, contains_head, contains_tail, c
 pub stands : (p : Procedure) (b : ℕ) (v : Value) → Contains (values_of p b) v → (before : List Value) × StandsAfter p b before v
 stands p b v has = let cut = contains_split (values_of p b) v has in (cut.0, (cut.1, cut.2))
 
--- two values with one id are one value, and stand in one block
-pub same_block : (p : Procedure) → HasDistinctIds p → (b c : ℕ) (v w : Value) → Contains (values_of p b) v → Contains (values_of p c) w → v.id ≡ w.id → b ≡ c
-same_block p valid b c v w in_b in_c e =
-    let x = stands p b v in_b in
-    let y = stands p c w in_c in
-    (valid b c x.0 y.0 v w x.1 y.1 e).0
-
+-- two values with one id are one value
 head_is : {X : Type 0} (x y : X) (xs ys : List X) → x ∷ xs ≡ y ∷ ys → x ≡ y
 head_is x y xs ys e = cc
 

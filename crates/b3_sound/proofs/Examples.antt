@@ -1,10 +1,11 @@
 -- No public clause cites this module. A procedure that is valid; one that breaks the rule on uses alone, and whose run is malformed; and
 -- starts out of range, from which runs of valid values are malformed.
-use Rattle.std.proofs.Common.{◌≡◌, ◌≢◌, ℕ, zero, suc, ◌^◌, inl, inr, true, false, List, [], ◌∷◌, Some, refl, ap, subst, arith}
+use Rattle.std.proofs.Common.{◌≡◌, ◌≢◌, ℕ, zero, suc, ◌^◌, ◌<◌, inl, inr, true, false, List, [], ◌∷◌, Some, refl, ap, subst, arith}
 use Rattle.std.specs.Prelude.{All, codes, pos, slice_get}
 use Rattle.std.proofs.lemmas.List.Elements.{All-nil, All-cons, All-head}
 use Rattle.b3_base.specs.Memory.{is_mapped, read_word}
 use Rattle.b3_base.specs.Observed.{Give, Memory, Start, no_memory}
+use Rattle.b3_base.specs.Ranged.{IsRangedAnswer}
 use Rattle.b3_base.specs.Run.{iterate}
 use Rattle.b3_base.specs.declared.observation.Status.TheVariants.{Returned}
 use Rattle.b3_ir.specs.Fits.{Fits}
@@ -27,7 +28,7 @@ use Rattle.b3_rules.specs.Rules.{AreCasesOf, CoversUses, HasNewId, IsBlockNumber
 use Rattle.b3_rules.specs.Valid.{Header, HeaderKeeps, HeadingAt, HeadingKeeps, IsPartOf, IsValidProcedure, Keeps, Part, SlotAt, ValueAt, ValueKeeps}
 use Rattle.b3_rules.specs.declared.rule.Rule.{Rule}
 use Rattle.b3_rules.specs.declared.rule.Rule.TheVariants as rule
-use Rattle.b3_sound.specs.Laws.{NeverMalformed}
+use Rattle.b3_sound.specs.Laws.{IsStarted, NeverMalformed}
 use Rattle.b3_sound.proofs.FromValid.{is_kept}
 use Rattle.b3_sound.proofs.Law.{never_malformed}
 use Rattle.b3_sound.proofs.Lists.{contains_head, contains_none, contains_tail}
@@ -104,7 +105,8 @@ unfolding iterate is_mapped read_word
 wide_byte = refl
 
 -- an answer that writes more than bytes
-wide_write : run_of (procedure_of [] (constant 0 0 ∷ value_of 1 Void op.CCall (0 ∷ []) Plain ∷ value_of 2 Int64 op.Load (0 ∷ []) (Offset (pos 0)) ∷ return_of 3 2 ∷ []))
+wide_write : run_of (procedure_of []
+    (constant 0 0 ∷ value_of 1 Void op.CCall (0 ∷ []) Plain ∷ value_of 2 Int64 op.Load (0 ∷ []) (Offset (pos 0)) ∷ return_of 3 2 ∷ []))
     (start_of 0 [] (λ q. Some 0)) (Give 0 (λ q. Some (2 ^ 64)) ∷ []) 1 ≡ Lost Malformed
 unfolding iterate is_mapped read_word
 wide_write = refl
@@ -388,3 +390,11 @@ ten_fits = All-cons (λ (b : Block). All Fits b.values) _ []
 -- so the laws speak of it
 ten_is_never_malformed : NeverMalformed ten
 ten_is_never_malformed start answers n started = never_malformed ten (is_kept ten ten_is_valid ten_fits) start answers started n
+
+-- and there is a start in range
+ten_starts : IsStarted ten (start_of 7 [] no_memory) []
+ten_starts = record {
+  start_in_range = record { arguments = λ r. omega arith; frame_pointer = omega arith; slots = All-nil (λ word. word < 2 ^ 64); memory = λ q. tt };
+  answers_in_range = All-nil IsRangedAnswer;
+  slots = refl;
+}

@@ -40,9 +40,15 @@ module _ (p : Procedure) (valid : IsKept p) (start : Start) (answers : List Answ
       (reached_after b passed vs (before ++ v ∷ []) rest one.0 later (is ∙ sym (append_assoc before (v ∷ []) (vs ++ rest))) one.1 one.2)
 
   ready : (b : ℕ) (passed : List ℕ) (before : List Value) (v : Value) (st : State) → StandsAfter p b before v → IsReached p passed b before st
-      → IsReady p b before v st
+      → IsReady p start b before v st
   ready b passed before v st at reached =
       record {
+        well_formed = λ e.
+            subst (λ f. IsEffectOf (role_of v.kind.opcode) p st v (child_words p valid b passed before st v at reached).0 f) e
+            (effect_here p valid start answers started b passed before st v at reached);
+        operands =
+            let ws = child_words p valid b passed before st v at reached in
+            record { words = ws.0; are = ws.1; typed = ws.2 };
         children = child_has_word p valid b passed before st v reached at;
         covered = λ id covered typed.
             let d = covered passed reached.path in
@@ -59,7 +65,7 @@ module _ (p : Procedure) (valid : IsKept p) (start : Start) (answers : List Answ
         in_range = reached.ranged;
       }
 
-  pub always_ready : (b : ℕ) (before : List Value) (v : Value) (st : State) → RunsIn p start answers b before v st → IsReady p b before v st
+  pub always_ready : (b : ℕ) (before : List Value) (v : Value) (st : State) → RunsIn p start answers b before v st → IsReady p start b before v st
   always_ready b before v st runs =
       let sound : IsSound p (At b runs.entry) = subst (λ c. IsSound p c) runs.comes (run_sound p valid start answers started runs.steps) in
       ready b sound.0 before v st runs.stands

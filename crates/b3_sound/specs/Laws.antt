@@ -1,6 +1,6 @@
 -- The laws of the run of a valid procedure: it is never lost as malformed, it stays inside the procedure, and what
 -- a value finds when it runs.
-use Rattle.std.specs.Prelude.{◌≡◌, ◌≢◌, ℕ, ◌^◌, ◌<◌, List, [], ◌∷◌, ◌++◌, Option, Some, None, All, Contains, length, map}
+use Rattle.std.specs.Prelude.{◌≡◌, ◌≢◌, ℕ, ◌^◌, ◌<◌, List, [], ◌∷◌, ◌++◌, Option, Some, None, All, Contains, length}
 use Rattle.b3_base.specs.Memory.{AreBytes}
 use Rattle.b3_base.specs.Observed.{Answer, Start}
 use Rattle.b3_base.specs.Ranged.{IsRangedAnswer, IsRangedStart}
@@ -11,11 +11,12 @@ use Rattle.b3_ir.specs.Types.{width_of}
 use Rattle.b3_ir.specs.declared.opcode.Ty.TheVariants.{Void}
 use Rattle.b3_ir.specs.declared.value.Body.TheVariants.{Constant as ConstantOf}
 use Rattle.b3_ir.specs.declared.value.Value.{Value}
-use Rattle.b3_meaning.specs.Opcodes.{Gives, result}
+use Rattle.b3_meaning.specs.Opcodes.{AreWordsOf, Gives, result}
 use Rattle.b3_meaning.specs.Roles.{role_of}
-use Rattle.b3_meaning.specs.Run.{At, Effect, Lost, Malformed, Next, State, effect, run_of, words_of}
+use Rattle.b3_meaning.specs.Run.{At, Effect, Lost, Malformed, Next, State, effect, malformed, run_of, words_of}
 use Rattle.b3_meaning.specs.declared.role.Role.TheVariants.{Constant, Pure}
 use Rattle.b3_rules.specs.Paths.{IsCovered}
+use Rattle.b3_rules.specs.Rules.{types_of}
 use Rattle.b3_rules.specs.Valid.{IsValidProcedure}
 
 -- ---- from which starts
@@ -75,12 +76,18 @@ IsWordOf p id word = word < 2 ^ bits (width_of (type_of p id))
 abbrev pub HasWord : Procedure → State → ℕ → Type 0
 HasWord p st id = (word : ℕ) × (st.words id ≡ Some word) × IsWordOf p id word
 
+-- the words of a value's children, each one of its type
+pub record HasOperands (p : Procedure) (st : State) (v : Value) : Type 0 where
+  pub words : List ℕ
+  pub are : words_of (type_of p) st.words v.children ≡ Some words
+  pub typed : AreWordsOf (types_of p v) words
+
 -- a value has the word that its opcode gives for the words that its children have now
 pub record HasResult (p : Procedure) (st : State) (v : Value) : Type 0 where
   pub words : List ℕ
   pub children : words_of (type_of p) st.words v.children ≡ Some words
   pub word : ℕ
-  pub gives : result v.kind.opcode v.kind.chill v.ty words (map (type_of p) v.children) ≡ Gives word
+  pub gives : result v.kind.opcode v.kind.chill v.ty words (types_of p v) ≡ Gives word
   pub has : st.words v.id ≡ Some word
 
 -- each word, and the word in each location, is one of its id's type; the memory holds bytes; and the answers
@@ -91,10 +98,14 @@ pub record IsRangedState (p : Procedure) (st : State) : Type 0 where
   pub memory : AreBytes st.memory
   pub answers : All IsRangedAnswer st.answers
 
--- what a value finds when it runs: each of its children has a word; so has each id with a type that is covered
--- here, and that of a constant has the constant's; and each pure value that stands earlier in the block has the
--- word that its opcode gives for the words that its children have now; and all is in range
-pub record IsReady (p : Procedure) (block : ℕ) (before : List Value) (v : Value) (st : State) : Type 0 where
+-- what a value finds when it runs: it is not malformed itself; its children have words of their types; so has each
+-- id with a type that is covered here, and that of a constant has the constant's; each pure value that stands
+-- earlier in the block has the word that its opcode gives for the words that its children have now; and all is in
+-- range
+pub record IsReady (p : Procedure) (start : Start) (block : ℕ) (before : List Value) (v : Value) (st : State)
+    : Type 0 where
+  pub well_formed : effect (type_of p) start st v ≢ malformed
+  pub operands : HasOperands p st v
   pub children : (id : ℕ) → Contains v.children id → HasWord p st id
   pub covered : (id : ℕ) → IsCovered p block before id → type_of p id ≢ Void → HasWord p st id
   pub constants : (c : ℕ) (w : Value) (word : ℕ) → Contains (values_of p c) w → IsCovered p block before w.id →
@@ -106,7 +117,7 @@ pub record IsReady (p : Procedure) (block : ℕ) (before : List Value) (v : Valu
 abbrev pub AlwaysReady : Procedure → Type 0
 AlwaysReady p =
     (start : Start) (answers : List Answer) (block : ℕ) (before : List Value) (v : Value) (st : State) →
-    IsStarted p start answers → RunsIn p start answers block before v st → IsReady p block before v st
+    IsStarted p start answers → RunsIn p start answers block before v st → IsReady p start block before v st
 
 -- ---- the laws
 
