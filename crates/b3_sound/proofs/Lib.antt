@@ -1,0 +1,14 @@
+pub mod Arriving
+pub mod Distinct
+pub mod Effects
+pub mod Examples
+pub mod FromValid
+pub mod Keeping
+pub mod Kept
+pub mod Law
+pub mod Lists
+pub mod Ranged
+pub mod Reached
+pub mod Ready
+pub mod Results
+pub mod Rows
