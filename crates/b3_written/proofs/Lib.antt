@@ -3,4 +3,7 @@ pub mod WordLemmas
 pub mod RoundLemmas
 pub mod NameLemmas
 pub mod TargetLemmas
-pub mod RangeLemmas
+pub mod ScanLemmas
+pub mod SignedLemmas
+pub mod SetLemmas
+pub mod ItemTexts

@@ -10,7 +10,6 @@ ghost use Rattle.b3_rows.specs.Rows.{row_of_line};
 ghost use Rattle.b3_rows.specs.declared.row.Row.TheVariants.{Header, Heading, Many, One, Slot, Two, ValueRow};
 ghost use Rattle.b3_rows.specs.Written.{line_of_row};
 ghost use Rattle.b3_written.specs.Listed.{FitsWord};
-ghost use Rattle.b3_written.specs.Ranges.{IsInRange};
 
 use b3_rows::lines_fit;
 
@@ -32,10 +31,4 @@ pub fn rows_are_read()
     ensures one { (target : ℕ) → target < 2 ^ 31 → row_of_line (line_of_row (One target)) ≡ One target }
     ensures two { (a b : ℕ) → a < 2 ^ 31 → b < 2 ^ 31 → row_of_line (line_of_row (Two a b)) ≡ Two a b }
     ensures many { (first : ℕ) (more : List ℕ) → AllByRecursion (λ n. n < 2 ^ 31) (first ∷ more) → row_of_line (line_of_row (Many (first ∷ more))) ≡ Many (first ∷ more) }
-{}
-
-/// Tells that what a line says is in its range: names, numbers of 31 bits, and at least the fall-through of cases. It
-/// takes no memory.
-pub fn rows_are_in_range()
-    ensures { (line : List ℕ) → IsInRange (row_of_line line) }
 {}
