@@ -11,7 +11,7 @@ use Rattle.b3_lines.proofs.TokenLemmas.{both_fail, tokens_blank, tokens_mark}
 use Rattle.b3_items.specs.declared.items.Item.{Item}
 use Rattle.b3_items.specs.Items.{cut_items, item_of, items_of, onto_item, stays_inside}
 use Rattle.b3_rows.specs.Written.{in_brackets, joined}
-use Rattle.b3_written.proofs.RoundLemmas.{all_imply, and_true, digit_piece, digit_quiet, digits_all, one_token, piece_tokens, quiet}
+use Rattle.b3_written.proofs.RoundLemmas.{all_append, all_imply, and_true, digit_piece, digit_quiet, digits_all, one_token, piece_tokens, quiet}
 
 -- ---- pieces
 
@@ -156,10 +156,6 @@ says_piece text i h e = record {
   ink = ap begins_ink (sym (append-nil text)) ∙ piece_ink text [] h;
 }
 
-all_append : (p : ℕ → Bool) (a b : List ℕ) → list_all p a ≡ true → list_all p b ≡ true → list_all p (a ++ b) ≡ true
-all_append p [] b h k = k
-all_append p (x ∷ a) b h k = let both = and_parts (p x) (list_all p a) h in and_true _ _ both.0 (all_append p a b both.1 k)
-
 equals_calm : (name : List ℕ) → IsPiece name → list_all calm (name ++ codes " = ") ≡ true
 unfolding calm
 equals_calm name h = all_append calm name (codes " = ") (piece_calm name h) refl
@@ -191,11 +187,14 @@ says_named name text i h k e = record {
 abbrev pub ArePieces : List (List ℕ) → Type 0
 ArePieces texts = AllByRecursion IsPiece texts
 
--- the tokens behind the bracket that opens
+-- the tokens behind the first of a list, and behind the bracket that opens
+abbrev pub tail_tokens : List (List ℕ) → List (List ℕ)
+tail_tokens [] = codes "]" ∷ []
+tail_tokens (t ∷ ts) = codes "," ∷ t ∷ tail_tokens ts
+
 abbrev pub list_tokens : List (List ℕ) → List (List ℕ)
 list_tokens [] = codes "]" ∷ []
-list_tokens (t ∷ []) = t ∷ codes "]" ∷ []
-list_tokens (t ∷ u ∷ ts) = t ∷ codes "," ∷ list_tokens (u ∷ ts)
+list_tokens (t ∷ ts) = t ∷ tail_tokens ts
 
 joined_tokens : (texts : List (List ℕ)) → ArePieces texts → tokens (joined texts ++ (93 ∷ [])) ≡ list_tokens texts
 unfolding tokens is_blank is_mark

@@ -7,3 +7,6 @@ pub mod ScanLemmas
 pub mod SignedLemmas
 pub mod SetLemmas
 pub mod ItemTexts
+pub mod ItemsAgain
+pub mod GatherAgain
+pub mod HeadAgain

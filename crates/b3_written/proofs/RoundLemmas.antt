@@ -71,6 +71,10 @@ all_imply p q (x ∷ xs) f h =
     let both = and_parts (p x) (list_all p xs) h in
     and_true _ _ (f x both.0) (all_imply p q xs f both.1)
 
+pub all_append : (p : ℕ → Bool) (a b : List ℕ) → list_all p a ≡ true → list_all p b ≡ true → list_all p (a ++ b) ≡ true
+all_append p [] b h k = k
+all_append p (x ∷ a) b h k = let both = and_parts (p x) (list_all p a) h in and_true _ _ both.0 (all_append p a b both.1 k)
+
 no_comment : (line : List ℕ) → list_all quiet line ≡ true → before_comment line ≡ line
 unfolding before_comment
 no_comment [] h = refl

@@ -1,5 +1,5 @@
 -- A set is the union of its members.
-use Rattle.std.proofs.Common.{◌≡◌, ◌≢◌, ℕ, zero, suc, ◌+◌, ◌<◌, ◌≤◌, ◌^◌, Bool, true, false, cond, List, [], ◌∷◌, refl, sym, ◌∙◌, ap, arith}
+use Rattle.std.proofs.Common.{◌≡◌, ◌≢◌, ℕ, zero, suc, ◌+◌, ◌<◌, ◌≤◌, ◌^◌, Bool, true, false, cond, ⊎_elim, List, [], ◌∷◌, refl, sym, ◌∙◌, ap, arith}
 use Rattle.std.specs.Prelude.{◌==◌}
 use Rattle.std.specs.Int.{bit_at}
 use Rattle.std.specs.List.{AllByRecursion}
@@ -22,9 +22,10 @@ record IsPart (set r part : ℕ) : Type 0 where
 
 low_with : (set r part i : ℕ) → IsPart set r part → bit_at set r ≡ 1 → i < suc r → bit_at (bit_or part (2 ^ r)) i ≡ bit_at set i
 low_with set r part i p h lt =
-    cases_lt i r (λ less. let other : bit_at (2 ^ r) i ≡ 0 = bit_at-pow_other r i (λ e. omega arith) in
+    ⊎_elim (λ less. let other : bit_at (2 ^ r) i ≡ 0 = bit_at-pow_other r i (λ e. omega arith) in
     omega (arith, bit_at_or part (2 ^ r) i, other, p.low i less))
     (λ more. let same : i ≡ r = omega arith in rw same (omega (arith, bit_at_or part (2 ^ r) r, bit_at-pow_same r, p.high r (omega arith), h)))
+    (cases_lt i r)
 
 high_with : (set r part i : ℕ) → IsPart set r part → suc r ≤ i → bit_at (bit_or part (2 ^ r)) i ≡ 0
 high_with set r part i p le =
@@ -36,7 +37,7 @@ part_with set r part p h = record { low = λ i lt. low_with set r part i p h lt;
 
 low_without : (set r part i : ℕ) → IsPart set r part → bit_at set r ≡ 0 → i < suc r → bit_at part i ≡ bit_at set i
 low_without set r part i p h lt =
-    cases_lt i r (λ less. p.low i less) (λ more. let same : i ≡ r = omega arith in rw same (p.high r (omega arith) ∙ sym h))
+    ⊎_elim (λ less. p.low i less) (λ more. let same : i ≡ r = omega arith in rw same (p.high r (omega arith) ∙ sym h)) (cases_lt i r)
 
 part_without : (set r part : ℕ) → IsPart set r part → bit_at set r ≡ 0 → IsPart set (suc r) part
 part_without set r part p h = record { low = λ i lt. low_without set r part i p h lt; high = λ i le. p.high i (omega arith) }
@@ -66,7 +67,7 @@ pub union_again : (set : ℕ) → set < 2 ^ 31 → union 0 (members_from set 0 3
 union_again set h =
     let part = part_of set 0 31 0 (none_part set) in
     same_from_bits (union 0 (members_from set 0 31)) set
-    (λ i. cases_lt i 31 (λ less. part.low i less) (λ more. part.high i more ∙ sym (bit_at_above set 31 i h more)))
+    (λ i. ⊎_elim (λ less. part.low i less) (λ more. part.high i more ∙ sym (bit_at_above set 31 i h more)) (cases_lt i 31))
 
 -- members are below where the search ends
 abbrev AreBelow : ℕ → List ℕ → Type 0
