@@ -387,6 +387,19 @@ exit_reports c One n t e = let off : false ≡ true = rw e at t in absurd cc
 exit_reports c Arguments n t e = let off : false ≡ true = rw e at t in absurd cc
 exit_reports c Reported n t e = refl
 
+-- how many children a stackmap reports
+pub site_count : (v : Value) → (row_of v.kind.opcode).carries ≡ carries.Site → reported_count v ≡ length v.children - length (row_of v.kind.opcode).takes
+unfolding reports
+site_count v =
+    let row = row_of v.kind.opcode in
+    site_reports row.carries row.more (length v.children - length row.takes) (each_passes reports all_report v.kind.opcode)
+
+pub exit_count : (v : Value) → (row_of v.kind.opcode).carries ≡ carries.Exit → reported_count v ≡ length v.children - length (row_of v.kind.opcode).takes
+unfolding reports
+exit_count v =
+    let row = row_of v.kind.opcode in
+    exit_reports row.carries row.more (length v.children - length row.takes) (each_passes reports all_report v.kind.opcode)
+
 -- ---- the value is one of a line
 
 later_body : (c : Carries) (ty : Ty) (reported : ℕ) (body : Body) (targets : List ℕ) → IsListedBody c ty reported body

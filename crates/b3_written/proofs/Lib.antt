@@ -10,3 +10,5 @@ pub mod ItemTexts
 pub mod ItemsAgain
 pub mod GatherAgain
 pub mod HeadAgain
+pub mod BodyAgain
+pub mod ValueAgain
