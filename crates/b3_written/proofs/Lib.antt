@@ -12,3 +12,5 @@ pub mod GatherAgain
 pub mod HeadAgain
 pub mod BodyAgain
 pub mod ValueAgain
+pub mod CutLemmas
+pub mod AgainLemmas

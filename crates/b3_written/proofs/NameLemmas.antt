@@ -11,7 +11,7 @@ use Rattle.b3_rows.specs.Rows.{carries_nothing, header_of, heading_of, is_name_t
 use Rattle.b3_rows.specs.Written.{line_of_row}
 use Rattle.b3_written.proofs.RoundLemmas.{all_imply, and_true, ink_end, quiet, quiet_row, token_alone}
 
-name_quiet : (c : ℕ) → may_stand_in_name c ≡ true → quiet c ≡ true
+pub name_quiet : (c : ℕ) → may_stand_in_name c ≡ true → quiet c ≡ true
 unfolding quiet
 name_quiet c h = grind (arith, nat_tests)
 
