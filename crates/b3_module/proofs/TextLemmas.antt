@@ -18,7 +18,7 @@ use Rattle.b3_ir.specs.Table.{row_of}
 use Rattle.b3_rows.specs.declared.row.Row.{Row}
 use Rattle.b3_rows.specs.declared.row.Row.TheVariants as rows
 use Rattle.b3_rows.specs.Listed.{HasCasesAlone, HasNoTargets, IsListedBody, IsListedValue, IsNumber}
-use Rattle.b3_rows.specs.Ranges.{AreTargets, IsInRange}
+use Rattle.b3_rows.specs.Ranges.{AreTargets, IsGoodRow, IsInRange}
 use Rattle.b3_rows.specs.Rows.{row_of_line}
 use Rattle.b3_lines.specs.Lines.{lines_of}
 use Rattle.b3_module.specs.declared.place.Following.{Following}
@@ -376,7 +376,7 @@ rowed (p ∷ m) h = (h.0.some, blocks_matched p.blocks h.0.begun.blocks, rowed m
 pub text_rowed : (m : List Procedure) → IsTextModule m → AreRowed m
 text_rowed m h = rowed m h.procedures
 
-targets_range : (targets : List ℕ) → AreTargets targets → AllByRecursion IsInRange (row_of_targets targets)
+targets_range : (targets : List ℕ) → AreTargets targets → AllByRecursion IsGoodRow (row_of_targets targets)
 targets_range [] h = tt
 targets_range (a ∷ []) h = (h.0, tt)
 targets_range (a ∷ b ∷ []) h = ((h.0, h.1.0), tt)
@@ -389,7 +389,7 @@ some_targets One words targets h e = absurd h
 some_targets Two words targets h e = absurd h
 some_targets Many words targets h e = let n = ap length e in absurd (omega arith)
 
-successors_range : (f : Following) (body : Body) → Matches f body → AreTargets (targets_of body) → AllByRecursion IsInRange (successors_of body)
+successors_range : (f : Following) (body : Body) → Matches f body → AreTargets (targets_of body) → AllByRecursion IsGoodRow (successors_of body)
 successors_range f bodies.Plain h k = tt
 successors_range f (bodies.Constant word) h k = tt
 successors_range f (bodies.Argument r) h k = tt
@@ -400,28 +400,28 @@ successors_range f (bodies.Map m) h k = tt
 successors_range f (bodies.Targets targets) h k = targets_range targets k
 successors_range f (bodies.Cases words targets) h k = ((k, some_targets f words targets h), tt)
 
-values_range : (values : List Value) → AllByRecursion IsTextValue values → AllByRecursion IsInRange (flat_map rows_of_value values)
+values_range : (values : List Value) → AllByRecursion IsTextValue values → AllByRecursion IsGoodRow (flat_map rows_of_value values)
 values_range [] h = tt
 values_range (v ∷ values) h =
-    (h.0.listed, both_all IsInRange (successors_of v.body) (flat_map rows_of_value values)
+    (h.0.listed, both_all IsGoodRow (successors_of v.body) (flat_map rows_of_value values)
     (successors_range (following v.kind.opcode) v.body h.0.matched h.0.targets) (values_range values h.1))
 
-blocks_range : (blocks : List Block) → AllByRecursion IsTextBlock blocks → AllByRecursion IsInRange (flat_map rows_of_block blocks)
+blocks_range : (blocks : List Block) → AllByRecursion IsTextBlock blocks → AllByRecursion IsGoodRow (flat_map rows_of_block blocks)
 blocks_range [] h = tt
 blocks_range (b ∷ blocks) h =
-    (h.0.number, both_all IsInRange (flat_map rows_of_value b.values) (flat_map rows_of_block blocks) (values_range b.values h.0.values) (blocks_range
+    (h.0.number, both_all IsGoodRow (flat_map rows_of_value b.values) (flat_map rows_of_block blocks) (values_range b.values h.0.values) (blocks_range
     blocks h.1))
 
-slots_range : (slots : List SlotLine) → AllByRecursion IsTextSlot slots → AllByRecursion IsInRange (map row_of_slot slots)
+slots_range : (slots : List SlotLine) → AllByRecursion IsTextSlot slots → AllByRecursion IsGoodRow (map row_of_slot slots)
 slots_range [] h = tt
 slots_range (s ∷ slots) h = ((h.0.number, h.0.bytes), slots_range slots h.1)
 
-procedures_range : (m : List Procedure) → AllByRecursion IsTextProcedure m → AllByRecursion IsInRange (canonical_rows m)
+procedures_range : (m : List Procedure) → AllByRecursion IsTextProcedure m → AllByRecursion IsGoodRow (canonical_rows m)
 procedures_range [] h = tt
 procedures_range (p ∷ m) h =
-    (h.0.begun.name, both_all IsInRange (map row_of_slot p.slots ++ flat_map rows_of_block p.blocks) (canonical_rows m)
-    (both_all IsInRange (map row_of_slot p.slots) (flat_map rows_of_block p.blocks) (slots_range p.slots h.0.begun.slots) (blocks_range p.blocks
+    (h.0.begun.name, both_all IsGoodRow (map row_of_slot p.slots ++ flat_map rows_of_block p.blocks) (canonical_rows m)
+    (both_all IsGoodRow (map row_of_slot p.slots) (flat_map rows_of_block p.blocks) (slots_range p.slots h.0.begun.slots) (blocks_range p.blocks
     h.0.begun.blocks)) (procedures_range m h.1))
 
-pub text_rows : (m : List Procedure) → IsTextModule m → AllByRecursion IsInRange (canonical_rows m)
+pub text_rows : (m : List Procedure) → IsTextModule m → AllByRecursion IsGoodRow (canonical_rows m)
 text_rows m h = procedures_range m h.procedures

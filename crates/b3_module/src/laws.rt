@@ -3,7 +3,7 @@
 ghost use Rattle.std.specs.Prelude.{◌≡◌, ℕ, List};
 ghost use Rattle.std.specs.List.{AllByRecursion};
 ghost use Rattle.b3_ir.specs.Procedure.{Procedure};
-ghost use Rattle.b3_rows.specs.Ranges.{IsInRange};
+ghost use Rattle.b3_rows.specs.Ranges.{IsGoodRow};
 ghost use Rattle.b3_module.specs.Canonical.{AreRowed, RowsSpell, canonical_rows, lined};
 ghost use Rattle.b3_module.specs.Limits.{KeepsLimits};
 ghost use Rattle.b3_module.specs.TextModules.{IsTextModule};
@@ -18,11 +18,11 @@ pub fn rows_spell()
 {}
 
 /// Tells what bytes spell: a module whose names, numbers and values are ones that lines can say, so that it has
-/// canonical rows, and each of them is one that a line can say. It takes no memory.
+/// canonical rows, and each of them is one that a good line can say. It takes no memory.
 pub fn texts_are_listed()
     ensures given { (bytes : List ℕ) (m : List Procedure) → Spells bytes m → IsTextModule m }
     ensures rowed { (m : List Procedure) → IsTextModule m → AreRowed m }
-    ensures rows { (m : List Procedure) → IsTextModule m → AllByRecursion IsInRange (canonical_rows m) }
+    ensures rows { (m : List Procedure) → IsTextModule m → AllByRecursion IsGoodRow (canonical_rows m) }
 {
     rows_are_in_range();
 }

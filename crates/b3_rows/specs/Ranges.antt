@@ -3,7 +3,7 @@ use Rattle.std.specs.Prelude.{◌≢◌, ℕ, List, []}
 use Rattle.std.specs.List.{AllByRecursion}
 use Rattle.b3_ir.specs.Names.{IsName}
 use Rattle.b3_rows.specs.declared.row.Row.{Row}
-use Rattle.b3_rows.specs.declared.row.Row.TheVariants.{Header, Slot, Heading, ValueRow, One, Two, Many}
+use Rattle.b3_rows.specs.declared.row.Row.TheVariants.{Header, Slot, Heading, ValueRow, One, Two, Many, Bad}
 use Rattle.b3_rows.specs.Listed.{IsListedValue, IsNumber}
 
 abbrev pub AreTargets : List ℕ → Type 0
@@ -20,3 +20,8 @@ IsInRange (One target) = IsNumber target
 IsInRange (Two a b) = IsNumber a × IsNumber b
 IsInRange (Many targets) = AreTargets targets × (targets ≢ [])
 IsInRange row = Unit {0}
+
+-- the row of a line that may stand in a text
+abbrev pub IsGoodRow : Row → Type 0
+IsGoodRow Bad = ⊥
+IsGoodRow row = IsInRange row

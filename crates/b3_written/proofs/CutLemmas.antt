@@ -9,14 +9,14 @@ use Rattle.b3_lines.specs.Lines.{lines_of, onto_line}
 use Rattle.b3_ir.specs.Names.{may_stand_in_name}
 use Rattle.b3_rows.specs.declared.row.Row.{Row}
 use Rattle.b3_rows.specs.declared.row.Row.TheVariants as rows
-use Rattle.b3_rows.specs.Ranges.{IsInRange}
+use Rattle.b3_rows.specs.Ranges.{IsGoodRow}
 use Rattle.b3_rows.specs.Written.{line_of_row}
 use Rattle.b3_written.proofs.NameLemmas.{name_quiet}
 use Rattle.b3_written.proofs.RoundLemmas.{all_imply, alone_quiet, decimal_quiet, quiet}
 use Rattle.b3_written.proofs.TargetLemmas.{quiet_targets}
 use Rattle.b3_written.proofs.ValueAgain.{value_quiet}
 
-row_quiet : (row : Row) → IsInRange row → list_all quiet (line_of_row row) ≡ true
+row_quiet : (row : Row) → IsGoodRow row → list_all quiet (line_of_row row) ≡ true
 unfolding quiet
 row_quiet rows.Blank h = refl
 row_quiet (rows.Header name) h = all_imply may_stand_in_name quiet name name_quiet h.all
@@ -28,7 +28,7 @@ row_quiet (rows.One target) h = alone_quiet target h
 row_quiet (rows.Two a b) h = decimal_quiet a (codes ", Else:#" ++ decimal b) h.0 (alone_quiet b h.1)
 row_quiet (rows.Many []) h = absurd (h.1 refl)
 row_quiet (rows.Many (n ∷ ts)) h = quiet_targets n ts h.0
-row_quiet rows.Bad h = refl
+row_quiet rows.Bad h = absurd h
 
 no_lf : (b : ℕ) → quiet b ≡ true → (b == 10) ≡ false
 unfolding quiet
@@ -45,5 +45,5 @@ cut (b ∷ line) rest h =
     let both = and_parts (quiet b) (list_all quiet line) h in
     rw (no_lf b both.0, no_return b both.0) (ap (onto_line b) (cut line rest both.1))
 
-pub line_cut : (row : Row) → IsInRange row → (rest : List ℕ) → lines_of (line_of_row row ++ (10 ∷ rest)) ≡ line_of_row row ∷ lines_of rest
+pub line_cut : (row : Row) → IsGoodRow row → (rest : List ℕ) → lines_of (line_of_row row ++ (10 ∷ rest)) ≡ line_of_row row ∷ lines_of rest
 line_cut row h rest = cut (line_of_row row) rest (row_quiet row h)
