@@ -187,7 +187,8 @@ child_range (piece ∷ []) = piece_range piece (colon_in piece)
 child_range (a ∷ b ∷ []) = tt
 child_range (a ∷ b ∷ c ∷ []) = tt
 child_range (note ∷ o ∷ id ∷ close ∷ []) = cond_some IsChild (wraps note o close) _ None (bare_range (id_of id) (id_range id)) tt
-child_range (note ∷ o ∷ id ∷ close ∷ constraint ∷ []) = cond_some IsChild (wraps note o close) _ None (with_range _ (id_of id) (mark_range constraint) (id_range id)) tt
+child_range (note ∷ o ∷ id ∷ close ∷ constraint ∷ []) =
+    cond_some IsChild (wraps note o close) _ None (with_range _ (id_of id) (mark_range constraint) (id_range id)) tt
 child_range (a ∷ b ∷ c ∷ d ∷ e ∷ f ∷ ts) = tt
 
 -- ---- lists

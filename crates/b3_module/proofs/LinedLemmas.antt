@@ -1,6 +1,6 @@
 -- A module on the lines of its canonical text.
-use Rattle.std.proofs.Common.{◌≡◌, ℕ, zero, suc, ◌+◌, ◌<◌, ◌≤◌, max, Bool, true, false, cond, List, [], ◌∷◌, ◌++◌, length, map, Option, Some, None, refl, sym, ap, subst, ◌∙◌, arith}
-use Rattle.std.specs.Prelude.{nat_le, slice_get, sum_by, if◌then◌else◌}
+use Rattle.std.proofs.Common.{◌≡◌, ℕ, zero, suc, ◌+◌, ◌<◌, ◌≤◌, Bool, true, false, cond, List, [], ◌∷◌, ◌++◌, length, map, Some, refl, sym, ap, ◌∙◌, arith}
+use Rattle.std.specs.Prelude.{nat_le, slice_get, if◌then◌else◌}
 use Rattle.std.specs.List.{flat_map}
 use Rattle.std.proofs.lemmas.Bool.Decides.{nat_tests}
 use Rattle.std.proofs.lemmas.List.Sums.{sum_by-cons}
@@ -10,8 +10,8 @@ use Rattle.b3_ir.specs.Procedure.{Block, Procedure}
 use Rattle.b3_rows.specs.declared.row.Row.{Row}
 use Rattle.b3_rows.specs.declared.row.Row.TheVariants as rows
 use Rattle.b3_module.specs.declared.fault.LimitName.{LimitName}
-use Rattle.b3_module.specs.Canonical.{bare, canonical_rows, lined, lined_blocks, lined_procedure, lined_slots, lined_values, row_of_slot, rows_of_block, rows_of_procedure, rows_of_value, successors_of}
-use Rattle.b3_module.specs.Limits.{EachProcedure, Heading, Header, KeepsLimits, Part, Passes, PassesProcedure, PassesText, Placed, Scope, WholeText, counted, most, part_of_slot, part_of_value, parts_of, parts_of_block, parts_of_slots, parts_of_values, passes_in, placed, scope, up_to}
+use Rattle.b3_module.specs.Canonical.{canonical_rows, lined, lined_blocks, lined_procedure, lined_slots, lined_values, row_of_slot, rows_of_block, rows_of_procedure, rows_of_value}
+use Rattle.b3_module.specs.Limits.{EachProcedure, Heading, Header, KeepsLimits, Part, Placed, Scope, WholeText, counted, most, part_of_slot, part_of_value, parts_of, parts_of_block, parts_of_slots, parts_of_values, passes_in, scope, up_to}
 
 -- ---- the same rows
 
@@ -96,8 +96,13 @@ counts_less false n = omega arith
 least : (which : LimitName) (line : ℕ) (parts : List Placed) → up_to which line parts ≤ in_all which (kinds parts)
 least which line [] = omega arith
 least which line (x ∷ parts) =
-    omega (arith, sum_by-cons (λ (y : Placed). if nat_le y.line line then counted which y.part else 0) x parts, counts_less (nat_le x.line line) (counted
-    which x.part), least which line parts)
+    omega (
+      arith,
+      sum_by-cons (λ (y : Placed). if nat_le y.line line then counted which y.part else 0) x parts,
+      counts_less (nat_le x.line line) (counted
+          which x.part),
+      least which line parts,
+    )
 
 -- with the lines up to the last
 abbrev AreUpTo : ℕ → List Placed → Type 0
@@ -121,8 +126,13 @@ counts_whole here line n h = let yes_ : nat_le here line ≡ true = grind (arith
 greatest : (which : LimitName) (line : ℕ) (parts : List Placed) → AreUpTo line parts → up_to which line parts ≡ in_all which (kinds parts)
 greatest which line [] h = refl
 greatest which line (x ∷ parts) h =
-    omega (arith, sum_by-cons (λ (y : Placed). if nat_le y.line line then counted which y.part else 0) x parts, counts_whole x.line line (counted which
-    x.part) h.0, greatest which line parts h.1)
+    omega (
+      arith,
+      sum_by-cons (λ (y : Placed). if nat_le y.line line then counted which y.part else 0) x parts,
+      counts_whole x.line line (counted which
+          x.part) h.0,
+      greatest which line parts h.1,
+    )
 
 -- where parts pass a number, the same parts on other lines do
 passes_again : (which : LimitName) (line n : ℕ) (xs ys : List Placed) → kinds xs ≡ kinds ys → n < up_to which line xs → (other : ℕ) × (n < up_to which other ys)
@@ -139,7 +149,8 @@ found line (q ∷ m) zero p e =
     (q, refl, ap (λ (x : Procedure). kinds (parts_of x)) (sym same) ∙ procedure_kinds line q)
 found line (q ∷ m) (suc k) p e = found (line + length (rows_of_procedure q)) m k p e
 
-passes_in_again : (s : Scope) (which : LimitName) (line at : ℕ) (m : List Procedure) → passes_in s which line (lined at m) → (other : ℕ) × passes_in s which other m
+passes_in_again : (s : Scope) (which : LimitName) (line at : ℕ) (m : List Procedure) → passes_in s which line (lined at m)
+    → (other : ℕ) × passes_in s which other m
 passes_in_again WholeText which line at m h = passes_again which line (most which) (flat_map parts_of (lined at m)) (flat_map parts_of m) (module_kinds at m) h
 passes_in_again EachProcedure which line at m h =
     let q = found at m h.0 h.1 h.2 in

@@ -1,6 +1,6 @@
 -- One module is spelled, one line is bad, and one limit is passed first.
-use Rattle.std.proofs.Common.{◌≡◌, ℕ, zero, suc, ◌<◌, List, inl, inr, Some, None, Result, Ok, Err, refl, sym, ap, subst, ◌∙◌, arith}
-use Rattle.std.specs.Prelude.{IfOk, IfErr, map}
+use Rattle.std.proofs.Common.{◌≡◌, ℕ, zero, suc, List, inl, inr, Some, None, Result, Ok, Err, refl, sym, ap, subst, ◌∙◌, arith}
+use Rattle.std.specs.Prelude.{IfOk, IfErr}
 use Rattle.std.proofs.lemmas.Bool.{cases_lt}
 use Rattle.b3_ir.specs.Procedure.{Kept, Procedure, procedures}
 use Rattle.b3_lines.specs.Lines.{lines_of}

@@ -1,6 +1,6 @@
 -- What texts give.
-use Rattle.std.proofs.Common.{◌≡◌, ◌≢◌, ℕ, zero, suc, ◌+◌, ◌≤◌, Bool, true, false, cond, List, [], ◌∷◌, ◌++◌, length, map, Option, Some, None, refl, sym, ap, subst, ◌∙◌, arith}
-use Rattle.std.specs.Prelude.{◌==◌, IfSome, if◌then◌else◌}
+use Rattle.std.proofs.Common.{◌≡◌, ◌≢◌, ℕ, ◌+◌, ◌≤◌, Bool, true, false, cond, List, [], ◌∷◌, ◌++◌, length, map, Option, Some, None, refl, sym, ap, subst, ◌∙◌, arith}
+use Rattle.std.specs.Prelude.{◌==◌, IfSome}
 use Rattle.std.specs.List.{AllByRecursion, flat_map}
 use Rattle.std.proofs.lemmas.Bool.Decides.{nat_tests}
 use Rattle.std.proofs.lemmas.List.{length-append}
@@ -25,8 +25,8 @@ use Rattle.b3_module.specs.declared.place.Following.{Following}
 use Rattle.b3_module.specs.declared.place.Following.TheVariants.{Nothing, Bare, One, Two, Many}
 use Rattle.b3_module.specs.declared.place.Place.{Place}
 use Rattle.b3_module.specs.declared.place.Place.TheVariants as places
-use Rattle.b3_module.specs.Canonical.{AreBlocksMatched, AreMatched, AreRowed, Matches, bare, bare_body, canonical_rows, row_of_slot, row_of_targets, rows_of_block, rows_of_procedure, rows_of_value, successors_of}
-use Rattle.b3_module.specs.Texts.{Spells, State, added, added_to, added_value, after_value, at, branched, cases_in, ended, ended_at, first, following, jumped, led, opened, placed, returned, rows_of, slotted, switched, targets_in, valued, with_heading, with_last, with_slot, with_targets, with_value}
+use Rattle.b3_module.specs.Canonical.{AreBlocksMatched, AreMatched, AreRowed, Matches, bare_body, canonical_rows, row_of_slot, row_of_targets, rows_of_block, rows_of_value, successors_of}
+use Rattle.b3_module.specs.Texts.{Spells, State, added, added_to, added_value, after_value, branched, cases_in, ended, ended_at, first, following, jumped, led, opened, placed, returned, rows_of, slotted, switched, targets_in, valued, with_heading, with_last, with_slot, with_targets, with_value}
 use Rattle.b3_module.specs.TextModules.{IsBegunProcedure, IsTextBlock, IsTextModule, IsTextProcedure, IsTextSlot, IsTextValue, targets_of}
 use Rattle.b3_module.proofs.LastLemmas.{length_with_last}
 use Rattle.b3_module.proofs.RowLaws.{Agrees, IsPlainRow, agree}
@@ -129,7 +129,8 @@ agrees_with : (v : Value) (f : Following) → following v.kind.opcode ≡ f → 
 agrees_with v f e = subst (λ (x : Following). Agrees x (row_of v.kind.opcode).carries) e (agree v.kind.opcode)
 
 -- with its successors
-with_body : (v : Value) (f : Following) (body : Body) → following v.kind.opcode ≡ f → IsSaid v → bare_body body ≡ v.body → Matches f body → AreTargets (targets_of body)
+with_body : (v : Value) (f : Following) (body : Body) → following v.kind.opcode ≡ f → IsSaid v → bare_body body ≡ v.body
+    → Matches f body → AreTargets (targets_of body)
     → IsTextValue (record v { body = body })
 with_body v f body e h same match targets = record {
   listed = record {
@@ -146,7 +147,8 @@ with_body v f body e h same match targets = record {
 
 nothing_text : (v : Value) → following v.kind.opcode ≡ Nothing → IsSaid v → IsTextValue v
 nothing_text v e h =
-    let a = alone (row_of v.kind.opcode).carries v.ty (reported_count v) v.body (nothing_plain (row_of v.kind.opcode).carries (agrees_with v Nothing e)) h.body in
+    let a = alone (row_of v.kind.opcode).carries v.ty (reported_count v) v.body
+        (nothing_plain (row_of v.kind.opcode).carries (agrees_with v Nothing e)) h.body in
     with_body v Nothing v.body e h a.0 (a.0, a.1) a.2
 
 bare_text : (v : Value) → following v.kind.opcode ≡ Bare → IsSaid v → IsTextValue v
@@ -402,15 +404,19 @@ successors_range f (bodies.Cases words targets) h k = ((k, some_targets f words 
 
 values_range : (values : List Value) → AllByRecursion IsTextValue values → AllByRecursion IsGoodRow (flat_map rows_of_value values)
 values_range [] h = tt
-values_range (v ∷ values) h =
-    (h.0.listed, both_all IsGoodRow (successors_of v.body) (flat_map rows_of_value values)
-    (successors_range (following v.kind.opcode) v.body h.0.matched h.0.targets) (values_range values h.1))
+values_range (v ∷ values) h = (
+  h.0.listed,
+  both_all IsGoodRow (successors_of v.body) (flat_map rows_of_value values)
+      (successors_range (following v.kind.opcode) v.body h.0.matched h.0.targets) (values_range values h.1),
+)
 
 blocks_range : (blocks : List Block) → AllByRecursion IsTextBlock blocks → AllByRecursion IsGoodRow (flat_map rows_of_block blocks)
 blocks_range [] h = tt
-blocks_range (b ∷ blocks) h =
-    (h.0.number, both_all IsGoodRow (flat_map rows_of_value b.values) (flat_map rows_of_block blocks) (values_range b.values h.0.values) (blocks_range
-    blocks h.1))
+blocks_range (b ∷ blocks) h = (
+  h.0.number,
+  both_all IsGoodRow (flat_map rows_of_value b.values) (flat_map rows_of_block blocks) (values_range b.values h.0.values) (blocks_range
+      blocks h.1),
+)
 
 slots_range : (slots : List SlotLine) → AllByRecursion IsTextSlot slots → AllByRecursion IsGoodRow (map row_of_slot slots)
 slots_range [] h = tt
@@ -418,10 +424,12 @@ slots_range (s ∷ slots) h = ((h.0.number, h.0.bytes), slots_range slots h.1)
 
 procedures_range : (m : List Procedure) → AllByRecursion IsTextProcedure m → AllByRecursion IsGoodRow (canonical_rows m)
 procedures_range [] h = tt
-procedures_range (p ∷ m) h =
-    (h.0.begun.name, both_all IsGoodRow (map row_of_slot p.slots ++ flat_map rows_of_block p.blocks) (canonical_rows m)
-    (both_all IsGoodRow (map row_of_slot p.slots) (flat_map rows_of_block p.blocks) (slots_range p.slots h.0.begun.slots) (blocks_range p.blocks
-    h.0.begun.blocks)) (procedures_range m h.1))
+procedures_range (p ∷ m) h = (
+  h.0.begun.name,
+  both_all IsGoodRow (map row_of_slot p.slots ++ flat_map rows_of_block p.blocks) (canonical_rows m)
+      (both_all IsGoodRow (map row_of_slot p.slots) (flat_map rows_of_block p.blocks) (slots_range p.slots h.0.begun.slots) (blocks_range p.blocks
+      h.0.begun.blocks)) (procedures_range m h.1),
+)
 
 pub text_rows : (m : List Procedure) → IsTextModule m → AllByRecursion IsGoodRow (canonical_rows m)
 text_rows m h = procedures_range m h.procedures

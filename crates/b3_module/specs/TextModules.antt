@@ -1,5 +1,5 @@
 -- What texts give: the modules that a text can spell, lines aside.
-use Rattle.std.specs.Prelude.{◌≤◌, ℕ, List, [], ◌∷◌, length}
+use Rattle.std.specs.Prelude.{◌≤◌, ℕ, List, [], length}
 use Rattle.std.specs.List.{AllByRecursion}
 use Rattle.b3_ir.specs.declared.procedure.SlotLine.{SlotLine}
 use Rattle.b3_ir.specs.declared.value.Body.{Body}

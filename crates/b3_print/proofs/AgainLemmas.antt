@@ -1,5 +1,5 @@
 -- Canonical text is read again.
-use Rattle.std.proofs.Common.{◌≡◌, ℕ, List, [], ◌∷◌, ◌++◌, map, Some, refl, ◌∙◌, ap, append_assoc}
+use Rattle.std.proofs.Common.{◌≡◌, ℕ, List, [], ◌∷◌, ◌++◌, map, refl, ◌∙◌, ap, append_assoc}
 use Rattle.std.specs.List.{AllByRecursion}
 use Rattle.b3_ir.specs.Procedure.{Procedure}
 use Rattle.b3_lines.specs.Lines.{lines_of}
@@ -10,7 +10,7 @@ use Rattle.b3_rows.specs.Written.{line_of_row}
 use Rattle.b3_module.specs.Canonical.{AreRowed, RowsSpell, canonical_rows, lined}
 use Rattle.b3_module.specs.TextModules.{IsTextModule}
 use Rattle.b3_module.specs.Texts.{Spells, rows_of, spelled}
-use Rattle.b3_print.specs.Printed.{canonical, line_text, text_of}
+use Rattle.b3_print.specs.Printed.{canonical, text_of}
 
 abbrev pub AreRead : Type 0
 AreRead = (row : Row) → IsGoodRow row → row_of_line (line_of_row row) ≡ row

@@ -1,14 +1,13 @@
 -- The value that a line says may stand in a procedure.
-use Rattle.std.proofs.Common.{◌≡◌, subst, ℕ, ◌+◌, ◌-◌, ◌<◌, ◌^◌, Bool, true, false, cond, not, ◌&&◌, ◌||◌, List, [], ◌∷◌, length, take, drop, Option, Some, None, All, refl, sym, ◌∙◌, ap, arith}
-use Rattle.std.specs.Prelude.{ℤ, IfSome, codes, bytes_eq, option_map, option_and_then}
+use Rattle.std.proofs.Common.{◌≡◌, ℕ, ◌+◌, ◌-◌, ◌<◌, ◌^◌, Bool, true, false, cond, not, ◌||◌, List, [], ◌∷◌, length, take, drop, Option, Some, None, All, refl, sym, ◌∙◌, ap, arith}
+use Rattle.std.specs.Prelude.{ℤ, IfSome, option_map, option_and_then}
 use Rattle.std.specs.List.{list_all}
 use Rattle.std.proofs.lemmas.Option.{IfSome_then}
 use Rattle.std.proofs.lemmas.List.{length-append, length-drop}
 use Rattle.std.proofs.lemmas.List.Elements.{All-nil, All-cons, All-append, All-drop}
 use Rattle.b3_base.specs.Word.{bits}
 use Rattle.b3_base.specs.declared.word.Width.{Width}
-use Rattle.b3_lines.specs.Lines.{before_comment}
-use Rattle.b3_lines.specs.Tokens.{tokens, without_blanks_after}
+use Rattle.b3_lines.specs.Tokens.{tokens}
 use Rattle.b3_ir.specs.declared.opcode.Opcode.{Opcode}
 use Rattle.b3_ir.specs.declared.opcode.Ty.{Ty}
 use Rattle.b3_ir.specs.declared.opcode.Ty.TheVariants.{Void, Int32, Int64}
@@ -28,7 +27,6 @@ use Rattle.b3_items.specs.declared.items.Child.{Child}
 use Rattle.b3_items.specs.declared.items.Item.{Item}
 use Rattle.b3_items.specs.declared.items.Item.TheVariants as item
 use Rattle.b3_items.specs.Items.{id_of, is_mark_of, item_of}
-use Rattle.b3_items.specs.Numbers.{plain_of}
 use Rattle.b3_items.specs.Table.{kind_of, opcodes, type_of}
 use Rattle.b3_items.proofs.TableLemmas.{each_passes}
 use Rattle.b3_items.proofs.Ranges.{map_some, then_some, any_some, cond_some, test_some, word_range, IsReg, IsItem, IsChild, IsSet, AreWords, InWord, IsKind, id_range, item_range, kind_range}
@@ -313,7 +311,8 @@ offset_range_or : (z : Option ℤ) → IfSome z InWord → InWord (offset_or_zer
 offset_range_or None h = (record { le = tt }, record { le = tt })
 offset_range_or (Some z) h = h
 
-slot_fits : (ty : Ty) (reported : ℕ) (lead : Lead) → IsLead lead → IfSome (option_map bodies.Slot (lead_slot lead)) (IsListedBody carries.SlotNumber ty reported)
+slot_fits : (ty : Ty) (reported : ℕ) (lead : Lead) → IsLead lead
+    → IfSome (option_map bodies.Slot (lead_slot lead)) (IsListedBody carries.SlotNumber ty reported)
 slot_fits ty reported NoLead h = tt
 slot_fits ty reported (NumberLead n) h = tt
 slot_fits ty reported (RegisterLead r) h = tt

@@ -14,7 +14,6 @@ use Rattle.b3_rows.specs.declared.row.Row.{Row}
 use Rattle.b3_rows.specs.declared.row.Row.TheVariants as rows
 use Rattle.b3_rows.specs.Rows.{before_colon, carries_nothing, header_of, heading_of, is_clean, is_name_text, many_of, one_of, or_bad, other_row, plain_between, row_in, row_of_line, row_of_text, slot_of_line, slot_row, successors_of, two_of, two_row, words_row}
 use Rattle.b3_rows.specs.Values.{value_of}
-use Rattle.b3_rows.specs.Listed.{IsListedValue}
 use Rattle.b3_rows.specs.Ranges.{AreTargets, IsInRange}
 use Rattle.b3_rows.specs.Successors.{LinesFit}
 use Rattle.b3_rows.proofs.FitLemmas.{later_fits, value_fits}

@@ -1,6 +1,6 @@
 -- The items of a value give its body again.
-use Rattle.std.proofs.Common.{◌≡◌, ℕ, ℤ, pos, negsuc, zero, suc, ◌+◌, ◌-◌, ◌^◌, ◌<◌, ◌≤◌, Bool, true, false, cond, not, ◌&&◌, ◌||◌, List, [], ◌∷◌, ◌++◌, length, drop, Option, Some, None, All, subst, refl, sym, ◌∙◌, ap, append_assoc, append-nil, arith}
-use Rattle.std.specs.Prelude.{◌==◌, codes, is_none}
+use Rattle.std.proofs.Common.{◌≡◌, ℕ, ℤ, pos, negsuc, zero, suc, ◌-◌, ◌^◌, ◌<◌, ◌≤◌, Bool, true, false, List, [], ◌∷◌, ◌++◌, length, drop, Option, Some, None, All, subst, refl, sym, ◌∙◌, ap, append_assoc, append-nil, arith}
+use Rattle.std.specs.Prelude.{◌==◌, codes}
 use Rattle.std.specs.Fmt.{signed_decimal}
 use Rattle.std.proofs.lemmas.Bool.Decides.{nat_tests}
 use Rattle.std.proofs.lemmas.List.{nil_from_length}
@@ -23,10 +23,10 @@ use Rattle.b3_items.specs.declared.items.Item.TheVariants as item
 use Rattle.b3_items.specs.Items.{child, reg}
 use Rattle.b3_rows.specs.declared.gathered.Gathered.{Gathered}
 use Rattle.b3_rows.specs.declared.gathered.Lead.TheVariants.{NumberLead, RegisterLead, SlotLead}
-use Rattle.b3_rows.specs.Gathering.{has_stackmap, is_fresh, may_have, nothing, put, put_cases, put_child, put_early, put_in, put_late, put_lead, put_offset, put_phi, put_result, put_size, takes_children, with_child}
+use Rattle.b3_rows.specs.Gathering.{has_stackmap, is_fresh, may_have, nothing, put, put_cases, put_child, put_early, put_in, put_late, put_lead, put_offset, put_phi, put_result, put_size, takes_children}
 use Rattle.b3_rows.specs.Listed.{IsListedBody, IsNumber}
 use Rattle.b3_rows.specs.Values.{body_of, exit_map, or_else, result_of, site_map}
-use Rattle.b3_rows.specs.Written.{cases_texts, child_texts, constraint_text, constraints_of, is_some_register, is_zero, last_texts, lead_texts, map_texts, named_text, offset_texts}
+use Rattle.b3_rows.specs.Written.{child_texts, constraints_of, is_some_register, is_zero, last_texts, lead_texts, map_texts, named_text}
 use Rattle.b3_written.proofs.GatherAgain.{Say, put_all, say_both}
 use Rattle.b3_written.proofs.ItemTexts.{Says}
 use Rattle.b3_written.proofs.ItemsAgain.{cases_says, child_says, early_says, late_says, offset_says, phi_says, placed_says, reg_says, result_says, size_says, slot_says, word_says}
@@ -44,9 +44,10 @@ children_say : (skip : ℕ) (ids : List ℕ) (cs : List Constraint) → All IsNu
     → Say (child_texts skip ids cs) (child_items skip ids cs)
 children_say skip [] cs h k = tt
 children_say zero (id ∷ ids) [] h k = (child_says id (All-head IsNumber id ids h), children_say zero ids [] (All-tail IsNumber id ids h) k)
-children_say zero (id ∷ ids) (c ∷ cs) h k =
-    (placed_says id c (All-head IsNumber id ids h) (All-head IsConstraint c cs k),
-    children_say zero ids cs (All-tail IsNumber id ids h) (All-tail IsConstraint c cs k))
+children_say zero (id ∷ ids) (c ∷ cs) h k = (
+  placed_says id c (All-head IsNumber id ids h) (All-head IsConstraint c cs k),
+  children_say zero ids cs (All-tail IsNumber id ids h) (All-tail IsConstraint c cs k),
+)
 children_say (suc skip) (id ∷ ids) cs h k = (child_says id (All-head IsNumber id ids h), children_say skip ids cs (All-tail IsNumber id ids h) k)
 
 -- the constraints that are gathered
@@ -213,7 +214,8 @@ pub record Again (c : Carries) (ty : Ty) (skip : ℕ) (ids : List ℕ) (body : B
 abbrev texts_of : Carries → ℕ → List ℕ → Body → List (List ℕ)
 texts_of c skip ids body = lead_texts c body ++ (child_texts skip ids (constraints_of body) ++ last_texts body)
 
-plain_again : (ty : Ty) (skip : ℕ) (ids : List ℕ) → All IsNumber ids → Again carries.Nothing ty skip ids bodies.Plain (texts_of carries.Nothing skip ids bodies.Plain)
+plain_again : (ty : Ty) (skip : ℕ) (ids : List ℕ) → All IsNumber ids
+    → Again carries.Nothing ty skip ids bodies.Plain (texts_of carries.Nothing skip ids bodies.Plain)
 unfolding body_of takes_children
 plain_again ty skip ids h = record {
   items = child_items skip ids [] ++ [];
@@ -224,7 +226,8 @@ plain_again ty skip ids h = record {
   built = refl;
 }
 
-targets_again : (c : Carries) (ty : Ty) (skip : ℕ) (ids : List ℕ) → All IsNumber ids → body_of c ty skip (with_children nothing ids (given skip ids [])) ≡ Some (bodies.Targets [])
+targets_again : (c : Carries) (ty : Ty) (skip : ℕ) (ids : List ℕ) → All IsNumber ids
+    → body_of c ty skip (with_children nothing ids (given skip ids [])) ≡ Some (bodies.Targets [])
     → lead_texts c (bodies.Targets []) ≡ [] → Again c ty skip ids (bodies.Targets []) (texts_of c skip ids (bodies.Targets []))
 unfolding takes_children
 targets_again c ty skip ids h e none = record {

@@ -1,6 +1,6 @@
 -- What stands before the parentheses is read again.
-use Rattle.std.proofs.Common.{◌≡◌, ℕ, ◌+◌, ◌^◌, ◌<◌, Bool, true, false, not, ◌&&◌, nat_lt, List, [], ◌∷◌, ◌++◌, length, take, drop, Option, Some, None, refl, sym, ◌∙◌, ap, append_assoc, append-nil, arith}
-use Rattle.std.specs.Prelude.{◌==◌, codes, option_and_then, option_map}
+use Rattle.std.proofs.Common.{◌≡◌, ℕ, ◌^◌, ◌<◌, Bool, true, false, not, ◌&&◌, nat_lt, List, [], ◌∷◌, ◌++◌, length, Some, refl, ◌∙◌, ap, append-nil, arith}
+use Rattle.std.specs.Prelude.{◌==◌, codes, option_map}
 use Rattle.std.specs.Char.{is_ascii_digit}
 use Rattle.std.specs.Fmt.{decimal}
 use Rattle.std.specs.List.{list_all}
@@ -18,15 +18,15 @@ use Rattle.b3_ir.specs.declared.value.Value.{Value}
 use Rattle.b3_ir.specs.Fits.{MayChill, MayTrap}
 use Rattle.b3_ir.specs.Table.{row_of}
 use Rattle.b3_items.specs.Items.{is_mark_of}
-use Rattle.b3_items.specs.Table.{angle_in, flag_text, flagged, kind, kind_at, kind_of, opcodes, type_of, type_text, with_flag}
+use Rattle.b3_items.specs.Table.{angle_in, flagged, kind, kind_at, kind_of, opcodes, type_of, type_text}
 use Rattle.b3_items.proofs.TableLemmas.{each_passes, named_again}
 use Rattle.b3_rows.specs.declared.values.Head.{Head}
 use Rattle.b3_rows.specs.Values.{head_of, head_parts}
 use Rattle.b3_rows.specs.Written.{child_text, chosen_flag, kind_text}
 use Rattle.b3_written.specs.Listed.{head_text}
-use Rattle.b3_written.proofs.ItemTexts.{IsPiece, alone, digit_byte, is_quiet_piece, piece_byte, then_tokens}
+use Rattle.b3_written.proofs.ItemTexts.{IsPiece, alone, is_quiet_piece, piece_byte, then_tokens}
 use Rattle.b3_written.proofs.ItemsAgain.{child_piece, id_again}
-use Rattle.b3_written.proofs.RoundLemmas.{all_append, all_imply, and_true, digits, digits_all, quiet}
+use Rattle.b3_written.proofs.RoundLemmas.{all_append, all_imply, digits, digits_all, quiet}
 use Rattle.b3_written.proofs.ScanLemmas.{is_other, place_behind, place_none}
 
 -- ---- kinds
@@ -115,12 +115,14 @@ unfolding piece_byte quiet is_blank is_mark
 kind_piece k = record {
   some = long_front (row_of k.opcode).name (chosen_flag k) (plain_name k.opcode).some;
   all = all_append piece_byte (row_of k.opcode).name (chosen_flag k)
-      (all_imply name_byte piece_byte (row_of k.opcode).name byte_of_piece (plain_name k.opcode).all) (flag_bytes piece_byte k.chill k.traps k.opcode refl refl);
+      (all_imply name_byte piece_byte (row_of k.opcode).name byte_of_piece (plain_name k.opcode).all)
+      (flag_bytes piece_byte k.chill k.traps k.opcode refl refl);
 }
 
 kind_no_open : (k : Kind) → list_all (is_other 40) (kind_text k) ≡ true
 kind_no_open k = all_append (is_other 40) (row_of k.opcode).name (chosen_flag k)
-    (all_imply name_byte (is_other 40) (row_of k.opcode).name byte_no_open (plain_name k.opcode).all) (flag_bytes (is_other 40) k.chill k.traps k.opcode refl refl)
+    (all_imply name_byte (is_other 40) (row_of k.opcode).name byte_no_open (plain_name k.opcode).all)
+    (flag_bytes (is_other 40) k.chill k.traps k.opcode refl refl)
 
 -- ---- heads
 

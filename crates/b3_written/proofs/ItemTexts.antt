@@ -1,17 +1,16 @@
 -- Texts of items, and what is read in them.
-use Rattle.std.proofs.Common.{◌≡◌, ℕ, zero, suc, ◌+◌, ◌^◌, ◌<◌, ◌≤◌, Bool, true, false, cond, not, ◌&&◌, ◌||◌, List, [], ◌∷◌, ◌++◌, map, length, Option, Some, None, refl, sym, ◌∙◌, ap, append_assoc, append-nil, arith}
+use Rattle.std.proofs.Common.{◌≡◌, ℕ, ◌<◌, Bool, true, false, not, ◌&&◌, List, [], ◌∷◌, ◌++◌, length, Some, refl, sym, ◌∙◌, ap, append_assoc, append-nil, arith}
 use Rattle.std.specs.Prelude.{◌==◌, codes}
 use Rattle.std.specs.Char.{is_ascii_digit}
-use Rattle.std.specs.Fmt.{decimal}
 use Rattle.std.specs.List.{AllByRecursion, list_all}
 use Rattle.std.proofs.lemmas.Bool.{and_parts}
 use Rattle.std.proofs.lemmas.Bool.Decides.{nat_tests}
 use Rattle.b3_lines.specs.Tokens.{begins_piece, is_blank, is_mark, stands_in_piece, tokens}
-use Rattle.b3_lines.proofs.TokenLemmas.{both_fail, tokens_blank, tokens_mark}
+use Rattle.b3_lines.proofs.TokenLemmas.{both_fail}
 use Rattle.b3_items.specs.declared.items.Item.{Item}
-use Rattle.b3_items.specs.Items.{cut_items, item_of, items_of, onto_item, stays_inside}
+use Rattle.b3_items.specs.Items.{cut_items, item_of, stays_inside}
 use Rattle.b3_rows.specs.Written.{in_brackets, joined}
-use Rattle.b3_written.proofs.RoundLemmas.{all_append, all_imply, and_true, digit_piece, digit_quiet, digits_all, one_token, piece_tokens, quiet}
+use Rattle.b3_written.proofs.RoundLemmas.{all_append, all_imply, and_true, digit_piece, digit_quiet, one_token, piece_tokens, quiet}
 
 -- ---- pieces
 

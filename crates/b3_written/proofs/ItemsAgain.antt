@@ -1,15 +1,13 @@
 -- Each canonical item is read again.
-use Rattle.std.proofs.Common.{◌≡◌, ℕ, ℤ, zero, suc, ◌+◌, ◌^◌, ◌<◌, ◌≤◌, Bool, true, false, cond, not, ◌&&◌, nat_lt, List, [], ◌∷◌, ◌++◌, map, length, take, drop, Option, Some, None, All, refl, sym, ◌∙◌, ap, append_assoc, append-nil, arith}
-use Rattle.std.specs.Prelude.{◌==◌, codes, option_and_then, option_map}
+use Rattle.std.proofs.Common.{◌≡◌, ℕ, ℤ, ◌^◌, ◌<◌, ◌≤◌, Bool, true, false, cond, not, ◌&&◌, nat_lt, List, [], ◌∷◌, ◌++◌, map, length, Some, None, refl, sym, ◌∙◌, ap, append-nil, arith}
+use Rattle.std.specs.Prelude.{◌==◌, codes}
 use Rattle.std.specs.Char.{is_ascii_digit}
 use Rattle.std.specs.Fmt.{decimal, signed_decimal}
-use Rattle.std.specs.Str.{all_ascii_digits}
 use Rattle.std.specs.List.{AllByRecursion, list_all}
 use Rattle.std.proofs.lemmas.Bool.{and_parts, lt-ltb}
 use Rattle.std.proofs.lemmas.Bool.Decides.{nat_tests}
 use Rattle.std.proofs.lemmas.Fmt.{decimal_nonempty}
 use Rattle.std.proofs.lemmas.List.{take_at, drop_at}
-use Rattle.std.proofs.lemmas.List.Elements.{All-head, All-tail}
 use Rattle.b3_base.specs.Word.{bits}
 use Rattle.b3_base.specs.declared.word.Width.{Width}
 use Rattle.b3_base.specs.declared.word.Width.TheVariants.{W64}
@@ -20,9 +18,9 @@ use Rattle.b3_ir.specs.Fits.{IsConstraint}
 use Rattle.b3_items.specs.declared.items.Item.{Item}
 use Rattle.b3_items.specs.declared.items.Item.TheVariants as item
 use Rattle.b3_items.specs.declared.items.Label.{Label}
-use Rattle.b3_items.specs.declared.items.Label.TheVariants.{OffsetLabel, CasesLabel, ResultLabel, SizeLabel, EarlyLabel, LateLabel}
-use Rattle.b3_items.specs.Numbers.{below, digits_of, has_up_to, begins_hex, begins_minus, decimal_of, number_of}
-use Rattle.b3_items.specs.Items.{child, child_of, child_with, cases_of, colon_in, constraint_of, ends_list, free_constraint, id_of, is_mark_of, is_note, item_of, label_of, leading_of, mark_constraint, more_cases, more_regs, named_of, onto_front, phi_of, piece_at, piece_child, reg, reg_of, regs_of, slot_of, some_cases, some_regs, valued, with_reg, wraps}
+use Rattle.b3_items.specs.declared.items.Label.TheVariants.{CasesLabel, EarlyLabel, LateLabel}
+use Rattle.b3_items.specs.Numbers.{below, digits_of, has_up_to, begins_hex, decimal_of, number_of}
+use Rattle.b3_items.specs.Items.{child, child_of, cases_of, colon_in, constraint_of, ends_list, free_constraint, id_of, is_mark_of, is_note, item_of, label_of, leading_of, mark_constraint, more_cases, more_regs, named_of, phi_of, piece_at, piece_child, reg, reg_of, regs_of, slot_of, some_cases, some_regs, valued, with_reg, wraps}
 use Rattle.b3_rows.specs.Written.{child_text, constraint_text, in_brackets, members_from, phi_text, reg_text, set_text, word_text}
 use Rattle.b3_written.proofs.ItemTexts.{ArePieces, IsPiece, Says, digit_byte, list_tokens, tail_tokens, piece_byte, says_list, says_named, says_piece}
 use Rattle.b3_written.proofs.RoundLemmas.{and_true, digits, digits_all, plain_again, quiet}
@@ -192,8 +190,13 @@ placed_again : (n : ℕ) (c : Constraint) → n < 2 ^ 31 → IsConstraint c → 
 unfolding piece_child colon_in
 placed_again n c h k =
     ap (piece_at (child_text n ++ (58 ∷ constraint_text c))) (place_behind 58 (child_text n) (constraint_text c) (no_colon n h))
-    ∙ rw (take_at (child_text n) (58 ∷ constraint_text c) (length (child_text n)) refl, drop_at (child_text n) (58 ∷ constraint_text c) (length
-    (child_text n)) refl, mark_again c k, id_again n h) refl
+    ∙ rw (
+      take_at (child_text n) (58 ∷ constraint_text c) (length (child_text n)) refl,
+      drop_at (child_text n) (58 ∷ constraint_text c) (length
+          (child_text n)) refl,
+      mark_again c k,
+      id_again n h,
+    ) refl
 
 placed_piece : (n : ℕ) (c : Constraint) → n < 2 ^ 31 → IsConstraint c → IsPiece (child_text n ++ (58 ∷ constraint_text c))
 unfolding piece_byte quiet is_blank is_mark

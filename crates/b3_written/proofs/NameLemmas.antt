@@ -1,5 +1,5 @@
 -- The header of a procedure is read again.
-use Rattle.std.proofs.Common.{◌≡◌, ℕ, Bool, true, false, List, [], ◌∷◌, length, refl, ◌∙◌, ap, arith}
+use Rattle.std.proofs.Common.{◌≡◌, ℕ, true, false, List, [], ◌∷◌, length, refl, ◌∙◌, ap, arith}
 use Rattle.std.specs.Prelude.{codes}
 use Rattle.std.specs.List.{list_all}
 use Rattle.std.proofs.lemmas.Bool.{and_parts, le-leb}
@@ -9,7 +9,7 @@ use Rattle.b3_ir.specs.Names.{IsName, may_stand_in_name}
 use Rattle.b3_rows.specs.declared.row.Row.TheVariants.{Header}
 use Rattle.b3_rows.specs.Rows.{carries_nothing, header_of, heading_of, is_name_text, is_slots_line, other_row, row_in, row_of_line, slot_of_line, words_row}
 use Rattle.b3_rows.specs.Written.{line_of_row}
-use Rattle.b3_written.proofs.RoundLemmas.{all_imply, and_true, ink_end, quiet, quiet_row, token_alone}
+use Rattle.b3_written.proofs.RoundLemmas.{all_imply, ink_end, quiet, quiet_row, token_alone}
 
 pub name_quiet : (c : ℕ) → may_stand_in_name c ≡ true → quiet c ≡ true
 unfolding quiet

@@ -1,5 +1,5 @@
 -- The first place of a byte.
-use Rattle.std.proofs.Common.{◌≡◌, ℕ, suc, ◌+◌, ◌<◌, Bool, true, false, cond, not, ◌&&◌, nat_lt, List, [], ◌∷◌, ◌++◌, length, Option, Some, None, refl, sym, ◌∙◌, ap, arith, eq-eqb}
+use Rattle.std.proofs.Common.{◌≡◌, ℕ, Bool, true, false, not, nat_lt, List, [], ◌∷◌, ◌++◌, length, Some, None, refl, arith, eq-eqb}
 use Rattle.std.specs.Prelude.{◌==◌}
 use Rattle.std.specs.List.{list_all, position, position_or_len}
 use Rattle.std.proofs.lemmas.Bool.{and_parts, lt-ltb}
@@ -21,7 +21,7 @@ pub place_behind : (k : ℕ) (front rest : List ℕ) → list_all (is_other k) f
 place_behind k front rest h =
     let len = place_len k front rest h in
     let lt : nat_lt (length front) (length (front ++ (k ∷ rest))) ≡ true = lt-ltb (length front) (length (front ++ (k ∷ rest)))
-        (omega (arith, length-append front (k ∷ rest))) in
+    (omega (arith, length-append front (k ∷ rest))) in
     rw (len, lt) refl
 
 whole_len : (k : ℕ) (text : List ℕ) → list_all (is_other k) text ≡ true → position_or_len (λ b. b == k) text ≡ length text

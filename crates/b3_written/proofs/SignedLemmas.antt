@@ -1,6 +1,6 @@
 -- Signed decimals are read again as the words that they stand for.
-use Rattle.std.proofs.Common.{◌≡◌, ℕ, ℤ, pos, negsuc, zero, suc, ◌+◌, ◌-◌, ◌^◌, ◌<◌, ◌≤◌, Bool, true, false, cond, not, ◌&&◌, nat_lt, nat_le, List, [], ◌∷◌, ◌++◌, length, Option, Some, None, refl, sym, ◌∙◌, ap, append-nil, arith}
-use Rattle.std.specs.Prelude.{◌==◌, ◌≤ℤ◌, option_map, option_and_then}
+use Rattle.std.proofs.Common.{◌≡◌, ℕ, ℤ, pos, negsuc, suc, ◌+◌, ◌-◌, ◌^◌, ◌<◌, ◌≤◌, Bool, true, false, cond, ◌&&◌, nat_lt, nat_le, List, [], ◌∷◌, ◌++◌, length, Some, refl, arith}
+use Rattle.std.specs.Prelude.{◌==◌, ◌≤ℤ◌}
 use Rattle.std.specs.Char.{is_ascii_digit}
 use Rattle.std.specs.Fmt.{decimal, signed_decimal}
 use Rattle.std.specs.Int.{w32, w64, cast_signed}
@@ -13,11 +13,10 @@ use Rattle.std.proofs.lemmas.Fmt.{digits_decimal, digits_value-decimal, decimal_
 use Rattle.b3_base.specs.Word.{bits}
 use Rattle.b3_base.specs.declared.word.Width.{Width}
 use Rattle.b3_base.specs.declared.word.Width.TheVariants.{W32, W64}
-use Rattle.b3_lines.specs.Tokens.{stands_in_piece}
 use Rattle.b3_items.specs.declared.numbers.Number.{Number}
 use Rattle.b3_items.specs.Numbers.{begins_hex, begins_minus, case_of, decimal_of, number_of, offset_in, offset_of, signed, value_on, word_below, word_of}
 use Rattle.b3_rows.specs.Written.{word_text}
-use Rattle.b3_written.proofs.RoundLemmas.{and_true, digit_piece, digit_quiet, digits_all, own, quiet}
+use Rattle.b3_written.proofs.RoundLemmas.{and_true, digits_all, own}
 
 digit_minus : (c : ℕ) → is_ascii_digit c ≡ true → (c == 45) ≡ false
 digit_minus c h = grind (arith, nat_tests)

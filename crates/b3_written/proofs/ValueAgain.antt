@@ -1,9 +1,9 @@
 -- A value is read again from its canonical line.
-use Rattle.std.proofs.Common.{◌≡◌, ℕ, suc, ◌+◌, ◌-◌, ◌^◌, ◌<◌, Bool, true, false, List, [], ◌∷◌, ◌++◌, length, take, drop, Option, Some, None, refl, sym, ◌∙◌, ap, append_assoc, arith}
-use Rattle.std.specs.Prelude.{codes, option_map, option_and_then}
+use Rattle.std.proofs.Common.{◌≡◌, ℕ, suc, ◌+◌, ◌^◌, ◌<◌, true, List, [], ◌∷◌, ◌++◌, length, drop, Option, Some, refl, sym, ◌∙◌, ap, append_assoc, arith}
+use Rattle.std.specs.Prelude.{codes, option_map}
 use Rattle.std.specs.Fmt.{decimal}
 use Rattle.std.specs.List.{list_all}
-use Rattle.std.proofs.lemmas.List.{take_at, drop_at}
+use Rattle.std.proofs.lemmas.List.{take_at}
 use Rattle.b3_lines.specs.Tokens.{is_blank, is_mark, tokens, without_blanks_after}
 use Rattle.b3_lines.proofs.TokenLemmas.{ink_after}
 use Rattle.b3_ir.specs.declared.opcode.Ty.{Ty}
@@ -13,12 +13,11 @@ use Rattle.b3_ir.specs.declared.value.Value.{Value}
 use Rattle.b3_ir.specs.Fits.{reported_count}
 use Rattle.b3_ir.specs.Table.{row_of}
 use Rattle.b3_items.specs.Table.{type_text}
-use Rattle.b3_rows.specs.declared.row.Row.{Row}
 use Rattle.b3_rows.specs.declared.row.Row.TheVariants.{ValueRow}
 use Rattle.b3_rows.specs.Listed.{IsListedValue}
 use Rattle.b3_rows.specs.Rows.{carries_nothing, header_of, heading_of, is_slots_line, or_bad, other_row, row_in, row_of_line, slot_of_line, value_row, words_row}
-use Rattle.b3_rows.specs.Values.{built, inner_of, open_in, value, value_at, value_of}
-use Rattle.b3_rows.specs.Written.{child_text, constraints_of, item_texts, joined, kind_text, line_of_row}
+use Rattle.b3_rows.specs.Values.{built, open_in, value, value_of}
+use Rattle.b3_rows.specs.Written.{child_text, item_texts, joined, kind_text, line_of_row}
 use Rattle.b3_rows.proofs.FitLemmas.{exit_count, site_count}
 use Rattle.b3_rows.proofs.ValueLemmas.{inner_yes}
 use Rattle.b3_written.specs.Listed.{head_text}
@@ -86,7 +85,8 @@ open_tokens : (v : Value) (rest : List ℕ) → v.id < 2 ^ 31
     → tokens (front_of v ++ (40 ∷ rest)) ≡ type_text v.ty ∷ child_text v.id ∷ codes "=" ∷ kind_text v.kind ∷ codes "(" ∷ tokens rest
 unfolding tokens is_blank is_mark
 open_tokens v rest h =
-    let shape : front_of v ++ (40 ∷ rest) ≡ codes "    " ++ (type_text v.ty ++ (codes " b@" ++ (decimal v.id ++ (codes " = " ++ (kind_text v.kind ++ (40 ∷ rest)))))) = simp append_assoc refl in
+    let shape : front_of v ++ (40 ∷ rest)
+    ≡ codes "    " ++ (type_text v.ty ++ (codes " b@" ++ (decimal v.id ++ (codes " = " ++ (kind_text v.kind ++ (40 ∷ rest)))))) = simp append_assoc refl in
     ap tokens shape ∙ front_tokens v.ty v.id (kind_text v.kind ++ (40 ∷ rest)) h
     ∙ ap (λ (ts : List (List ℕ)). type_text v.ty ∷ child_text v.id ∷ codes "=" ∷ ts) (then_tokens (kind_text v.kind) (40 ∷ rest) (kind_piece v.kind) refl)
 

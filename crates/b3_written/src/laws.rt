@@ -31,5 +31,6 @@ pub fn rows_are_read()
 
 /// Tells that a canonical line that LF, 10, ends is cut off again as it is. It takes no memory.
 pub fn lines_are_cut()
-    ensures { (row : Row) → IsGoodRow row → (rest : List ℕ) → lines_of (line_of_row row ++ (10 ∷ rest)) ≡ line_of_row row ∷ lines_of rest }
+    ensures { (row : Row) → IsGoodRow row → (rest : List ℕ)
+        → lines_of (line_of_row row ++ (10 ∷ rest)) ≡ line_of_row row ∷ lines_of rest }
 {}
