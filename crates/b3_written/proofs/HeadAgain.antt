@@ -26,7 +26,7 @@ use Rattle.b3_rows.specs.Written.{child_text, chosen_flag, kind_text}
 use Rattle.b3_written.specs.Listed.{head_text}
 use Rattle.b3_written.proofs.ItemTexts.{IsPiece, alone, is_quiet_piece, piece_byte, then_tokens}
 use Rattle.b3_written.proofs.ItemsAgain.{child_piece, id_again}
-use Rattle.b3_written.proofs.RoundLemmas.{all_append, all_imply, digits, digits_all, quiet}
+use Rattle.b3_written.proofs.RoundLemmas.{all_append, all_imply, digit_quiet, digits, digits_all, quiet}
 use Rattle.b3_written.proofs.ScanLemmas.{is_other, place_behind, place_none}
 
 -- ---- kinds
@@ -171,10 +171,6 @@ head_no_open v h =
     all_append (is_other 40) (type_text v.ty) (codes " b@" ++ (decimal v.id ++ (codes " = " ++ kind_text v.kind)))
     (type_all (is_other 40) v.ty refl refl refl)
     (digits_all (is_other 40) (decimal v.id) (codes " = " ++ kind_text v.kind) digit_open (digits v.id h) (kind_no_open v.kind))
-
-digit_quiet : (c : ℕ) → is_ascii_digit c ≡ true → quiet c ≡ true
-unfolding quiet
-digit_quiet c h = grind (arith, nat_tests)
 
 pub head_quiet : (v : Value) → v.id < 2 ^ 31 → list_all quiet (codes "    " ++ head_text v) ≡ true
 unfolding quiet
