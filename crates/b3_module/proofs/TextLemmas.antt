@@ -148,7 +148,7 @@ with_body v f body e h same match targets = record {
 nothing_text : (v : Value) → following v.kind.opcode ≡ Nothing → IsSaid v → IsTextValue v
 nothing_text v e h =
     let a = alone (row_of v.kind.opcode).carries v.ty (reported_count v) v.body
-        (nothing_plain (row_of v.kind.opcode).carries (agrees_with v Nothing e)) h.body in
+    (nothing_plain (row_of v.kind.opcode).carries (agrees_with v Nothing e)) h.body in
     with_body v Nothing v.body e h a.0 (a.0, a.1) a.2
 
 bare_text : (v : Value) → following v.kind.opcode ≡ Bare → IsSaid v → IsTextValue v
