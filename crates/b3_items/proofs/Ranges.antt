@@ -1,5 +1,5 @@
 -- The ranges of what items give.
-use Rattle.std.proofs.Common.{◌≡◌, ℕ, zero, suc, ◌-◌, ◌<◌, ◌≤◌, ◌^◌, Bool, true, false, cond, List, [], ◌∷◌, Option, Some, None, All, refl, arith}
+use Rattle.std.proofs.Common.{◌≡◌, ℕ, zero, suc, ◌-◌, ◌<◌, ◌≤◌, ◌^◌, Bool, true, false, cond, List, [], ◌∷◌, take, Option, Some, None, All, refl, arith}
 use Rattle.std.specs.Prelude.{◌==◌, ◌≤ℤ◌, ℤ, pos, negsuc, neg_ℤ, nat_lt, nat_le, IfSome, option_map, option_and_then, codes, bytes_eq}
 use Rattle.std.specs.List.{find, AllByRecursion}
 use Rattle.std.proofs.lemmas.List.Elements.{All-cons, All-nil}
@@ -151,25 +151,34 @@ constraint_range text =
 
 -- ---- children
 
-abbrev pub IsChild : Child → Type 0
-IsChild c = IfSome c.constraint IsConstraint
+pub record IsChild (c : Child) : Type 0 where
+  pub id : c.id < 2 ^ 31
+  pub constraint : IfSome c.constraint IsConstraint
+
+abbrev IsPlain : ℕ → Type 0
+IsPlain n = n < 2 ^ 31
+
+pub id_range : (text : List ℕ) → IfSome (id_of text) IsPlain
+unfolding id_of
+id_range text =
+    or_some IsPlain (plain_after (codes "@") text) _ (plain_after_range (codes "@") text) (plain_after_range (codes "b@") text)
 
 mark_range : (text : List ℕ) → IfSome (mark_constraint text) IsConstraint
 unfolding mark_constraint
 mark_range text = then_some (λ t. Unit {0}) IsConstraint constraint_of (after (codes ":") text) (any_some (after (codes ":") text)) (λ t u. constraint_range t)
 
-bare_range : (id : Option ℕ) → IfSome (option_map (child None) id) IsChild
-bare_range None = tt
-bare_range (Some id) = tt
+bare_range : (id : Option ℕ) → IfSome id IsPlain → IfSome (option_map (child None) id) IsChild
+bare_range None k = tt
+bare_range (Some id) k = record { id = k; constraint = tt }
 
-with_range : (c : Option Constraint) (id : Option ℕ) → IfSome c IsConstraint → IfSome (child_with c id) IsChild
-with_range None id h = tt
-with_range (Some c) None h = tt
-with_range (Some c) (Some id) h = h
+with_range : (c : Option Constraint) (id : Option ℕ) → IfSome c IsConstraint → IfSome id IsPlain → IfSome (child_with c id) IsChild
+with_range None id h k = tt
+with_range (Some c) None h k = tt
+with_range (Some c) (Some id) h k = record { id = k; constraint = h }
 
 piece_range : (piece : List ℕ) (at : Option ℕ) → IfSome (piece_at piece at) IsChild
-piece_range piece None = bare_range (id_of piece)
-piece_range piece (Some at) = with_range _ _ (mark_range _)
+piece_range piece None = bare_range (id_of piece) (id_range piece)
+piece_range piece (Some at) = with_range _ _ (mark_range _) (id_range (take at piece))
 
 child_range : (ts : List (List ℕ)) → IfSome (child_of ts) IsChild
 unfolding child_of piece_child
@@ -177,8 +186,9 @@ child_range [] = tt
 child_range (piece ∷ []) = piece_range piece (colon_in piece)
 child_range (a ∷ b ∷ []) = tt
 child_range (a ∷ b ∷ c ∷ []) = tt
-child_range (note ∷ o ∷ id ∷ close ∷ []) = cond_some IsChild (wraps note o close) _ None (bare_range (id_of id)) tt
-child_range (note ∷ o ∷ id ∷ close ∷ constraint ∷ []) = cond_some IsChild (wraps note o close) _ None (with_range _ (id_of id) (mark_range constraint)) tt
+child_range (note ∷ o ∷ id ∷ close ∷ []) = cond_some IsChild (wraps note o close) _ None (bare_range (id_of id) (id_range id)) tt
+child_range (note ∷ o ∷ id ∷ close ∷ constraint ∷ []) =
+    cond_some IsChild (wraps note o close) _ None (with_range _ (id_of id) (mark_range constraint) (id_range id)) tt
 child_range (a ∷ b ∷ c ∷ d ∷ e ∷ f ∷ ts) = tt
 
 -- ---- lists
@@ -238,7 +248,7 @@ IsItem (item.Number n) = Unit {0}
 IsItem (item.Register r) = IsReg r
 IsItem (item.SlotNumber n) = n < 2 ^ 31
 IsItem (item.Operand c) = IsChild c
-IsItem (item.PhiId n) = Unit {0}
+IsItem (item.PhiId n) = n < 2 ^ 31
 IsItem (item.Offset z) = InWord z
 IsItem (item.Cases ws) = AreWords ws
 IsItem (item.ResultPlace c) = IsConstraint c
@@ -250,12 +260,12 @@ IsItem item.Used = Unit {0}
 IsItem item.Effects = Unit {0}
 
 leading_range : (piece : List ℕ) → IfSome (leading_of piece) IsItem
-unfolding leading_of slot_of
+unfolding leading_of slot_of phi_of
 leading_range piece =
     or_some IsItem (option_map item.Number (number_of piece)) _ (map_some IsItem item.Number (number_of piece) (any_some (number_of piece)))
     (or_some IsItem (option_map item.Register (reg_of piece)) _ (map_some IsItem item.Register (reg_of piece) (reg_range piece))
     (or_some IsItem (option_map item.SlotNumber (slot_of piece)) _ (map_some IsItem item.SlotNumber (slot_of piece) (plain_after_range (codes "stack") piece))
-    (map_some IsItem item.PhiId (phi_of piece) (any_some (phi_of piece)))))
+    (map_some IsItem item.PhiId (phi_of piece) (plain_after_range (codes "^") piece))))
 
 lone_range : {A : Type 0} (P : A → Type 0) (f : List ℕ → Option A) (ts : List (List ℕ)) → ((t : List ℕ) → IfSome (f t) P)
     → IfSome (option_and_then f (lone ts)) P

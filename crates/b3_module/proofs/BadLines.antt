@@ -5,13 +5,12 @@ use Rattle.std.proofs.lemmas.List.{append-nil, length-append, length-map, take-a
 use Rattle.std.proofs.Math.Seq.{take-append_seam}
 use Rattle.std.proofs.lemmas.Bool.{cases_lt}
 use Rattle.b3_ir.specs.Procedure.{Procedure}
-use Rattle.b3_rows.specs.declared.row.Row.{Row}
 use Rattle.b3_rows.specs.Rows.{row_of_line}
 use Rattle.b3_module.specs.declared.place.Place.{Place}
 use Rattle.b3_module.specs.declared.place.Place.TheVariants as places
 use Rattle.b3_module.specs.Reading.{may_end}
-use Rattle.b3_module.specs.Texts.{State, added, added_to, at, BeginsText, ended, first, IsBadLine, IsText, led, spelled}
-use Rattle.b3_module.proofs.Leading.{ending, ends, led_append, led_none}
+use Rattle.b3_module.specs.Texts.{State, added, at, BeginsText, ended, first, IsBadLine, led, spelled}
+use Rattle.b3_module.proofs.Leading.{ends, led_append, led_none}
 use Rattle.b3_module.proofs.EndingLines.{ending_lines}
 
 -- the lines are some that are read, and `rest`

@@ -1,6 +1,6 @@
 -- The rows of a module spell it.
-use Rattle.std.proofs.Common.{◌≡◌, ℕ, zero, suc, ◌+◌, ◌≤◌, List, [], ◌∷◌, ◌++◌, length, Option, Some, None, refl, sym, ap, subst, ◌∙◌, arith, append_assoc}
-use Rattle.std.specs.Prelude.{map, ◌==◌, if◌then◌else◌}
+use Rattle.std.proofs.Common.{◌≡◌, ℕ, ◌+◌, ◌≤◌, List, [], ◌∷◌, ◌++◌, length, Option, Some, refl, sym, ap, ◌∙◌, arith, append_assoc}
+use Rattle.std.specs.Prelude.{map}
 use Rattle.std.specs.List.{flat_map}
 use Rattle.std.proofs.lemmas.List.{append-nil, length-append, length-map}
 use Rattle.b3_ir.specs.declared.procedure.SlotLine.{SlotLine}
@@ -14,7 +14,7 @@ use Rattle.b3_module.specs.declared.place.Following.{Following}
 use Rattle.b3_module.specs.declared.place.Following.TheVariants.{Nothing, Bare, One, Two, Many}
 use Rattle.b3_module.specs.declared.place.Place.{Place}
 use Rattle.b3_module.specs.declared.place.Place.TheVariants as places
-use Rattle.b3_module.specs.Texts.{State, added, added_value, after_value, at, ended, first, following, led, spelled, targets_in, with_heading, with_last, with_slot, with_value}
+use Rattle.b3_module.specs.Texts.{State, added, added_value, after_value, at, ended, following, led, with_heading, with_last, with_slot, with_value}
 use Rattle.b3_module.specs.Canonical.{AreBlocksMatched, AreMatched, AreRowed, RowsSpell, bare, bare_body, canonical_rows, lined, lined_blocks, lined_procedure, lined_slots, lined_values, Matches, row_of_slot, rows_of_block, rows_of_procedure, rows_of_value, successors_of}
 use Rattle.b3_module.proofs.Leading.{passed}
 

@@ -1,6 +1,6 @@
 -- Lines that end a text behind each place.
-use Rattle.std.proofs.Common.{◌≡◌, ℕ, zero, suc, ◌+◌, Bool, true, false, List, [], ◌∷◌, ◌++◌, length, Option, Some, None, refl, sym, ap, ◌∙◌, arith}
-use Rattle.std.specs.Prelude.{map, codes, if◌then◌else◌, not, ◌&&◌, nat_eq, option_map, option_and_then, replicate, bytes_eq}
+use Rattle.std.proofs.Common.{◌≡◌, ℕ, zero, suc, ◌+◌, true, false, List, [], ◌∷◌, ◌++◌, Option, Some, None, refl, ap, ◌∙◌, arith}
+use Rattle.std.specs.Prelude.{map, codes, option_map, replicate}
 use Rattle.std.specs.Option.{option_or}
 use Rattle.b3_lines.specs.Lines.{are_ascii, before_comment, ends_in_cr}
 use Rattle.b3_lines.specs.Tokens.{is_blank, is_mark, onto_text, tokens, without_blanks_after}

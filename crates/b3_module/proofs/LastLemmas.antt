@@ -1,12 +1,11 @@
 -- Changes of the last procedure of a module.
-use Rattle.std.proofs.Common.{◌≡◌, ℕ, zero, suc, ◌+◌, ◌-◌, ◌<◌, ◌≤◌, List, [], ◌∷◌, ◌++◌, length, Option, Some, None, refl, sym, ap, subst, ◌∙◌, arith, rules}
-use Rattle.std.specs.Prelude.{map, slice_get, slice_set, slice_index_or, sum_by}
-use Rattle.std.proofs.lemmas.List.{length-append, length-map}
+use Rattle.std.proofs.Common.{◌≡◌, ℕ, zero, suc, ◌+◌, ◌-◌, List, [], ◌∷◌, ◌++◌, length, Some, refl, sym, ap, ◌∙◌, arith}
+use Rattle.std.specs.Prelude.{map, slice_get, slice_set, slice_index_or}
+use Rattle.std.proofs.lemmas.List.{length-map}
 use Rattle.b3_ir.specs.declared.value.Value.{Value}
-use Rattle.b3_ir.specs.Procedure.{Block, Kept, Procedure, empty_procedure, empty_kept, no_block, procedures, total, values_of, with_values}
-use Rattle.b3_module.specs.declared.place.Place.{Place}
-use Rattle.b3_module.specs.Texts.{State, at, with_heading, with_last, with_slot, with_value}
-use Rattle.b3_module.specs.Reading.{IsCounted, last_of, size_of}
+use Rattle.b3_ir.specs.Procedure.{Block, Kept, Procedure, empty_procedure, empty_kept, no_block, procedures, values_of, with_values}
+use Rattle.b3_module.specs.Texts.{with_last, with_value}
+use Rattle.b3_module.specs.Reading.{last_of}
 
 -- ---- the last item of a list
 

@@ -1,6 +1,6 @@
 -- What rows lead to, in parts; and each place can be gone on from to an end.
-use Rattle.std.proofs.Common.{◌≡◌, ℕ, ◌+◌, List, [], ◌∷◌, ◌++◌, length, Option, Some, None, refl, sym, ap, subst, ◌∙◌, arith, true, false}
-use Rattle.std.specs.Prelude.{map, codes, ◌==◌, replicate, if◌then◌else◌}
+use Rattle.std.proofs.Common.{◌≡◌, ℕ, ◌+◌, List, [], ◌∷◌, ◌++◌, length, Option, Some, None, refl, ap, arith}
+use Rattle.std.specs.Prelude.{codes, ◌==◌, replicate, if◌then◌else◌}
 use Rattle.std.proofs.lemmas.Bool.Decides.{nat_tests}
 use Rattle.std.proofs.lemmas.List.{length-replicate}
 use Rattle.b3_ir.specs.Procedure.{Procedure}
@@ -8,7 +8,7 @@ use Rattle.b3_rows.specs.declared.row.Row.{Row}
 use Rattle.b3_rows.specs.declared.row.Row.TheVariants as rows
 use Rattle.b3_module.specs.declared.place.Place.{Place}
 use Rattle.b3_module.specs.declared.place.Place.TheVariants as places
-use Rattle.b3_module.specs.Texts.{State, added, added_to, at, cases_in, ended, led}
+use Rattle.b3_module.specs.Texts.{State, added_to, at, cases_in, ended, led}
 
 -- ---- in parts
 

@@ -9,3 +9,5 @@ pub mod LimitLemmas
 pub mod Rising
 pub mod Telling
 pub mod Canonically
+pub mod TextLemmas
+pub mod LinedLemmas

@@ -12,7 +12,7 @@ use Rattle.b3_module.specs.declared.counting.Counts.{Counts}
 use Rattle.b3_module.specs.declared.counting.Passed.{Passed}
 use Rattle.b3_module.specs.Limits.{Part, Header, Slot, Heading, Computed, Placed, Scope, WholeText, EachProcedure, scope, most, rank, counted, parts_of, passes_in, Passes, up_to, IsFirstLimit, KeepsLimits}
 use Rattle.b3_module.specs.Counting.{anew, counted_all, counted_on, no_counts, with_header, with_heading, with_part, with_placed, with_slot, with_value}
-use Rattle.b3_module.proofs.CountLemmas.{all_err, counted_append, counted_err}
+use Rattle.b3_module.proofs.CountLemmas.{all_err, counted_err}
 
 -- ---- the counts by the names of limits
 

@@ -1,11 +1,11 @@
 -- What is reached while a text is read.
-use Rattle.std.proofs.Common.{◌≡◌, ℕ, zero, suc, ◌+◌, ◌-◌, ◌<◌, ◌≤◌, List, [], ◌∷◌, ◌++◌, length, Option, Some, None, refl, sym, ap, subst, ◌∙◌, arith, true, false}
-use Rattle.std.specs.Prelude.{map, slice_index_or, sum_by, ◌==◌, if◌then◌else◌}
+use Rattle.std.proofs.Common.{◌≡◌, ℕ, ◌+◌, ◌-◌, ◌≤◌, List, [], ◌∷◌, ◌++◌, length, Option, Some, None, refl, ap, subst, ◌∙◌, arith, true, false}
+use Rattle.std.specs.Prelude.{slice_index_or, sum_by, ◌==◌, if◌then◌else◌}
 use Rattle.std.proofs.lemmas.List.{length-append}
 use Rattle.std.proofs.lemmas.List.Sums.{sum_by-cons, sum_by_push}
 use Rattle.b3_ir.specs.declared.value.Value.{Value}
 use Rattle.b3_ir.specs.Fits.{Fits}
-use Rattle.b3_ir.specs.Procedure.{Block, Kept, Procedure, empty_block, empty_procedure, total}
+use Rattle.b3_ir.specs.Procedure.{Block, Procedure, empty_block, empty_procedure}
 use Rattle.b3_rows.specs.declared.row.Row.{Row}
 use Rattle.b3_rows.specs.declared.row.Row.TheVariants as rows
 use Rattle.b3_module.specs.declared.place.Following.{Following}

@@ -1,5 +1,5 @@
 -- What is read of a text stands on rising lines.
-use Rattle.std.proofs.Common.{◌≡◌, ℕ, zero, suc, ◌+◌, ◌-◌, ◌<◌, ◌≤◌, List, [], ◌∷◌, ◌++◌, length, Option, Some, None, true, false, refl, sym, ap, subst, ◌∙◌, arith, append_assoc}
+use Rattle.std.proofs.Common.{◌≡◌, ℕ, suc, ◌+◌, ◌-◌, ◌<◌, ◌≤◌, List, [], ◌∷◌, ◌++◌, length, Option, Some, None, true, false, refl, sym, ap, subst, ◌∙◌, arith, append_assoc}
 use Rattle.std.specs.Prelude.{map, slice_index_or, ◌==◌, if◌then◌else◌}
 use Rattle.std.specs.List.{flat_map}
 use Rattle.std.proofs.lemmas.List.{append-nil}
@@ -13,7 +13,7 @@ use Rattle.b3_module.specs.declared.place.Following.TheVariants.{Nothing, Bare, 
 use Rattle.b3_module.specs.declared.place.Place.{Place}
 use Rattle.b3_module.specs.declared.place.Place.TheVariants as places
 use Rattle.b3_module.specs.Texts.{State, added, added_to, added_value, after_value, at, branched, cases_in, ended, ended_at, first, following, jumped, led, opened, placed, returned, slotted, spelled, switched, valued, with_heading, with_last, with_slot, with_targets, with_value}
-use Rattle.b3_module.specs.Limits.{Part, Header, Slot, Heading, Computed, Placed, operands, parts_of, parts_of_block, parts_of_slots, part_of_slot, part_of_value}
+use Rattle.b3_module.specs.Limits.{Part, Header, Slot, Heading, Placed, parts_of, parts_of_block, parts_of_slots, part_of_slot, part_of_value}
 use Rattle.b3_module.specs.Reading.{HasBlock, last_of}
 use Rattle.b3_module.proofs.LimitLemmas.{AreRising, Below}
 use Rattle.b3_module.proofs.BadLines.{map_append}

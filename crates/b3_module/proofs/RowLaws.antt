@@ -1,9 +1,6 @@
 -- What lines can say.
-use Rattle.std.proofs.Common.{◌≡◌, ℕ, zero, suc, ◌+◌, ◌≤◌, Bool, true, false, cond, List, [], ◌∷◌, ◌++◌, length, Option, Some, None, refl, sym, ap, subst, ◌∙◌, arith}
-use Rattle.std.specs.Prelude.{map, codes, ◌==◌, ◌&&◌, if◌then◌else◌, option_map, replicate, bytes_eq, nat_le}
-use Rattle.std.specs.List.{list_all}
-use Rattle.std.specs.Option.{option_or}
-use Rattle.std.proofs.lemmas.Bool.Decides.{nat_tests}
+use Rattle.std.proofs.Common.{◌≡◌, ℕ, ◌+◌, ◌≤◌, Bool, true, false, List, [], ◌∷◌, length, refl, sym, ap, subst, ◌∙◌, arith}
+use Rattle.std.specs.Prelude.{map, ◌==◌, ◌&&◌, if◌then◌else◌}
 use Rattle.b3_ir.specs.declared.opcode.Opcode.{Opcode}
 use Rattle.b3_ir.specs.declared.opcode.Opcode.TheVariants as op
 use Rattle.b3_ir.specs.declared.opcode.Ty.{Ty}
@@ -13,15 +10,15 @@ use Rattle.b3_ir.specs.declared.value.Body.{Body}
 use Rattle.b3_ir.specs.declared.value.Body.TheVariants as bodies
 use Rattle.b3_ir.specs.declared.value.Value.{Value}
 use Rattle.b3_ir.specs.Fits.{Fits, IsBody, reported_count}
-use Rattle.b3_ir.specs.Names.{IsName, begins_name, may_stand_in_name}
 use Rattle.b3_ir.specs.Table.{row_of}
-use Rattle.b3_lines.specs.Lines.{begins_lf, before_comment, lines_of, onto_line}
-use Rattle.b3_lines.specs.Tokens.{is_blank, is_mark, onto_text, tokens, without_blanks_after}
+use Rattle.b3_lines.specs.Lines.{begins_lf, lines_of, onto_line}
 use Rattle.b3_rows.specs.declared.row.Row.{Row}
 use Rattle.b3_rows.specs.declared.row.Row.TheVariants as rows
-use Rattle.b3_rows.specs.Rows.{carries_nothing, header_of, heading_of, is_clean, is_name_text, many_of, one_of, or_bad, other_row, plain_between, row_in, row_of_line, row_of_text, slot_of_line, slot_row, successors_of, two_of, two_row, words_row}
+use Rattle.b3_rows.specs.Rows.{row_of_line}
 use Rattle.b3_rows.specs.Successors.{case_count, count_of, with_successors, with_targets as targeted}
-use Rattle.b3_rows.proofs.FitLemmas.{lines_fit}
+use Rattle.b3_rows.specs.Ranges.{IsInRange}
+use Rattle.b3_rows.proofs.FitLemmas.{later_fits}
+use Rattle.b3_rows.proofs.RangeLemmas.{row_range}
 use Rattle.b3_module.specs.declared.place.Following.{Following}
 use Rattle.b3_module.specs.declared.place.Following.TheVariants.{Nothing, Bare, One, Two, Many}
 use Rattle.b3_module.specs.Texts.{cases_in, following, targets_in}
@@ -45,143 +42,10 @@ lines_short (b ∷ bytes) =
     let more = pick (b == 10) ((b == 13) && begins_lf bytes) (lines_of bytes) b (length bytes) (lines_short bytes) in
     omega (arith, more)
 
--- ---- the name in a header
-
-Named : Row → Type 0
-Named (rows.Header name) = is_name_text name ≡ true
-Named rows.Blank = Unit {0}
-Named row = Unit {0}
-
-NamedIn : Option Row → Type 0
-NamedIn None = Unit {0}
-NamedIn (Some row) = Named row
-
-named_or : (a b : Option Row) → NamedIn a → NamedIn b → NamedIn (option_or a b)
-unfolding NamedIn
-named_or None b h k = k
-named_or (Some row) b h k = h
-
-named_bad : (a : Option Row) → NamedIn a → Named (or_bad a)
-unfolding NamedIn Named
-named_bad None h = tt
-named_bad (Some row) h = h
-
-named_cond : (b : Bool) (x y : Row) → Named x → Named y → Named (if b then x else y)
-named_cond true x y h k = h
-named_cond false x y h k = k
-
-named_cond_in : (b : Bool) (x y : Option Row) → NamedIn x → NamedIn y → NamedIn (if b then x else y)
-named_cond_in true x y h k = h
-named_cond_in false x y h k = k
-
-heading_named : (o : Option ℕ) → NamedIn (option_map rows.Heading o)
-unfolding NamedIn Named
-heading_named None = tt
-heading_named (Some n) = tt
-
-one_named : (o : Option ℕ) → NamedIn (option_map rows.One o)
-unfolding NamedIn Named
-one_named None = tt
-one_named (Some n) = tt
-
-many_named : (o : Option (List ℕ)) → NamedIn (option_map rows.Many o)
-unfolding NamedIn Named
-many_named None = tt
-many_named (Some n) = tt
-
-value_named : (o : Option Value) → NamedIn (option_map rows.ValueRow o)
-unfolding NamedIn Named
-value_named None = tt
-value_named (Some n) = tt
-
-slot_named : (a b : Option ℕ) → NamedIn (slot_row a b)
-unfolding NamedIn Named
-slot_named None b = tt
-slot_named (Some n) None = tt
-slot_named (Some n) (Some m) = tt
-
-two_named : (a b : Option ℕ) → NamedIn (two_row a b)
-unfolding NamedIn Named
-two_named None b = tt
-two_named (Some n) None = tt
-two_named (Some n) (Some m) = tt
-
-none_named : NamedIn None
-unfolding NamedIn
-none_named = tt
-
-headings_named : (ts : List (List ℕ)) → NamedIn (heading_of ts)
-unfolding heading_of
-headings_named [] = none_named
-headings_named (t ∷ []) = heading_named _
-headings_named (t ∷ u ∷ ts) = none_named
-
-slots_named : (ts : List (List ℕ)) → NamedIn (slot_of_line ts)
-unfolding slot_of_line
-slots_named [] = none_named
-slots_named (a ∷ []) = none_named
-slots_named (a ∷ b ∷ []) = none_named
-slots_named (a ∷ b ∷ c ∷ []) = none_named
-slots_named (a ∷ b ∷ c ∷ d ∷ []) = named_cond_in _ _ None (slot_named _ _) none_named
-slots_named (a ∷ b ∷ c ∷ d ∷ e ∷ ts) = none_named
-
-name_go : (b : Bool) (name : List ℕ) → is_name_text name ≡ b → NamedIn (option_map rows.Header (if b then Some name else None))
-unfolding NamedIn Named
-name_go true name e = e
-name_go false name e = tt
-
-name_named : (x : Bool) (name : List ℕ) → NamedIn (option_map rows.Header (if x && is_name_text name then Some name else None))
-unfolding NamedIn Named
-name_named false name = tt
-name_named true name = name_go (is_name_text name) name refl
-
-headers_named : (ts : List (List ℕ)) → NamedIn (option_map rows.Header (header_of ts))
-unfolding header_of
-headers_named [] = none_named
-headers_named (word ∷ []) = none_named
-headers_named (word ∷ name ∷ []) = name_named (bytes_eq word (codes "procedure")) name
-headers_named (word ∷ name ∷ t ∷ ts) = none_named
-
-ones_named : (ts : List (List ℕ)) → NamedIn (one_of ts)
-unfolding one_of
-ones_named [] = none_named
-ones_named (t ∷ []) = one_named _
-ones_named (t ∷ u ∷ ts) = none_named
-
-twos_named : (ts : List (List ℕ)) → NamedIn (two_of ts)
-unfolding two_of
-twos_named [] = none_named
-twos_named (a ∷ []) = none_named
-twos_named (a ∷ b ∷ []) = none_named
-twos_named (a ∷ b ∷ c ∷ []) = named_cond_in _ _ None (two_named _ _) none_named
-twos_named (a ∷ b ∷ c ∷ d ∷ ts) = none_named
-
-successors_named : (ts : List (List ℕ)) → Named (successors_of ts)
-unfolding successors_of Named
-successors_named [] = tt
-successors_named (t ∷ ts) = named_bad _ (named_or (one_of (t ∷ ts)) _ (ones_named (t ∷ ts)) (named_or (two_of (t ∷ ts)) _ (twos_named (t ∷ ts)) (many_named (many_of (t ∷ ts)))))
-
-words_named : (ts : List (List ℕ)) → NamedIn (words_row ts)
-unfolding words_row
-words_named ts = named_or (heading_of ts) _ (headings_named ts) (named_or (slot_of_line ts) _ (slots_named ts) (headers_named ts))
-
-other_named : (text : List ℕ) (ts : List (List ℕ)) → Named (other_row text ts)
-unfolding other_row
-other_named text ts = named_bad _ (named_or (words_row ts) _ (words_named ts) (value_named _))
-
-in_named : (text : List ℕ) (ts : List (List ℕ)) → Named (row_in text ts)
-unfolding row_in Named
-in_named text [] = tt
-in_named text (t ∷ ts) = named_cond (carries_nothing (t ∷ ts)) rows.Blank _ tt (named_cond (bytes_eq t (codes "Successors:")) (successors_of ts) (other_row text (t ∷ ts)) (successors_named ts) (other_named text (t ∷ ts)))
-
-line_named : (line : List ℕ) → Named (row_of_line line)
-unfolding row_of_line row_of_text Named
-line_named line = named_cond (is_clean line (before_comment line)) _ rows.Bad (in_named (without_blanks_after (before_comment line)) (tokens (without_blanks_after (before_comment line)))) tt
-
 -- ---- values
 
 -- what follows the line of a value is what its row carries
-Agrees : Following → Carries → Type 0
+unfoldable pub Agrees : Following → Carries → Type 0
 Agrees One carries.OneSuccessor = Unit {0}
 Agrees One c = ⊥
 Agrees Two carries.TwoSuccessors = Unit {0}
@@ -193,12 +57,12 @@ Agrees f carries.TwoSuccessors = ⊥
 Agrees f carries.CaseSuccessors = ⊥
 Agrees f c = Unit {0}
 
-agree : (opcode : Opcode) → Agrees (following opcode) (row_of opcode).carries
+pub agree : (opcode : Opcode) → Agrees (following opcode) (row_of opcode).carries
 unfolding Agrees
 agree op.Jump = tt
 agree _ = tt
 
-abbrev IsPlainRow : Carries → Type 0
+abbrev pub IsPlainRow : Carries → Type 0
 IsPlainRow carries.OneSuccessor = ⊥
 IsPlainRow carries.TwoSuccessors = ⊥
 IsPlainRow carries.CaseSuccessors = ⊥
@@ -374,27 +238,11 @@ stands Bare carries.OneSuccessor v a e law = absurd a
 stands Bare carries.TwoSuccessors v a e law = absurd a
 stands Bare carries.CaseSuccessors v a e law = absurd a
 
-parts_true : (a b : Bool) → (a && b) ≡ true → (a ≡ true) × (b ≡ true)
-parts_true true b h = (refl, h)
-parts_true false b h = absurd cc
-
-short_name : (n : ℕ) → nat_le n 255 ≡ true → n ≤ 255
-short_name n h = grind (arith, nat_tests)
-
-name_stands : (name : List ℕ) → is_name_text name ≡ true → IsName name
-unfolding is_name_text
-name_stands name h =
-    let last = parts_true (nat_le (length name) 255 && begins_name name) (list_all may_stand_in_name name) h in
-    let both = parts_true (nat_le (length name) 255) (begins_name name) last.0 in
-    record { begin = both.1; all = last.1; short = short_name (length name) both.0 }
-
-row_stands : (line : List ℕ) (row : Row) → row_of_line line ≡ row → Named row → MayStand row
-unfolding Named
-row_stands line rows.Blank e h = tt
-row_stands line (rows.Header name) e h = name_stands name h
-row_stands line (rows.ValueRow v) e h = stands (following v.kind.opcode) (row_of v.kind.opcode).carries v (agree v.kind.opcode) refl (λ targets n. lines_fit line v targets e n)
-row_stands line _ e h = tt
+row_stands : (row : Row) → IsInRange row → MayStand row
+row_stands (rows.Header name) h = h
+row_stands (rows.ValueRow v) h = stands (following v.kind.opcode) (row_of v.kind.opcode).carries v (agree v.kind.opcode) refl (λ targets n. later_fits v targets h n)
+row_stands row h = tt
 
 -- what a line says may stand in a module
 pub all_stand : (line : List ℕ) → MayStand (row_of_line line)
-all_stand line = row_stands line (row_of_line line) refl (line_named line)
+all_stand line = row_stands (row_of_line line) (row_range line)

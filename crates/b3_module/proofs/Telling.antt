@@ -1,6 +1,6 @@
 -- One module is spelled, one line is bad, and one limit is passed first.
-use Rattle.std.proofs.Common.{◌≡◌, ℕ, zero, suc, ◌<◌, List, inl, inr, Some, None, Result, Ok, Err, refl, sym, ap, subst, ◌∙◌, arith}
-use Rattle.std.specs.Prelude.{IfOk, IfErr, map}
+use Rattle.std.proofs.Common.{◌≡◌, ℕ, zero, suc, List, inl, inr, Some, None, Result, Ok, Err, refl, sym, ap, subst, ◌∙◌, arith}
+use Rattle.std.specs.Prelude.{IfOk, IfErr}
 use Rattle.std.proofs.lemmas.Bool.{cases_lt}
 use Rattle.b3_ir.specs.Procedure.{Kept, Procedure, procedures}
 use Rattle.b3_lines.specs.Lines.{lines_of}
@@ -13,6 +13,9 @@ use Rattle.b3_module.specs.Texts.{BadLine, Spells}
 use Rattle.b3_module.specs.declared.counting.Counts.{Counts}
 use Rattle.b3_module.specs.declared.counting.Passed.{Passed}
 use Rattle.b3_module.specs.Counting.{first_told}
+use Rattle.b3_rows.proofs.RangeLemmas.{row_range}
+use Rattle.b3_module.specs.TextModules.{IsTextModule}
+use Rattle.b3_module.proofs.TextLemmas.{spelled_text}
 use Rattle.b3_module.specs.Told.{Gives, IfLimit, IfSyntax}
 use Rattle.b3_module.proofs.BadLines.{one_bad_line, text_is_good}
 
@@ -111,3 +114,7 @@ none_told (Err fault) h = absurd cc
 pub some_told : (r : Result Counts Passed) (fault : Passed) → first_told r ≡ Some fault → r ≡ Err fault
 some_told (Ok c) fault h = absurd cc
 some_told (Err other) fault h = let same : other ≡ fault = cc in ap Err same
+
+pub text_is_read : (bytes : List ℕ) (r : Result (List Kept) TextFault) → IfOk r (λ m. Spells bytes (procedures m)) → IfOk r (λ m. IsTextModule (procedures m))
+text_is_read bytes (Ok m) ok = spelled_text row_range bytes (procedures m) ok
+text_is_read bytes (Err fault) ok = tt

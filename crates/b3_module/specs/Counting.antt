@@ -1,11 +1,11 @@
 -- How limits are told, part by part. No public clause cites this module.
-use Rattle.std.specs.Prelude.{◌≡◌, ℕ, ◌+◌, ◌<◌, ◌≤◌, nat_lt, if◌then◌else◌, List, [], ◌∷◌, Option, Some, None, Result, Ok, Err}
+use Rattle.std.specs.Prelude.{ℕ, ◌+◌, nat_lt, if◌then◌else◌, List, [], ◌∷◌, Option, Some, None, Result, Ok, Err}
 use Rattle.b3_ir.specs.Procedure.{Procedure}
 use Rattle.b3_module.specs.declared.fault.LimitName.{LimitName}
 use Rattle.b3_module.specs.declared.fault.LimitName.TheVariants as limits
 use Rattle.b3_module.specs.declared.counting.Counts.{Counts}
 use Rattle.b3_module.specs.declared.counting.Passed.{Passed}
-use Rattle.b3_module.specs.Limits.{Part, Header, Slot, Heading, Computed, Placed, most, parts_of}
+use Rattle.b3_module.specs.Limits.{Part, Header, Slot, Heading, Computed, Placed, parts_of}
 
 abbrev pub passed : LimitName → ℕ → Passed
 passed which line = record { which = which; line = line }

@@ -1,5 +1,5 @@
 -- The limits on a module that a text gives, and the first line that passes one.
-use Rattle.std.specs.Prelude.{ℕ, ◌+◌, ◌<◌, ◌≤◌, nat_le, if◌then◌else◌, List, [], ◌∷◌, ◌++◌, length, map, sum_by, slice_get, ◌≡◌, Some}
+use Rattle.std.specs.Prelude.{ℕ, ◌+◌, ◌<◌, nat_le, if◌then◌else◌, List, ◌∷◌, ◌++◌, length, map, sum_by, slice_get, ◌≡◌, Some}
 use Rattle.std.specs.List.{flat_map}
 use Rattle.b3_ir.specs.declared.value.Body.{Body}
 use Rattle.b3_ir.specs.declared.value.Body.TheVariants.{Cases}

@@ -1,9 +1,34 @@
 //! Laws of texts.
 
-ghost use Rattle.b3_module.specs.Canonical.{RowsSpell};
+ghost use Rattle.std.specs.Prelude.{◌≡◌, ℕ, List};
+ghost use Rattle.std.specs.List.{AllByRecursion};
+ghost use Rattle.b3_ir.specs.Procedure.{Procedure};
+ghost use Rattle.b3_rows.specs.Ranges.{IsGoodRow};
+ghost use Rattle.b3_module.specs.Canonical.{AreRowed, RowsSpell, canonical_rows, lined};
+ghost use Rattle.b3_module.specs.Limits.{KeepsLimits};
+ghost use Rattle.b3_module.specs.TextModules.{IsTextModule};
+ghost use Rattle.b3_module.specs.Texts.{Spells};
+
+use b3_rows::rows_are_in_range;
 
 /// Tells that the rows of a module spell it, with their own lines. It takes no memory.
 #[tactic(auto, using(crate::proofs::Canonically::rows_spell))]
 pub fn rows_spell()
     ensures { RowsSpell }
+{}
+
+/// Tells what bytes spell: a module whose names, numbers and values are ones that lines can say, so that it has
+/// canonical rows, and each of them is one that a good line can say. It takes no memory.
+pub fn texts_are_listed()
+    ensures given { (bytes : List ℕ) (m : List Procedure) → Spells bytes m → IsTextModule m }
+    ensures rowed { (m : List Procedure) → IsTextModule m → AreRowed m }
+    ensures rows { (m : List Procedure) → IsTextModule m → AllByRecursion IsGoodRow (canonical_rows m) }
+{
+    rows_are_in_range();
+}
+
+/// Tells what a module on new lines keeps: its canonical rows, and the limits. It takes no memory.
+pub fn lines_are_free()
+    ensures rows { (line : ℕ) (m : List Procedure) → canonical_rows (lined line m) ≡ canonical_rows m }
+    ensures limits { (line : ℕ) (m : List Procedure) → KeepsLimits m → KeepsLimits (lined line m) }
 {}

@@ -5,6 +5,7 @@ ghost use Rattle.b3_ir.specs.Procedure.{Procedure, procedures};
 ghost use Rattle.b3_module.specs.declared.place.Following.TheVariants as followings;
 ghost use Rattle.b3_module.specs.Texts.{added, added_value, after_value, at, following, opened, placed, returned, slotted, valued, jumped, branched, switched, Spells, BadLine};
 ghost use Rattle.b3_module.specs.Reading.{FitsWith, HasBlock, IsNoLimit, may_end, IsCounted, IsPlaceIn, IsReachable, MayStand, state_of};
+ghost use Rattle.b3_module.specs.TextModules.{IsTextModule};
 ghost use Rattle.b3_module.specs.Told.{Gives, IfLimit, IfSyntax};
 ghost use Rattle.b3_module.specs.Limits.{IsFirstLimit, KeepsLimits};
 ghost use Rattle.b3_module.specs.declared.fault.LimitName.{LimitName};
@@ -288,6 +289,8 @@ pub fn read(alloc: Global, bytes: &[u8]) -> Result<Module, TextFault>
     // What is read is spelled, and passes no limit.
     ensures ok { IfOk result (λ made. Spells bytes.now (procedures made)) }
     ensures within { IfOk result (λ made. KeepsLimits (procedures made)) }
+    // Its names, numbers and values are ones that lines can say.
+    ensures text { IfOk result (λ made. IsTextModule (procedures made)) }
     // The line of a refusal is the bad line.
     ensures syntax { IfErr result (λ fault. IfSyntax fault (λ line. BadLine bytes.now line)) }
     // A limit that is told is the first that is passed, at its line.

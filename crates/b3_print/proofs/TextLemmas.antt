@@ -16,7 +16,7 @@ use Rattle.b3_rows.specs.declared.row.Row.{Row}
 use Rattle.b3_rows.specs.declared.row.Row.TheVariants as rows
 use Rattle.b3_rows.specs.Written.{child_texts, constraints_of, joined, kind_text, last_texts, lead_texts, line_of_row}
 use Rattle.b3_items.specs.Table.{type_text}
-use Rattle.b3_module.specs.Canonical.{bare, bare_body, canonical_rows, row_of_slot, rows_of_block, rows_of_procedure, rows_of_value, successors_of}
+use Rattle.b3_module.specs.Canonical.{bare, bare_body, canonical_rows, row_of_slot, rows_of_block, rows_of_procedure, rows_of_value}
 use Rattle.b3_print.specs.Printed.{line_text, text_of}
 
 pub text_append : (a b : List Row) → text_of (a ++ b) ≡ text_of a ++ text_of b

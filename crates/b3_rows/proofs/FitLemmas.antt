@@ -1,14 +1,13 @@
 -- The value that a line says may stand in a procedure.
-use Rattle.std.proofs.Common.{◌≡◌, subst, ℕ, ◌+◌, ◌-◌, ◌<◌, ◌^◌, Bool, true, false, cond, not, ◌&&◌, ◌||◌, List, [], ◌∷◌, length, take, drop, Option, Some, None, All, refl, sym, ◌∙◌, ap, arith}
-use Rattle.std.specs.Prelude.{ℤ, IfSome, codes, bytes_eq, option_map, option_and_then}
+use Rattle.std.proofs.Common.{◌≡◌, ℕ, ◌+◌, ◌-◌, ◌<◌, ◌^◌, Bool, true, false, cond, not, ◌||◌, List, [], ◌∷◌, length, take, drop, Option, Some, None, All, refl, sym, ◌∙◌, ap, arith}
+use Rattle.std.specs.Prelude.{ℤ, IfSome, option_map, option_and_then}
 use Rattle.std.specs.List.{list_all}
 use Rattle.std.proofs.lemmas.Option.{IfSome_then}
 use Rattle.std.proofs.lemmas.List.{length-append, length-drop}
 use Rattle.std.proofs.lemmas.List.Elements.{All-nil, All-cons, All-append, All-drop}
 use Rattle.b3_base.specs.Word.{bits}
 use Rattle.b3_base.specs.declared.word.Width.{Width}
-use Rattle.b3_lines.specs.Lines.{before_comment}
-use Rattle.b3_lines.specs.Tokens.{tokens, without_blanks_after}
+use Rattle.b3_lines.specs.Tokens.{tokens}
 use Rattle.b3_ir.specs.declared.opcode.Opcode.{Opcode}
 use Rattle.b3_ir.specs.declared.opcode.Ty.{Ty}
 use Rattle.b3_ir.specs.declared.opcode.Ty.TheVariants.{Void, Int32, Int64}
@@ -22,26 +21,23 @@ use Rattle.b3_ir.specs.declared.value.Constraint.{Constraint}
 use Rattle.b3_ir.specs.declared.value.Constraint.TheVariants.{SomeRegister}
 use Rattle.b3_ir.specs.declared.value.Stackmap.{Stackmap}
 use Rattle.b3_ir.specs.declared.value.Value.{Value}
-use Rattle.b3_ir.specs.Fits.{Fits, IsBody, IsConstraint, IsStackmap, reported_of}
+use Rattle.b3_ir.specs.Fits.{Fits, IsBody, IsConstraint, IsStackmap, reported_count, reported_of}
 use Rattle.b3_ir.specs.Table.{row_of}
 use Rattle.b3_items.specs.declared.items.Child.{Child}
 use Rattle.b3_items.specs.declared.items.Item.{Item}
 use Rattle.b3_items.specs.declared.items.Item.TheVariants as item
 use Rattle.b3_items.specs.Items.{id_of, is_mark_of, item_of}
-use Rattle.b3_items.specs.Numbers.{plain_of}
 use Rattle.b3_items.specs.Table.{kind_of, opcodes, type_of}
 use Rattle.b3_items.proofs.TableLemmas.{each_passes}
-use Rattle.b3_items.proofs.Ranges.{or_some, map_some, then_some, any_some, cond_some, test_some, word_range, IsReg, IsItem, IsSet, AreWords, InWord, IsKind, item_range, kind_range}
+use Rattle.b3_items.proofs.Ranges.{map_some, then_some, any_some, cond_some, test_some, word_range, IsReg, IsItem, IsChild, IsSet, AreWords, InWord, IsKind, id_range, item_range, kind_range}
 use Rattle.b3_rows.specs.declared.gathered.Gathered.{Gathered}
 use Rattle.b3_rows.specs.declared.gathered.Lead.{Lead}
 use Rattle.b3_rows.specs.declared.gathered.Lead.TheVariants.{NoLead, NumberLead, RegisterLead, SlotLead}
-use Rattle.b3_rows.specs.declared.row.Row.{Row}
-use Rattle.b3_rows.specs.declared.row.Row.TheVariants as rows
 use Rattle.b3_rows.specs.declared.values.Head.{Head}
 use Rattle.b3_rows.specs.Gathering.{has_stackmap, constraint_or_any, gather, gather_in, is_fresh, items_in, may_have, nothing, put, put_in, put_lead, put_child, put_phi, put_offset, put_cases, put_result, put_size, put_early, put_late, put_generator, put_used, takes_children, with_child}
 use Rattle.b3_rows.specs.Values.{body_of, built, exit_map, head_of, head_parts, inner_of, lead_reg, lead_slot, lead_word, offset_or_zero, open_in, or_else, result_of, site_map, value, value_at, value_of}
-use Rattle.b3_rows.specs.Rows.{carries_nothing, header_of, heading_of, is_clean, many_of, one_of, or_bad, other_row, row_in, row_of_line, row_of_text, slot_of_line, slot_row, successors_of, two_of, two_row, words_row, plain_between}
-use Rattle.b3_rows.specs.Successors.{LinesFit, count_of, successor_count, with_successors, with_targets}
+use Rattle.b3_rows.specs.Listed.{IsListedBody, IsListedValue, IsNumber}
+use Rattle.b3_rows.specs.Successors.{count_of, successor_count, with_successors, with_targets}
 
 -- ---- what is gathered is in its range
 
@@ -54,6 +50,8 @@ pub record InRange (g : Gathered) : Type 0 where
   pub lead : IsLead g.lead
   pub count : length g.constraints ≡ length g.children
   pub constraints : All IsConstraint g.constraints
+  pub children : All IsNumber g.children
+  pub phi : IfSome g.phi IsNumber
   pub offset : IfSome g.offset InWord
   pub cases : IfSome g.cases AreWords
   pub result_place : IfSome g.result_place IsConstraint
@@ -66,6 +64,8 @@ nothing_in_range = record {
   lead = tt;
   count = refl;
   constraints = All-nil IsConstraint;
+  children = All-nil IsNumber;
+  phi = tt;
   offset = tt;
   cases = tt;
   result_place = tt;
@@ -80,6 +80,8 @@ lead_in_range g lead p h = test_some InRange (is_fresh g) (record g { lead = lea
   lead = p;
   count = h.count;
   constraints = h.constraints;
+  children = h.children;
+  phi = h.phi;
   offset = h.offset;
   cases = h.cases;
   result_place = h.result_place;
@@ -92,13 +94,15 @@ or_any_range : (c : Option Constraint) → IfSome c IsConstraint → IsConstrain
 or_any_range None h = tt
 or_any_range (Some c) h = h
 
-child_in_range : (g : Gathered) (c : Child) → IfSome c.constraint IsConstraint → InRange g → IfSome (put_child g c) InRange
+child_in_range : (g : Gathered) (c : Child) → IsChild c → InRange g → IfSome (put_child g c) InRange
 unfolding put_child
 child_in_range g c p h = test_some InRange (takes_children g) (with_child g c) (λ t. record {
   lead = h.lead;
   count = length-append g.constraints (constraint_or_any c.constraint ∷ []) ∙ ap (λ (n : ℕ). n + 1) h.count ∙ sym (length-append g.children (c.id ∷ []));
   constraints = All-append IsConstraint g.constraints (constraint_or_any c.constraint ∷ []) h.constraints (All-cons IsConstraint
-      (constraint_or_any c.constraint) [] (or_any_range c.constraint p) (All-nil IsConstraint));
+      (constraint_or_any c.constraint) [] (or_any_range c.constraint p.constraint) (All-nil IsConstraint));
+  children = All-append IsNumber g.children (c.id ∷ []) h.children (All-cons IsNumber c.id [] p.id (All-nil IsNumber));
+  phi = h.phi;
   offset = h.offset;
   cases = h.cases;
   result_place = h.result_place;
@@ -117,6 +121,8 @@ put_in_range g (item.PhiId n) p h = test_some InRange (takes_children g) _ (λ t
   lead = h.lead;
   count = h.count;
   constraints = h.constraints;
+  children = h.children;
+  phi = p;
   offset = h.offset;
   cases = h.cases;
   result_place = h.result_place;
@@ -128,6 +134,8 @@ put_in_range g (item.Offset z) p h = cond_some InRange _ None (Some _) tt (recor
   lead = h.lead;
   count = h.count;
   constraints = h.constraints;
+  children = h.children;
+  phi = h.phi;
   offset = p;
   cases = h.cases;
   result_place = h.result_place;
@@ -139,6 +147,8 @@ put_in_range g (item.Cases ws) p h = cond_some InRange _ None (Some _) tt (recor
   lead = h.lead;
   count = h.count;
   constraints = h.constraints;
+  children = h.children;
+  phi = h.phi;
   offset = h.offset;
   cases = p;
   result_place = h.result_place;
@@ -150,6 +160,8 @@ put_in_range g (item.ResultPlace c) p h = cond_some InRange _ None (Some _) tt (
   lead = h.lead;
   count = h.count;
   constraints = h.constraints;
+  children = h.children;
+  phi = h.phi;
   offset = h.offset;
   cases = h.cases;
   result_place = p;
@@ -161,6 +173,8 @@ put_in_range g (item.Size n) p h = cond_some InRange _ None (Some _) tt (record 
   lead = h.lead;
   count = h.count;
   constraints = h.constraints;
+  children = h.children;
+  phi = h.phi;
   offset = h.offset;
   cases = h.cases;
   result_place = h.result_place;
@@ -172,6 +186,8 @@ put_in_range g (item.Early set) p h = cond_some InRange _ None (Some _) tt (reco
   lead = h.lead;
   count = h.count;
   constraints = h.constraints;
+  children = h.children;
+  phi = h.phi;
   offset = h.offset;
   cases = h.cases;
   result_place = h.result_place;
@@ -183,6 +199,8 @@ put_in_range g (item.Late set) p h = cond_some InRange _ None (Some _) tt (recor
   lead = h.lead;
   count = h.count;
   constraints = h.constraints;
+  children = h.children;
+  phi = h.phi;
   offset = h.offset;
   cases = h.cases;
   result_place = h.result_place;
@@ -194,6 +212,8 @@ put_in_range g item.Generator p h = cond_some InRange g.generator None (Some _) 
   lead = h.lead;
   count = h.count;
   constraints = h.constraints;
+  children = h.children;
+  phi = h.phi;
   offset = h.offset;
   cases = h.cases;
   result_place = h.result_place;
@@ -205,6 +225,8 @@ put_in_range g item.Used p h = cond_some InRange g.used None (Some _) tt (record
   lead = h.lead;
   count = h.count;
   constraints = h.constraints;
+  children = h.children;
+  phi = h.phi;
   offset = h.offset;
   cases = h.cases;
   result_place = h.result_place;
@@ -216,6 +238,8 @@ put_in_range g item.Effects p h = record {
   lead = h.lead;
   count = h.count;
   constraints = h.constraints;
+  children = h.children;
+  phi = h.phi;
   offset = h.offset;
   cases = h.cases;
   result_place = h.result_place;
@@ -241,15 +265,12 @@ items_in_range : (c : Carries) (text : List ℕ) → IfSome (items_in c text) In
 unfolding items_in
 items_in_range c text = in_text c text (tokens text)
 
--- ---- the body fits
-
-abbrev FitsLater : Carries → Ty → ℕ → Body → Type 0
-FitsLater c ty reported body = (targets : List ℕ) → length targets ≡ count_of c body → IsBody c ty reported (with_targets body targets)
+-- ---- the body is one of a line
 
 constant_fits : (width : Width) (ty : Ty) (reported : ℕ) (w : Option ℕ) → IfSome w (λ n. n < 2 ^ bits width)
-    → IfSome (option_map bodies.Constant w) (FitsLater (carries.Number width) ty reported)
+    → IfSome (option_map bodies.Constant w) (IsListedBody (carries.Number width) ty reported)
 constant_fits width ty reported None h = tt
-constant_fits width ty reported (Some w) h = λ targets e. h
+constant_fits width ty reported (Some w) h = h
 
 lead_word_range : (width : Width) (lead : Lead) → IfSome (lead_word width lead) (λ n. n < 2 ^ bits width)
 lead_word_range width NoLead = tt
@@ -290,51 +311,53 @@ offset_range_or : (z : Option ℤ) → IfSome z InWord → InWord (offset_or_zer
 offset_range_or None h = (record { le = tt }, record { le = tt })
 offset_range_or (Some z) h = h
 
-slot_fits : (ty : Ty) (reported : ℕ) (lead : Lead) → IsLead lead → IfSome (option_map bodies.Slot (lead_slot lead)) (FitsLater carries.SlotNumber ty reported)
+slot_fits : (ty : Ty) (reported : ℕ) (lead : Lead) → IsLead lead
+    → IfSome (option_map bodies.Slot (lead_slot lead)) (IsListedBody carries.SlotNumber ty reported)
 slot_fits ty reported NoLead h = tt
 slot_fits ty reported (NumberLead n) h = tt
 slot_fits ty reported (RegisterLead r) h = tt
-slot_fits ty reported (SlotLead n) h = λ targets e. h
+slot_fits ty reported (SlotLead n) h = h
 
 argument_fits : (ty : Ty) (reported : ℕ) (lead : Lead) → IsLead lead
-    → IfSome (option_map bodies.Argument (lead_reg lead)) (FitsLater carries.Register ty reported)
+    → IfSome (option_map bodies.Argument (lead_reg lead)) (IsListedBody carries.Register ty reported)
 argument_fits ty reported NoLead h = tt
 argument_fits ty reported (NumberLead n) h = tt
-argument_fits ty reported (RegisterLead r) h = λ targets e. h
+argument_fits ty reported (RegisterLead r) h = h
 argument_fits ty reported (SlotLead n) h = tt
 
-phi_fits : (ty : Ty) (reported : ℕ) (phi : Option ℕ) → IfSome (option_map bodies.Target phi) (FitsLater carries.PhiId ty reported)
-phi_fits ty reported None = tt
-phi_fits ty reported (Some n) = λ targets e. tt
+phi_fits : (ty : Ty) (reported : ℕ) (phi : Option ℕ) → IfSome phi IsNumber
+    → IfSome (option_map bodies.Target phi) (IsListedBody carries.PhiId ty reported)
+phi_fits ty reported None h = tt
+phi_fits ty reported (Some n) h = h
 
 cases_fit : (ty : Ty) (reported : ℕ) (words : Option (List ℕ)) → IfSome words AreWords
-    → IfSome (option_map (λ (ws : List ℕ). bodies.Cases ws []) words) (FitsLater carries.CaseSuccessors ty reported)
+    → IfSome (option_map (λ (ws : List ℕ). bodies.Cases ws []) words) (IsListedBody carries.CaseSuccessors ty reported)
 cases_fit ty reported None h = tt
-cases_fit ty reported (Some ws) h = λ targets e. (e, h)
+cases_fit ty reported (Some ws) h = h
 
 -- a row of a stackmap reports the children behind those that it computes with
 body_fits : (c : Carries) (ty : Ty) (skip reported : ℕ) (g : Gathered) → InRange g → (c ≡ carries.Site → reported ≡ length g.children - skip)
-    → (c ≡ carries.Exit → reported ≡ length g.children - skip) → IfSome (body_of c ty skip g) (FitsLater c ty reported)
+    → (c ≡ carries.Exit → reported ≡ length g.children - skip) → IfSome (body_of c ty skip g) (IsListedBody c ty reported)
 unfolding body_of site_map exit_map
-body_fits carries.Nothing ty skip reported g h site exit = λ targets e. tt
+body_fits carries.Nothing ty skip reported g h site exit = tt
 body_fits (carries.Number width) ty skip reported g h site exit = constant_fits width ty reported (lead_word width g.lead) (lead_word_range width g.lead)
 body_fits carries.Register ty skip reported g h site exit = argument_fits ty reported g.lead h.lead
 body_fits carries.SlotNumber ty skip reported g h site exit = slot_fits ty reported g.lead h.lead
-body_fits carries.Offset ty skip reported g h site exit = λ targets e. offset_range_or g.offset h.offset
-body_fits carries.PhiId ty skip reported g h site exit = phi_fits ty reported g.phi
-body_fits carries.Site ty skip reported g h site exit = λ targets e. rw (site refl) (record {
+body_fits carries.Offset ty skip reported g h site exit = offset_range_or g.offset h.offset
+body_fits carries.PhiId ty skip reported g h site exit = phi_fits ty reported g.phi h.phi
+body_fits carries.Site ty skip reported g h site exit = rw (site refl) (record {
   sound = map_fits g skip _ h refl refl refl;
   size = size_range g.size h.size;
   result = result_range ty g.result_place h.result_place;
   no_result = void_result ty g.result_place;
 })
-body_fits carries.Exit ty skip reported g h site exit = λ targets e. rw (exit refl) (record {
+body_fits carries.Exit ty skip reported g h site exit = rw (exit refl) (record {
   sound = map_fits g skip _ h refl refl refl;
   size = refl;
   result = refl;
 })
-body_fits carries.OneSuccessor ty skip reported g h site exit = λ targets e. e
-body_fits carries.TwoSuccessors ty skip reported g h site exit = λ targets e. e
+body_fits carries.OneSuccessor ty skip reported g h site exit = tt
+body_fits carries.TwoSuccessors ty skip reported g h site exit = tt
 body_fits carries.CaseSuccessors ty skip reported g h site exit = cases_fit ty reported g.cases h.cases
 
 -- the rows of stackmaps report their children
@@ -363,130 +386,84 @@ exit_reports c One n t e = let off : false ≡ true = rw e at t in absurd cc
 exit_reports c Arguments n t e = let off : false ≡ true = rw e at t in absurd cc
 exit_reports c Reported n t e = refl
 
--- ---- the value fits
+-- how many children a stackmap reports
+pub site_count : (v : Value) → (row_of v.kind.opcode).carries ≡ carries.Site → reported_count v ≡ length v.children - length (row_of v.kind.opcode).takes
+unfolding reports
+site_count v =
+    let row = row_of v.kind.opcode in
+    site_reports row.carries row.more (length v.children - length row.takes) (each_passes reports all_report v.kind.opcode)
 
-abbrev pub FitsWith : Value → Type 0
-FitsWith v = (targets : List ℕ) → length targets ≡ successor_count v → Fits (with_successors v targets)
+pub exit_count : (v : Value) → (row_of v.kind.opcode).carries ≡ carries.Exit → reported_count v ≡ length v.children - length (row_of v.kind.opcode).takes
+unfolding reports
+exit_count v =
+    let row = row_of v.kind.opcode in
+    exit_reports row.carries row.more (length v.children - length row.takes) (each_passes reports all_report v.kind.opcode)
 
-built_fits : (h : Head) (g : Gathered) → IsKind h.kind → InRange g → IfSome (built h g) FitsWith
+-- ---- the value is one of a line
+
+later_body : (c : Carries) (ty : Ty) (reported : ℕ) (body : Body) (targets : List ℕ) → IsListedBody c ty reported body
+    → length targets ≡ count_of c body → IsBody c ty reported (with_targets body targets)
+later_body carries.Nothing ty reported bodies.Plain targets h e = h
+later_body (carries.Number width) ty reported (bodies.Constant word) targets h e = h
+later_body carries.Register ty reported (bodies.Argument r) targets h e = h
+later_body carries.SlotNumber ty reported (bodies.Slot n) targets h e = h
+later_body carries.Offset ty reported (bodies.Offset z) targets h e = h
+later_body carries.PhiId ty reported (bodies.Target phi) targets h e = tt
+later_body carries.Site ty reported (bodies.Map m) targets h e = h
+later_body carries.Exit ty reported (bodies.Map m) targets h e = h
+later_body carries.OneSuccessor ty reported (bodies.Targets []) targets h e = e
+later_body carries.TwoSuccessors ty reported (bodies.Targets []) targets h e = e
+later_body carries.CaseSuccessors ty reported (bodies.Cases words []) targets h e = (e, h)
+later_body c ty reported body targets h e = absurd h
+
+-- with its successors it fits
+pub later_fits : (v : Value) (targets : List ℕ) → IsListedValue v → length targets ≡ successor_count v → Fits (with_successors v targets)
+later_fits v targets h e = record {
+  body = later_body (row_of v.kind.opcode).carries v.ty (reported_count v) v.body targets h.body e;
+  chill = h.chill;
+  traps = h.traps;
+}
+
+-- the id of a head, and its kind
+record IsHead (h : Head) : Type 0 where
+  id : IsNumber h.id
+  kind : IsKind h.kind
+
+built_fits : (h : Head) (g : Gathered) → IsHead h → InRange g → IfSome (built h g) IsListedValue
 unfolding built reports
 built_fits h g k r =
     let row = row_of h.kind.opcode in
     let rest = length g.children - length row.takes in
     let test = each_passes reports all_report h.kind.opcode in
-    map_some FitsWith (value h g.children) (body_of row.carries h.ty (length row.takes) g)
+    map_some IsListedValue (value h g.children) (body_of row.carries h.ty (length row.takes) g)
     (IfSome_then (body_of row.carries h.ty (length row.takes) g)
     (body_fits row.carries h.ty (length row.takes) (reported_of row.more rest) g r (site_reports row.carries row.more rest test)
     (exit_reports row.carries row.more rest test))
-    (λ body fits targets e. record { body = fits targets e; chill = k.chill; traps = k.traps }))
+    (λ body fits. record { id = k.id; children = r.children; body = fits; chill = k.kind.chill; traps = k.kind.traps; line = refl }))
 
-parts_kind : (ty id kind : List ℕ) → IfSome (head_parts ty id kind) (λ h. IsKind h.kind)
+parts_kind : (ty id kind : List ℕ) → IfSome (head_parts ty id kind) IsHead
 unfolding head_parts
 parts_kind ty id kind =
-    then_some (λ t. Unit {0}) (λ h. IsKind h.kind) _ (type_of ty) (any_some (type_of ty)) (λ t u.
-    then_some (λ i. Unit {0}) (λ h. IsKind h.kind) _ (id_of id) (any_some (id_of id)) (λ i w.
-    then_some IsKind (λ h. IsKind h.kind) _ (kind_of kind) (kind_range kind) (λ k p. p)))
+    then_some (λ t. Unit {0}) IsHead _ (type_of ty) (any_some (type_of ty)) (λ t u.
+    then_some IsNumber IsHead _ (id_of id) (id_range id) (λ i w.
+    then_some IsKind IsHead _ (kind_of kind) (kind_range kind) (λ k p. record { id = w; kind = p })))
 
-head_kind : (ts : List (List ℕ)) → IfSome (head_of ts) (λ h. IsKind h.kind)
+head_kind : (ts : List (List ℕ)) → IfSome (head_of ts) IsHead
 unfolding head_of
 head_kind [] = tt
 head_kind (a ∷ []) = tt
 head_kind (a ∷ b ∷ []) = tt
 head_kind (a ∷ b ∷ c ∷ []) = tt
-head_kind (ty ∷ id ∷ mark ∷ kind ∷ []) = cond_some (λ h. IsKind h.kind) (is_mark_of 61 mark) _ None (parts_kind ty id kind) tt
+head_kind (ty ∷ id ∷ mark ∷ kind ∷ []) = cond_some IsHead (is_mark_of 61 mark) _ None (parts_kind ty id kind) tt
 head_kind (a ∷ b ∷ c ∷ d ∷ e ∷ ts) = tt
 
-at_fits : (text : List ℕ) (at : ℕ) → IfSome (value_at text at) FitsWith
+at_fits : (text : List ℕ) (at : ℕ) → IfSome (value_at text at) IsListedValue
 at_fits text at =
-    then_some (λ h. IsKind h.kind) FitsWith _ (head_of (tokens (take at text))) (head_kind (tokens (take at text))) (λ h k.
-    then_some (λ t. Unit {0}) FitsWith _ (inner_of (drop (at + 1) text)) (any_some (inner_of (drop (at + 1) text))) (λ inner u.
-    then_some InRange FitsWith _ (items_in (row_of h.kind.opcode).carries inner) (items_in_range (row_of h.kind.opcode).carries inner)
+    then_some IsHead IsListedValue _ (head_of (tokens (take at text))) (head_kind (tokens (take at text))) (λ h k.
+    then_some (λ t. Unit {0}) IsListedValue _ (inner_of (drop (at + 1) text)) (any_some (inner_of (drop (at + 1) text))) (λ inner u.
+    then_some InRange IsListedValue _ (items_in (row_of h.kind.opcode).carries inner) (items_in_range (row_of h.kind.opcode).carries inner)
     (λ g r. built_fits h g k r)))
 
-value_fits : (text : List ℕ) → IfSome (value_of text) FitsWith
+pub value_fits : (text : List ℕ) → IfSome (value_of text) IsListedValue
 unfolding value_of
-value_fits text = then_some (λ at. Unit {0}) FitsWith (value_at text) (open_in text) (any_some (open_in text)) (λ at u. at_fits text at)
-
--- ---- the row
-
-abbrev RowFits : Row → Type 0
-RowFits (rows.ValueRow v) = FitsWith v
-RowFits r = Unit {0}
-
-bad_fits : (r : Option Row) → IfSome r RowFits → RowFits (or_bad r)
-bad_fits None h = tt
-bad_fits (Some r) h = h
-
-cond_fits : (x : Bool) (a b : Row) → RowFits a → RowFits b → RowFits (cond x a b)
-cond_fits true a b p q = p
-cond_fits false a b p q = q
-
-slot_row_fits : (a b : Option ℕ) → IfSome (slot_row a b) RowFits
-slot_row_fits None b = tt
-slot_row_fits (Some a) None = tt
-slot_row_fits (Some a) (Some b) = tt
-
-two_row_fits : (a b : Option ℕ) → IfSome (two_row a b) RowFits
-two_row_fits None b = tt
-two_row_fits (Some a) None = tt
-two_row_fits (Some a) (Some b) = tt
-
-slot_line_fits : (ts : List (List ℕ)) → IfSome (slot_of_line ts) RowFits
-unfolding slot_of_line
-slot_line_fits [] = tt
-slot_line_fits (a ∷ []) = tt
-slot_line_fits (a ∷ b ∷ []) = tt
-slot_line_fits (a ∷ b ∷ c ∷ []) = tt
-slot_line_fits (a ∷ b ∷ c ∷ d ∷ []) =
-    cond_some RowFits (bytes_eq b (codes "byteSize") && is_mark_of 61 c) (slot_row (plain_between (codes "stack") a) (plain_of d)) None (slot_row_fits
-    (plain_between (codes "stack") a) (plain_of d)) tt
-slot_line_fits (a ∷ b ∷ c ∷ d ∷ e ∷ ts) = tt
-
-heading_fits : (ts : List (List ℕ)) → IfSome (heading_of ts) RowFits
-unfolding heading_of
-heading_fits [] = tt
-heading_fits (t ∷ []) = map_some RowFits rows.Heading (plain_between (codes "BB#") t) (any_some (plain_between (codes "BB#") t))
-heading_fits (t ∷ u ∷ ts) = tt
-
-words_fit : (ts : List (List ℕ)) → IfSome (words_row ts) RowFits
-unfolding words_row
-words_fit ts = or_some RowFits (heading_of ts) _ (heading_fits ts) (or_some RowFits (slot_of_line ts) _ (slot_line_fits ts)
-    (map_some RowFits rows.Header (header_of ts) (any_some (header_of ts))))
-
-one_fits : (ts : List (List ℕ)) → IfSome (one_of ts) RowFits
-unfolding one_of
-one_fits [] = tt
-one_fits (t ∷ []) = map_some RowFits rows.One _ (any_some _)
-one_fits (t ∷ u ∷ ts) = tt
-
-two_fits : (ts : List (List ℕ)) → IfSome (two_of ts) RowFits
-unfolding two_of
-two_fits [] = tt
-two_fits (a ∷ []) = tt
-two_fits (a ∷ b ∷ []) = tt
-two_fits (a ∷ b ∷ c ∷ []) = cond_some RowFits (is_mark_of 44 b) _ None (two_row_fits _ _) tt
-two_fits (a ∷ b ∷ c ∷ d ∷ ts) = tt
-
-successors_fit : (ts : List (List ℕ)) → RowFits (successors_of ts)
-unfolding successors_of
-successors_fit [] = tt
-successors_fit (t ∷ ts) = bad_fits _ (or_some RowFits (one_of (t ∷ ts)) _ (one_fits (t ∷ ts)) (or_some RowFits (two_of (t ∷ ts)) _ (two_fits (t ∷ ts))
-    (map_some RowFits rows.Many (many_of (t ∷ ts)) (any_some (many_of (t ∷ ts))))))
-
-other_fits : (text : List ℕ) (ts : List (List ℕ)) → RowFits (other_row text ts)
-unfolding other_row
-other_fits text ts = bad_fits _ (or_some RowFits (words_row ts) _ (words_fit ts) (map_some RowFits rows.ValueRow (value_of text) (value_fits text)))
-
-in_fits : (text : List ℕ) (ts : List (List ℕ)) → RowFits (row_in text ts)
-unfolding row_in
-in_fits text [] = tt
-in_fits text (t ∷ ts) = cond_fits (carries_nothing (t ∷ ts)) rows.Blank _ tt (cond_fits (bytes_eq t (codes "Successors:")) (successors_of ts)
-    (other_row text (t ∷ ts)) (successors_fit ts) (other_fits text (t ∷ ts)))
-
-row_fits : (line : List ℕ) → RowFits (row_of_line line)
-unfolding row_of_line row_of_text
-row_fits line = cond_fits (is_clean line (before_comment line)) _ rows.Bad (in_fits (without_blanks_after (before_comment line)) (tokens
-    (without_blanks_after (before_comment line)))) tt
-
-pub lines_fit : LinesFit
-lines_fit line v targets e = subst RowFits e (row_fits line) targets
+value_fits text = then_some (λ at. Unit {0}) IsListedValue (value_at text) (open_in text) (any_some (open_in text)) (λ at u. at_fits text at)

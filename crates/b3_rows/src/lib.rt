@@ -7,6 +7,6 @@ mod row;
 mod rows;
 mod values;
 
-pub use laws::lines_fit;
+pub use laws::{lines_fit, rows_are_in_range};
 pub use row::Row;
 pub use rows::read_row;

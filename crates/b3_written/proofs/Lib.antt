@@ -3,4 +3,14 @@ pub mod WordLemmas
 pub mod RoundLemmas
 pub mod NameLemmas
 pub mod TargetLemmas
-pub mod RangeLemmas
+pub mod ScanLemmas
+pub mod SignedLemmas
+pub mod SetLemmas
+pub mod ItemTexts
+pub mod ItemsAgain
+pub mod GatherAgain
+pub mod HeadAgain
+pub mod BodyAgain
+pub mod ValueAgain
+pub mod CutLemmas
+pub mod AgainLemmas

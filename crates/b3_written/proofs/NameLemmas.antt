@@ -1,5 +1,5 @@
 -- The header of a procedure is read again.
-use Rattle.std.proofs.Common.{◌≡◌, ℕ, Bool, true, false, List, [], ◌∷◌, length, refl, ◌∙◌, ap, arith}
+use Rattle.std.proofs.Common.{◌≡◌, ℕ, true, false, List, [], ◌∷◌, length, refl, ◌∙◌, ap, arith}
 use Rattle.std.specs.Prelude.{codes}
 use Rattle.std.specs.List.{list_all}
 use Rattle.std.proofs.lemmas.Bool.{and_parts, le-leb}
@@ -9,21 +9,15 @@ use Rattle.b3_ir.specs.Names.{IsName, may_stand_in_name}
 use Rattle.b3_rows.specs.declared.row.Row.TheVariants.{Header}
 use Rattle.b3_rows.specs.Rows.{carries_nothing, header_of, heading_of, is_name_text, is_slots_line, other_row, row_in, row_of_line, slot_of_line, words_row}
 use Rattle.b3_rows.specs.Written.{line_of_row}
-use Rattle.b3_written.proofs.RoundLemmas.{and_true, ink_end, quiet, quiet_row, token_alone}
+use Rattle.b3_written.proofs.RoundLemmas.{all_imply, ink_end, quiet, quiet_row, token_alone}
 
-name_quiet : (c : ℕ) → may_stand_in_name c ≡ true → quiet c ≡ true
+pub name_quiet : (c : ℕ) → may_stand_in_name c ≡ true → quiet c ≡ true
 unfolding quiet
 name_quiet c h = grind (arith, nat_tests)
 
 name_piece : (c : ℕ) → may_stand_in_name c ≡ true → stands_in_piece c ≡ true
 unfolding is_blank is_mark
 name_piece c h = grind (arith, nat_tests)
-
-all_imply : (p q : ℕ → Bool) (xs : List ℕ) → ((c : ℕ) → p c ≡ true → q c ≡ true) → list_all p xs ≡ true → list_all q xs ≡ true
-all_imply p q [] f h = refl
-all_imply p q (x ∷ xs) f h =
-    let both = and_parts (p x) (list_all p xs) h in
-    and_true _ _ (f x both.0) (all_imply p q xs f both.1)
 
 name_test : (name : List ℕ) → IsName name → is_name_text name ≡ true
 unfolding is_name_text

@@ -20,7 +20,7 @@ use Rattle.b3_rows.specs.declared.row.Row.TheVariants.{Heading, One, Slot, Two}
 use Rattle.b3_rows.specs.Rows.{carries_nothing, heading_of, is_clean, is_slots_line, one_of, other_row, plain_between, row_in, row_of_line, row_of_text, slot_of_line, successors_of, two_of, words_row}
 use Rattle.b3_rows.specs.Written.{line_of_row}
 
-own : IsNumeralModel (λ ds. all_ascii_digits ds ≡ true) (value_on 0)
+pub own : IsNumeralModel (λ ds. all_ascii_digits ds ≡ true) (value_on 0)
 own = numerals_by_fold _ (search rules) value_on (search rules)
 
 pub and_true : (a b : Bool) → a ≡ true → b ≡ true → (a && b) ≡ true
@@ -29,7 +29,7 @@ and_true a b p q = rw (p, q) refl
 -- ---- bytes that neither begin a comment nor end a line
 
 unfoldable pub quiet : ℕ → Bool
-quiet b = not (b == 59) && not (b == 47) && not (b == 13) && nat_lt b 128
+quiet b = not (b == 59) && not (b == 47) && not (b == 13) && not (b == 10) && nat_lt b 128
 
 pub record IsQuiet (b : ℕ) : Type 0 where
   pub semicolon : (b == 59) ≡ false
@@ -49,21 +49,31 @@ is_quiet b h = record {
   );
 }
 
-digit_quiet : (c : ℕ) → is_ascii_digit c ≡ true → quiet c ≡ true
+pub digit_quiet : (c : ℕ) → is_ascii_digit c ≡ true → quiet c ≡ true
 unfolding quiet
 digit_quiet c h = grind (arith, nat_tests)
 
-digit_piece : (c : ℕ) → is_ascii_digit c ≡ true → stands_in_piece c ≡ true
+pub digit_piece : (c : ℕ) → is_ascii_digit c ≡ true → stands_in_piece c ≡ true
 unfolding is_blank is_mark
 digit_piece c h = grind (arith, nat_tests)
 
 -- what holds of each digit holds of digits, and of what follows them
-digits_all : (p : ℕ → Bool) (ds rest : List ℕ) → ((c : ℕ) → is_ascii_digit c ≡ true → p c ≡ true) → all_ascii_digits ds ≡ true → list_all p rest ≡
+pub digits_all : (p : ℕ → Bool) (ds rest : List ℕ) → ((c : ℕ) → is_ascii_digit c ≡ true → p c ≡ true) → all_ascii_digits ds ≡ true → list_all p rest ≡
     true → list_all p (ds ++ rest) ≡ true
 digits_all p [] rest f h k = k
 digits_all p (c ∷ cs) rest f h k =
     let both = and_parts (is_ascii_digit c) (all_ascii_digits cs) h in
     and_true _ _ (f c both.0) (digits_all p cs rest f both.1 k)
+
+pub all_imply : (p q : ℕ → Bool) (xs : List ℕ) → ((c : ℕ) → p c ≡ true → q c ≡ true) → list_all p xs ≡ true → list_all q xs ≡ true
+all_imply p q [] f h = refl
+all_imply p q (x ∷ xs) f h =
+    let both = and_parts (p x) (list_all p xs) h in
+    and_true _ _ (f x both.0) (all_imply p q xs f both.1)
+
+pub all_append : (p : ℕ → Bool) (a b : List ℕ) → list_all p a ≡ true → list_all p b ≡ true → list_all p (a ++ b) ≡ true
+all_append p [] b h k = k
+all_append p (x ∷ a) b h k = let both = and_parts (p x) (list_all p a) h in and_true _ _ both.0 (all_append p a b both.1 k)
 
 no_comment : (line : List ℕ) → list_all quiet line ≡ true → before_comment line ≡ line
 unfolding before_comment
@@ -122,7 +132,7 @@ token_alone b t ink h =
 
 -- ---- numbers
 
-digits : (n : ℕ) → n < 2 ^ 31 → all_ascii_digits (decimal n) ≡ true
+pub digits : (n : ℕ) → n < 2 ^ 31 → all_ascii_digits (decimal n) ≡ true
 digits n h = digits_decimal own n (omega arith)
 
 pub plain_again : (n : ℕ) → n < 2 ^ 31 → plain_of (decimal n) ≡ Some n
@@ -217,7 +227,7 @@ heading_again n h =
 
 -- ---- slots
 
-piece_tokens : (ds : List ℕ) → 0 < length ds → list_all stands_in_piece ds ≡ true → tokens ds ≡ ds ∷ []
+pub piece_tokens : (ds : List ℕ) → 0 < length ds → list_all stands_in_piece ds ≡ true → tokens ds ≡ ds ∷ []
 piece_tokens [] some h = absurd (omega arith)
 piece_tokens (b ∷ t) some h =
     let both = and_parts (stands_in_piece b) (list_all stands_in_piece t) h in

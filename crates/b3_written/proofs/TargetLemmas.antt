@@ -44,7 +44,7 @@ many_in n (m ∷ []) h = rw (many_again_on n (m ∷ []) h) refl
 many_in n (m ∷ k ∷ []) h = rw (many_again_on n (m ∷ k ∷ []) h) refl
 many_in n (m ∷ k ∷ j ∷ more) h = rw (many_again_on n (m ∷ k ∷ j ∷ more) h) refl
 
-quiet_targets : (n : ℕ) (ts : List ℕ) → AreTargets (n ∷ ts) → list_all quiet (joined (target_texts (n ∷ ts))) ≡ true
+pub quiet_targets : (n : ℕ) (ts : List ℕ) → AreTargets (n ∷ ts) → list_all quiet (joined (target_texts (n ∷ ts))) ≡ true
 unfolding quiet
 quiet_targets n [] h = alone_quiet n h.0
 quiet_targets n (m ∷ []) h = decimal_quiet n (codes ", " ++ joined (target_texts (m ∷ []))) h.0 (quiet_targets m [] h.1)

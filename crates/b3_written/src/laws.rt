@@ -1,16 +1,16 @@
 //! Laws of the lines that are written.
 
-ghost use Rattle.std.specs.Prelude.{◌≡◌, ◌<◌, ◌^◌, ◌∷◌, ℕ, List};
-ghost use Rattle.std.specs.List.{AllByRecursion};
+ghost use Rattle.std.specs.Prelude.{◌≡◌, ◌∷◌, ◌++◌, ℕ, List};
 ghost use Rattle.b3_ir.specs.Fits.{Fits};
-ghost use Rattle.b3_ir.specs.Names.{IsName};
 ghost use Rattle.b3_ir.specs.Table.{row_of};
 ghost use Rattle.b3_ir.specs.declared.value.Value.{Value};
+ghost use Rattle.b3_lines.specs.Lines.{lines_of};
+ghost use Rattle.b3_rows.specs.Ranges.{IsGoodRow};
 ghost use Rattle.b3_rows.specs.Rows.{row_of_line};
-ghost use Rattle.b3_rows.specs.declared.row.Row.TheVariants.{Header, Heading, Many, One, Slot, Two, ValueRow};
+ghost use Rattle.b3_rows.specs.declared.row.Row.{Row};
+ghost use Rattle.b3_rows.specs.declared.row.Row.TheVariants.{ValueRow};
 ghost use Rattle.b3_rows.specs.Written.{line_of_row};
 ghost use Rattle.b3_written.specs.Listed.{FitsWord};
-ghost use Rattle.b3_written.specs.Ranges.{IsInRange};
 
 use b3_rows::lines_fit;
 
@@ -23,19 +23,14 @@ pub fn words_fit()
     lines_fit();
 }
 
-/// Tells that a header, a slot, a heading and successors are read again from their canonical lines. It takes no
-/// memory.
+/// Tells that each row is read again from its canonical line: headers, slots, headings, values, successors, and lines
+/// that say nothing. It takes no memory.
 pub fn rows_are_read()
-    ensures headers { (name : List ℕ) → IsName name → row_of_line (line_of_row (Header name)) ≡ Header name }
-    ensures slots { (number bytes : ℕ) → number < 2 ^ 31 → bytes < 2 ^ 31 → row_of_line (line_of_row (Slot number bytes)) ≡ Slot number bytes }
-    ensures headings { (number : ℕ) → number < 2 ^ 31 → row_of_line (line_of_row (Heading number)) ≡ Heading number }
-    ensures one { (target : ℕ) → target < 2 ^ 31 → row_of_line (line_of_row (One target)) ≡ One target }
-    ensures two { (a b : ℕ) → a < 2 ^ 31 → b < 2 ^ 31 → row_of_line (line_of_row (Two a b)) ≡ Two a b }
-    ensures many { (first : ℕ) (more : List ℕ) → AllByRecursion (λ n. n < 2 ^ 31) (first ∷ more) → row_of_line (line_of_row (Many (first ∷ more))) ≡ Many (first ∷ more) }
+    ensures { (row : Row) → IsGoodRow row → row_of_line (line_of_row row) ≡ row }
 {}
 
-/// Tells that what a line says is in its range: names, numbers of 31 bits, and at least the fall-through of cases. It
-/// takes no memory.
-pub fn rows_are_in_range()
-    ensures { (line : List ℕ) → IsInRange (row_of_line line) }
+/// Tells that a canonical line that LF, 10, ends is cut off again as it is. It takes no memory.
+pub fn lines_are_cut()
+    ensures { (row : Row) → IsGoodRow row → (rest : List ℕ)
+        → lines_of (line_of_row row ++ (10 ∷ rest)) ≡ line_of_row row ∷ lines_of rest }
 {}

@@ -8,7 +8,7 @@ mod numbers;
 #[cfg(test)]
 mod tests;
 
-pub use laws::{rows_are_in_range, rows_are_read, words_fit};
+pub use laws::{lines_are_cut, rows_are_read, words_fit};
 pub use lines::{
     write_header, write_heading, write_many, write_one, write_slot, write_two, write_value,
 };

@@ -1,4 +1,4 @@
-use Rattle.std.proofs.Common.{◌≡◌, Ok, Err, Result, sym, ◌∙◌, ap, ◌+◌, ◌<◌, drop, arith}
+use Rattle.std.proofs.Common.{Result, sym, ◌∙◌, ap, ◌+◌, drop, arith}
 use Rattle.std.specs.Prelude.{slice_index_or}
 use Rattle.std.specs.List.{flat_map}
 use Rattle.std.proofs.lemmas.Result.{err_from_is_err_and}

@@ -1,4 +1,4 @@
-use Rattle.std.proofs.Common.{◌≡◌, Ok, Err, Result, sym, ◌∙◌, ap, ◌+◌, drop}
+use Rattle.std.proofs.Common.{Result, sym, ◌∙◌, ap, ◌+◌, drop}
 use Rattle.std.proofs.lemmas.Result.{err_from_is_err_and}
 use Rattle.b3_module.specs.declared.counting.Counts.{Counts}
 use Rattle.b3_module.specs.declared.counting.Passed.{Passed}

@@ -1,4 +1,4 @@
-use Rattle.std.proofs.Common.{◌≡◌, ◌<◌, Ok, Some, sym, ◌∙◌, ap, subst, drop, length, ℕ, List, Option, refl}
+use Rattle.std.proofs.Common.{◌<◌, Ok, Some, sym, ◌∙◌, ap, subst, drop, length, ℕ, Option, refl}
 use Rattle.std.specs.Prelude.{IfSome}
 use Rattle.std.proofs.lemmas.Result.{err_from_is_err_and}
 use Rattle.b3_ir.specs.Procedure.{IsIn, values_from}

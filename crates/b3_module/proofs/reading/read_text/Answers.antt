@@ -1,9 +1,9 @@
-use Rattle.std.proofs.Common.{◌≡◌, ◌≤◌, ℕ, ◌+◌, List, ◌∷◌, [], length, Option, None, Some, ap, sym, subst, ◌∙◌, arith}
+use Rattle.std.proofs.Common.{◌≡◌, ℕ, List, Option, None, Some, ap, sym, subst, ◌∙◌, arith}
 use Rattle.b3_ir.specs.Procedure.{procedures}
 use Rattle.b3_lines.specs.Lines.{lines_of}
 use Rattle.b3_rows.specs.Rows.{row_of_line}
 use Rattle.b3_module.specs.declared.place.Place.{Place}
-use Rattle.b3_module.specs.Texts.{State, added, at}
+use Rattle.b3_module.specs.Texts.{added, at}
 use Rattle.b3_module.specs.Reading.{state_of}
 use Rattle.b3_module.proofs.BadLines.{HasRead, bad_end, bad_next, few_lines, not_ended, reads_more}
 use Rattle.b3_module.proofs.Reachable.{added_goes}

@@ -1,7 +1,5 @@
 use Rattle.std.proofs.Common.{sym, ◌∙◌}
 use Rattle.b3_ir.specs.Procedure.{procedures}
-use Rattle.b3_lines.specs.Lines.{lines_of}
-use Rattle.b3_module.specs.Counting.{counted_all, no_counts}
 use Rattle.b3_module.specs.Texts.{rows_of}
 use Rattle.b3_module.proofs.LimitLemmas.{first_passed, none_passed}
 use Rattle.b3_module.proofs.Rising.{spelled_rises}

@@ -1,4 +1,3 @@
-use Rattle.std.proofs.Common.{◌≡◌}
 use Rattle.std.proofs.lemmas.Result.{on_ok_weaker}
 use Rattle.b3_print.proofs.TextLemmas.{block_written}
 use Rattle.b3_print.proofs.printing.put_block.Goals as goal

@@ -1,4 +1,4 @@
-use Rattle.std.proofs.Common.{◌≡◌, ◌++◌, Some, Option, ℕ, ap, subst, sym, ◌∙◌}
+use Rattle.std.proofs.Common.{◌++◌, Some, Option, ℕ, ap, subst, sym, ◌∙◌}
 use Rattle.std.specs.Prelude.{IfSome}
 use Rattle.std.specs.List.{flat_map}
 use Rattle.b3_ir.specs.Procedure.{IsIn, values_from}

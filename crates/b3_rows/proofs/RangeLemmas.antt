@@ -1,5 +1,5 @@
 -- The ranges of what lines say.
-use Rattle.std.proofs.Common.{◌≡◌, ◌≢◌, ℕ, ◌<◌, ◌≤◌, ◌^◌, Bool, true, false, cond, ◌&&◌, List, [], ◌∷◌, length, Option, Some, None, arith}
+use Rattle.std.proofs.Common.{◌≡◌, ◌≢◌, subst, ℕ, ◌<◌, ◌≤◌, ◌^◌, Bool, true, false, cond, ◌&&◌, List, [], ◌∷◌, length, Option, Some, None, arith}
 use Rattle.std.specs.Prelude.{codes, bytes_eq, nat_le, IfSome, option_map}
 use Rattle.std.specs.List.{list_all}
 use Rattle.std.proofs.lemmas.Bool.{and_parts}
@@ -14,7 +14,9 @@ use Rattle.b3_rows.specs.declared.row.Row.{Row}
 use Rattle.b3_rows.specs.declared.row.Row.TheVariants as rows
 use Rattle.b3_rows.specs.Rows.{before_colon, carries_nothing, header_of, heading_of, is_clean, is_name_text, many_of, one_of, or_bad, other_row, plain_between, row_in, row_of_line, row_of_text, slot_of_line, slot_row, successors_of, two_of, two_row, words_row}
 use Rattle.b3_rows.specs.Values.{value_of}
-use Rattle.b3_written.specs.Ranges.{AreTargets, IsInRange}
+use Rattle.b3_rows.specs.Ranges.{AreTargets, IsInRange}
+use Rattle.b3_rows.specs.Successors.{LinesFit}
+use Rattle.b3_rows.proofs.FitLemmas.{later_fits, value_fits}
 
 abbrev IsPlain : ℕ → Type 0
 IsPlain n = n < 2 ^ 31
@@ -133,8 +135,8 @@ successors_range (t ∷ ts) =
 
 other_range : (text : List ℕ) (ts : List (List ℕ)) → IsInRange (other_row text ts)
 unfolding other_row
-other_range text ts = bad_range _ (or_some IsInRange (words_row ts) _ (words_range ts) (map_some IsInRange rows.ValueRow (value_of text) (any_some
-    (value_of text))))
+other_range text ts = bad_range _ (or_some IsInRange (words_row ts) _ (words_range ts) (map_some IsInRange rows.ValueRow (value_of text)
+    (value_fits text)))
 
 in_range : (text : List ℕ) (ts : List (List ℕ)) → IsInRange (row_in text ts)
 unfolding row_in
@@ -148,3 +150,6 @@ unfolding row_of_line row_of_text
 row_range line =
     cond_range (is_clean line (before_comment line)) _ rows.Bad (in_range (without_blanks_after (before_comment line)) (tokens (without_blanks_after
     (before_comment line)))) tt
+
+pub lines_fit : LinesFit
+lines_fit line v targets e = later_fits v targets (subst IsInRange e (row_range line))
