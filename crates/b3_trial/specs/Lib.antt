@@ -1,1 +1,4 @@
 pub mod Shown
+pub mod Lines
+pub mod Trials
+pub mod Told
