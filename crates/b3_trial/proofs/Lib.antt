@@ -1,1 +1,4 @@
 pub mod ShownLemmas
+pub mod WordLemmas
+pub mod PieceLemmas
+pub mod BadLines

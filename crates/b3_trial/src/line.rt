@@ -92,6 +92,7 @@ fn read_piece(alloc: Global, text: &[u8]) -> Result<Option<Piece>, NoMemory>
 }
 
 /// Any number of `W:HEX`.
+#[tactic(auto, using(crate::proofs::WordLemmas::pieces_more, crate::proofs::WordLemmas::pieces_not, crate::proofs::WordLemmas::pieces_end, crate::proofs::WordLemmas::onto_nil))]
 fn read_pieces(alloc: Global, text: &[u8]) -> Result<Option<Pieces>, NoMemory>
     ensures { IfOk result (λ pieces. pieces ≡ spec.pieces_of (tokens text.now)) }
 {

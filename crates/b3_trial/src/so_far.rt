@@ -73,7 +73,8 @@ fn put_piece(memory: &mut Memory, piece: &Piece) -> Result<bool, NoMemory>
     match memory.map(piece.address, piece.bytes.as_slice()) {
         Ok(()) => Ok(true),
         Err(MapFault::NoMemory) => Err(NoMemory),
-        Err(MapFault::Overlap | MapFault::Wrap) => Ok(false),
+        Err(MapFault::Overlap) => Ok(false),
+        Err(MapFault::Wrap) => Ok(false),
     }
 }
 

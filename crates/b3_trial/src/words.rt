@@ -73,7 +73,7 @@ fn hex_byte(high: u8, low: u8) -> Option<u8>
     Some(high * 16 + low)
 }
 
-#[tactic(auto, using(crate::proofs::WordLemmas::bytes_more, crate::proofs::WordLemmas::bytes_odd, crate::proofs::WordLemmas::bytes_not, crate::proofs::WordLemmas::bytes_end))]
+#[tactic(auto, using(crate::proofs::WordLemmas::bytes_more, crate::proofs::WordLemmas::bytes_odd, crate::proofs::WordLemmas::bytes_not, crate::proofs::WordLemmas::bytes_end, crate::proofs::WordLemmas::onto_nil))]
 fn hex_bytes(alloc: Global, text: &[u8]) -> Result<Option<Bytes>, NoMemory>
     ensures { IfOk result (λ bytes. bytes ≡ spec.hex_bytes text.now) }
 {
