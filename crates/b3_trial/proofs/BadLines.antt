@@ -1,5 +1,5 @@
 -- What is read of a trial, and its one bad line.
-use Rattle.std.proofs.Common.{◌≡◌, ℕ, zero, suc, ◌+◌, ◌-◌, ◌<◌, ◌≤◌, Bool, true, false, cond, List, [], ◌∷◌, ◌++◌, length, take, drop, inl, inr, Option, Some, None, Result, Ok, Err, refl, sym, ap, subst, ◌∙◌, append_assoc, arith}
+use Rattle.std.proofs.Common.{◌≡◌, ℕ, zero, suc, ◌+◌, ◌-◌, ◌<◌, ◌≤◌, Bool, true, false, List, [], ◌∷◌, ◌++◌, length, take, drop, inl, inr, Option, Some, None, Result, Ok, Err, refl, sym, ap, subst, ◌∙◌, append_assoc, arith}
 use Rattle.std.specs.Prelude.{◌==◌, ◌&&◌, if◌then◌else◌, codes, option_map, IfOk, IfErr}
 use Rattle.std.proofs.lemmas.List.{append-nil, length-append, take-append-drop}
 use Rattle.std.proofs.Math.Seq.{take-append_seam}
@@ -9,14 +9,13 @@ use Rattle.b3_lines.specs.Tokens.{is_blank, is_mark, tokens, without_blanks_afte
 use Rattle.b3_items.specs.Items.{is_mark_of}
 use Rattle.b3_items.specs.Numbers.{plain_of}
 use Rattle.b3_rows.specs.Rows.{before_colon, carries_nothing, header_of, heading_of, is_clean, is_name_text, is_slots_line, other_row, plain_between, row_in, row_of_line, row_of_text, slot_of_line, words_row}
-use Rattle.b3_trial.specs.declared.line.Line.{Line}
 use Rattle.b3_trial.specs.declared.line.Line.TheVariants.{Procedure}
 use Rattle.b3_trial.specs.declared.fault.TrialFault.{TrialFault}
 use Rattle.b3_trial.specs.declared.fault.TrialFault.TheVariants.{Bad, NoMemory}
 use Rattle.b3_trial.specs.declared.reading.Trial.{Trial as GivenTrial}
 use Rattle.b3_trial.specs.Lines.{line_of}
 use Rattle.b3_trial.specs.Told.{Gives, IfBad}
-use Rattle.b3_trial.specs.Trials.{BadLine, BeginsTrial, IsBadLine, IsTrial, SoFar, Spells, Trial, added_to, ended, first, led, spelled, trial_in, trial_of}
+use Rattle.b3_trial.specs.Trials.{BadLine, BeginsTrial, IsBadLine, SoFar, Spells, Trial, added_to, ended, first, led, spelled, trial_in, trial_of}
 
 -- ---- in parts
 

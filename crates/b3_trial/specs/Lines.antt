@@ -1,5 +1,5 @@
 -- What one line of a trial says.
-use Rattle.std.specs.Prelude.{ℕ, zero, suc, ◌+◌, ◌*◌, ◌^◌, ◌==◌, nat_lt, if◌then◌else◌, List, [], ◌∷◌, ◌++◌, length, take, drop, codes, Option, Some, None, option_map, option_and_then, bytes_eq}
+use Rattle.std.specs.Prelude.{ℕ, suc, ◌+◌, ◌*◌, ◌^◌, ◌==◌, nat_lt, if◌then◌else◌, List, [], ◌∷◌, ◌++◌, length, take, drop, codes, Option, Some, None, option_map, option_and_then, bytes_eq}
 use Rattle.b3_lines.specs.Lines.{before_comment}
 use Rattle.b3_lines.specs.Tokens.{tokens}
 use Rattle.b3_items.specs.Numbers.{begins_hex, below, has_up_to, hex_digit, plain_after}

@@ -55,8 +55,5 @@ pub(crate) fn put_byte(out: &mut Bytes, byte: u64) -> Result<(), NoMemory>
     requires { byte < 256 }
     ensures { OnOk result (out.new ≡ out.old ++ spec.byte_text byte) }
 {
-    out.extend(&[
-        hex_glyph((byte / 16) as u8),
-        hex_glyph((byte % 16) as u8),
-    ])
+    out.extend(&[hex_glyph((byte / 16) as u8), hex_glyph((byte % 16) as u8)])
 }

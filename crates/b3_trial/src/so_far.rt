@@ -230,7 +230,20 @@ impl SoFar {
     pub(crate) fn end(self) -> Option<Trial>
         ensures { option_map trial_of result ≡ spec.ended (Some (so_far_of self)) }
     {
-        let SoFar { name, registers, is_given: _, sp, code, blocks, steps, memory, mapped: _, stack, junk, answers } = self;
+        let SoFar {
+            name,
+            registers,
+            is_given: _,
+            sp,
+            code,
+            blocks,
+            steps,
+            memory,
+            mapped: _,
+            stack,
+            junk,
+            answers,
+        } = self;
         let name = name?;
         Some(Trial {
             name,

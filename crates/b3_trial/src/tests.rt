@@ -116,7 +116,11 @@ fn limits(rt: HostRuntime) -> Result<(), Fail> {
         }
         assert_eq!(rt; bad_line(alloc, text.as_bytes()), Some(0), "{line}");
         text.push_str(line)?;
-        assert_eq!(rt; bad_line(alloc, text.as_bytes()).map(u64::from), Some(u64::from(most) + 2), "{line}");
+        assert_eq!(rt;
+            bad_line(alloc, text.as_bytes()).map(u64::from),
+            Some(u64::from(most) + 2),
+            "{line}"
+        );
     }
     let mut text = String::from_str(alloc, "procedure f\n")?;
     for page in 0..256 {
@@ -143,16 +147,26 @@ fn read(alloc: Global, text: &[u8]) -> Option<Trial> {
 fn trials(rt: HostRuntime) -> Result<(), Fail> {
     let trial = read(rt.alloc(), b"procedure f").ok_or("refused")?;
     assert_eq!(rt; trial.name.as_slice(), b"f".as_slice());
-    assert_eq!(rt; (trial.start.registers[0], trial.start.registers[29]), (0, 0));
+    assert_eq!(rt;
+        (trial.start.registers[0], trial.start.registers[29]),
+        (0, 0)
+    );
     assert_eq!(rt; trial.start.registers[30], 0x3000_0000);
-    assert_eq!(rt; (trial.start.sp, trial.start.code), (0x8000_0000, 0x4000_0000));
+    assert_eq!(rt;
+        (trial.start.sp, trial.start.code),
+        (0x8000_0000, 0x4000_0000)
+    );
     assert_eq!(rt; (trial.blocks, trial.steps), (1000, 1_000_000));
     assert_eq!(rt; trial.start.memory.next_mapped(0), None);
     assert_eq!(rt; (trial.start.junk.len(), trial.answers.len()), (0, 0));
-    let text = b"procedure f.1\nsteps 9\nx30 7\nbytes 0x2000 0105fF\nstack 16 77\njunk 3\ngive 8 16:0a 0x20:0b0c\nleave\njunk 4\ncode 5\nsp 6";
+    let text =
+        b"procedure f.1\nsteps 9\nx30 7\nbytes 0x2000 0105fF\nstack 16 77\njunk 3\ngive 8 16:0a 0x20:0b0c\nleave\njunk 4\ncode 5\nsp 6";
     let trial = read(rt.alloc(), text).ok_or("refused")?;
     assert_eq!(rt; trial.name.as_slice(), b"f.1".as_slice());
-    assert_eq!(rt; (trial.start.registers[0], trial.start.registers[30]), (0, 7));
+    assert_eq!(rt;
+        (trial.start.registers[0], trial.start.registers[30]),
+        (0, 7)
+    );
     assert_eq!(rt; (trial.start.sp, trial.start.code), (6, 5));
     assert_eq!(rt; (trial.blocks, trial.steps), (1000, 9));
     assert_eq!(rt; trial.start.memory.read(0x2000, 2), Some(0x0501));
@@ -163,7 +177,10 @@ fn trials(rt: HostRuntime) -> Result<(), Fail> {
     match trial.answers.get(0) {
         Answer::Give { value, writes } => {
             assert_eq!(rt; *value, 8);
-            assert_eq!(rt; (writes.read(16, 1), writes.read(32, 2)), (Some(10), Some(0x0c0b)));
+            assert_eq!(rt;
+                (writes.read(16, 1), writes.read(32, 2)),
+                (Some(10), Some(0x0c0b))
+            );
         }
         Answer::Leave => return Err("it leaves".into()),
     }
@@ -241,7 +258,8 @@ fn observations(rt: HostRuntime) -> Result<(), Fail> {
         memory,
     };
     let text = show(alloc, &seen)?;
-    let want = "status waiting\nevent call 0x1a0: 5 0\nevent patch b@9:\nmemory 0x0 000f10\nmemory 0x2000 ab\nmemory 0xfffffffffffffffe 0102\n";
+    let want =
+        "status waiting\nevent call 0x1a0: 5 0\nevent patch b@9:\nmemory 0x0 000f10\nmemory 0x2000 ab\nmemory 0xfffffffffffffffe 0102\n";
     assert_eq!(rt; text.as_slice(), want.as_bytes());
     Ok(())
 }

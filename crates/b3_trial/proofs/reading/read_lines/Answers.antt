@@ -1,4 +1,4 @@
-use Rattle.std.proofs.Common.{◌≡◌, ℕ, List, ◌∷◌, [], Bool, Option, Some, None, cond, ap, sym, subst, ◌∙◌, arith}
+use Rattle.std.proofs.Common.{ℕ, List, Bool, Option, Some, None, cond, ap, sym, subst, ◌∙◌, arith}
 use Rattle.std.specs.Prelude.{option_map}
 use Rattle.b3_lines.specs.Lines.{lines_of}
 use Rattle.b3_trial.specs.Trials.{so_far_of, trial_of}

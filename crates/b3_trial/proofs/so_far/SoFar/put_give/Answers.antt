@@ -14,6 +14,6 @@ pub returns : goal.returns
 returns c =
     let s = so_far_of c.args.self.now in
     let put = give_put s c.args.value c.args.pieces.now (map.get c.new-writes.result) (map.get c.put_pieces.new.memory) c.in_ok-put_pieces.field-0
-        (empty_memory _ c.new-writes.ensures) c.in_ok-put_pieces.ensures c.if-not-branch.false in
+    (empty_memory _ c.new-writes.ensures) c.in_ok-put_pieces.ensures c.if-not-branch.false in
     IfOk-weaker c.put_answer.result _ (λ (good : Bool). with_give s c.args.value c.args.pieces.now ≡ cond good (Some (so_far_of c.put_answer.new.self)) None)
     (λ good h. put ∙ h) c.put_answer.ensures
