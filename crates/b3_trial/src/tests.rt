@@ -1,9 +1,8 @@
 use crate::{Trial, TrialFault, read_trial, show};
 use b3_base::{
-    Answer, Event, EventKind, Events, Memory, Observation, Status, Width, Widths, Words,
+    Bytes, Event, EventKind, Events, MapFault, Memory, NoMemory, Observation, Status, Widths, Words,
 };
 use std::alloc::Global;
-use std::fmt::Write;
 use std::test::Fail;
 
 /// The bad line of a text, or 0 where it is a trial.
@@ -106,36 +105,6 @@ fn lines_of_trials(rt: HostRuntime) -> Result<(), Fail> {
     Ok(())
 }
 
-#[test]
-fn limits(rt: HostRuntime) -> Result<(), Fail> {
-    let alloc = rt.alloc();
-    for (line, most) in [("leave\n", 256u32), ("give 1\n", 256), ("junk 5\n", 8224)] {
-        let mut text = String::from_str(alloc, "procedure f\n")?;
-        for _line in 0..most {
-            text.push_str(line)?;
-        }
-        assert_eq!(rt; bad_line(alloc, text.as_bytes()), Some(0), "{line}");
-        text.push_str(line)?;
-        assert_eq!(rt;
-            bad_line(alloc, text.as_bytes()).map(u64::from),
-            Some(u64::from(most) + 2),
-            "{line}"
-        );
-    }
-    let mut text = String::from_str(alloc, "procedure f\n")?;
-    for page in 0..256 {
-        write!(text, "bytes 0x{page:x}00 ")?;
-        for _byte in 0..256 {
-            text.push_str("5a")?;
-        }
-        text.push_str("\n")?;
-    }
-    assert_eq!(rt; bad_line(alloc, text.as_bytes()), Some(0));
-    text.push_str("stack 0 00\nbytes 0x10000 00\n")?;
-    assert_eq!(rt; bad_line(alloc, text.as_bytes()), Some(259));
-    Ok(())
-}
-
 fn read(alloc: Global, text: &[u8]) -> Option<Trial> {
     if text.len() > 100_000_000 {
         return None;
@@ -144,120 +113,124 @@ fn read(alloc: Global, text: &[u8]) -> Option<Trial> {
 }
 
 #[test]
-fn trials(rt: HostRuntime) -> Result<(), Fail> {
+fn defaults(rt: HostRuntime) -> Result<(), Fail> {
     let trial = read(rt.alloc(), b"procedure f").ok_or("refused")?;
-    assert_eq!(rt; trial.name.as_slice(), b"f".as_slice());
-    assert_eq!(rt;
-        (trial.start.registers[0], trial.start.registers[29]),
-        (0, 0)
+    let start = &trial.start;
+    let numbers = (
+        start.registers[0],
+        start.registers[30],
+        start.sp,
+        start.code,
     );
-    assert_eq!(rt; trial.start.registers[30], 0x3000_0000);
-    assert_eq!(rt;
-        (trial.start.sp, trial.start.code),
-        (0x8000_0000, 0x4000_0000)
-    );
+    assert_eq!(rt; numbers, (0, 0x3000_0000, 0x8000_0000, 0x4000_0000));
     assert_eq!(rt; (trial.blocks, trial.steps), (1000, 1_000_000));
-    assert_eq!(rt; trial.start.memory.next_mapped(0), None);
-    assert_eq!(rt; (trial.start.junk.len(), trial.answers.len()), (0, 0));
+    Ok(())
+}
+
+/// The text of an observation.
+fn text_of(alloc: Global, status: Status, events: Events, memory: Memory) -> Option<Bytes> {
+    let seen = Observation {
+        status,
+        events,
+        memory,
+    };
+    show(alloc, &seen).ok()
+}
+
+/// What a trial says of blocks, junk and memory, as the text of an observation.
+fn trial_text(alloc: Global, trial: Trial) -> Option<Bytes> {
+    let Trial {
+        name: _,
+        start,
+        answers: _,
+        blocks,
+        steps: _,
+    } = trial;
+    let status = Status::Exited {
+        value: u32::try_from(blocks).ok()?,
+        reported: start.junk,
+    };
+    text_of(alloc, status, Events::new(alloc), start.memory)
+}
+
+#[test]
+fn trials(rt: HostRuntime) -> Result<(), Fail> {
     let text =
-        b"procedure f.1\nsteps 9\nx30 7\nbytes 0x2000 0105fF\nstack 16 77\njunk 3\ngive 8 16:0a 0x20:0b0c\nleave\njunk 4\ncode 5\nsp 6";
+        b"procedure f.1\nblocks 9\nx30 7\nbytes 0x2000 0105fF\nstack 16 77\njunk 3\ngive 8 16:0a 0x20:0b0c\nleave\njunk 0x04";
     let trial = read(rt.alloc(), text).ok_or("refused")?;
     assert_eq!(rt; trial.name.as_slice(), b"f.1".as_slice());
-    assert_eq!(rt;
-        (trial.start.registers[0], trial.start.registers[30]),
-        (0, 7)
-    );
-    assert_eq!(rt; (trial.start.sp, trial.start.code), (6, 5));
-    assert_eq!(rt; (trial.blocks, trial.steps), (1000, 9));
-    assert_eq!(rt; trial.start.memory.read(0x2000, 2), Some(0x0501));
-    assert_eq!(rt; trial.start.memory.read(0x2002, 1), Some(0xff));
-    assert_eq!(rt; trial.start.stack.read(16, 1), Some(0x77));
-    assert_eq!(rt; trial.start.junk.as_slice(), [3, 4].as_slice());
-    assert_eq!(rt; trial.answers.len(), 2);
-    match trial.answers.get(0) {
-        Answer::Give { value, writes } => {
-            assert_eq!(rt; *value, 8);
-            assert_eq!(rt;
-                (writes.read(16, 1), writes.read(32, 2)),
-                (Some(10), Some(0x0c0b))
-            );
-        }
-        Answer::Leave => return Err("it leaves".into()),
-    }
-    assert!(rt; matches!(trial.answers.get(1), Answer::Leave));
+    assert_eq!(rt; (trial.start.registers[30], trial.answers.len()), (7, 2));
+    let shown = trial_text(rt.alloc(), trial).ok_or("no memory")?;
+    let want = "status exited b@9 3 4\nmemory 0x2000 0105ff\n";
+    assert_eq!(rt; shown.as_slice(), want.as_bytes());
     Ok(())
+}
+
+/// Whether a status without events and memory is printed so.
+fn prints(alloc: Global, status: Status, want: &str) -> bool {
+    match text_of(alloc, status, Events::new(alloc), Memory::new(alloc)) {
+        Some(text) => text.as_slice() == want.as_bytes(),
+        None => false,
+    }
 }
 
 #[test]
 fn statuses(rt: HostRuntime) -> Result<(), Fail> {
     let alloc = rt.alloc();
-    let mut reported = Words::new(alloc);
-    reported.push(7)?;
-    reported.push(u64::MAX)?;
-    let table = [
-        (Status::Going, "status going\n"),
-        (Status::Waiting, "status waiting\n"),
-        (Status::Left, "status left\n"),
-        (Status::Returned(None), "status returned\n"),
-        (Status::Returned(Some(0)), "status returned 0\n"),
-        (
+    assert!(rt; prints(alloc, Status::Going, "status going\n"));
+    assert!(rt; prints(alloc, Status::Waiting, "status waiting\n"));
+    assert!(rt; prints(alloc, Status::Left, "status left\n"));
+    assert!(rt; prints(alloc, Status::Returned(None), "status returned\n"));
+    assert!(rt; prints(alloc, Status::Returned(Some(0)), "status returned 0\n"));
+    assert!(rt;
+        prints(
+            alloc,
             Status::Trapped {
                 value: 12,
-                address: 0xffff_ffff_0000_abcd,
+                address: 0xffff_0000_abcd
             },
-            "status trapped b@12 0xffffffff0000abcd\n",
-        ),
-        (
-            Status::Exited { value: 3, reported },
-            "status exited b@3 7 18446744073709551615\n",
-        ),
-        (Status::Undefined, "status undefined\n"),
-        (Status::Stuck, "status stuck\n"),
-    ];
-    for (status, want) in table {
-        let seen = Observation {
-            status,
-            events: Events::new(alloc),
-            memory: Memory::new(alloc),
-        };
-        let text = show(alloc, &seen)?;
-        assert_eq!(rt; text.as_slice(), want.as_bytes(), "{want}");
-    }
+            "status trapped b@12 0xffff0000abcd\n"
+        )
+    );
+    assert!(rt; prints(alloc, Status::Undefined, "status undefined\n"));
+    assert!(rt; prints(alloc, Status::Stuck, "status stuck\n"));
     Ok(())
 }
 
-fn event(alloc: Global, kind: EventKind, words: &[u64]) -> Option<Event> {
+/// A call and a patchpoint.
+fn events(alloc: Global) -> Result<Events, NoMemory> {
     let mut arguments = Words::new(alloc);
-    arguments.extend(words).ok()?;
-    let mut widths = Widths::new(alloc);
-    for _word in words {
-        widths.push(Width::W64).ok()?;
-    }
-    Some(Event {
-        kind,
+    arguments.extend(&[5, 0])?;
+    let mut events = Events::new(alloc);
+    events.push(Event {
+        kind: EventKind::Call { callee: 0x1a0 },
         arguments,
-        widths,
+        widths: Widths::new(alloc),
         memory: Memory::new(alloc),
-    })
+    })?;
+    events.push(Event {
+        kind: EventKind::Patch { value: 9 },
+        arguments: Words::new(alloc),
+        widths: Widths::new(alloc),
+        memory: Memory::new(alloc),
+    })?;
+    Ok(events)
+}
+
+/// Four runs of mapped addresses.
+fn memory(alloc: Global) -> Result<Memory, MapFault> {
+    let mut memory = Memory::new(alloc);
+    memory.map(0, &[0, 0x0f])?;
+    memory.map(0x2000, &[0xab])?;
+    memory.map(2, &[0x10])?;
+    memory.map(u64::MAX - 1, &[1, 2])?;
+    Ok(memory)
 }
 
 #[test]
 fn observations(rt: HostRuntime) -> Result<(), Fail> {
     let alloc = rt.alloc();
-    let mut events = Events::new(alloc);
-    events.push(event(alloc, EventKind::Call { callee: 0x1a0 }, &[5, 0]).ok_or("no")?)?;
-    events.push(event(alloc, EventKind::Patch { value: 9 }, &[]).ok_or("no")?)?;
-    let mut memory = Memory::new(alloc);
-    memory.map(0, &[0, 0x0f]).ok().ok_or("no")?;
-    memory.map(0x2000, &[0xAB]).ok().ok_or("no")?;
-    memory.map(2, &[0x10]).ok().ok_or("no")?;
-    memory.map(u64::MAX - 1, &[1, 2]).ok().ok_or("no")?;
-    let seen = Observation {
-        status: Status::Waiting,
-        events,
-        memory,
-    };
-    let text = show(alloc, &seen)?;
+    let text = text_of(alloc, Status::Waiting, events(alloc)?, memory(alloc)?).ok_or("no memory")?;
     let want =
         "status waiting\nevent call 0x1a0: 5 0\nevent patch b@9:\nmemory 0x0 000f10\nmemory 0x2000 ab\nmemory 0xfffffffffffffffe 0102\n";
     assert_eq!(rt; text.as_slice(), want.as_bytes());
