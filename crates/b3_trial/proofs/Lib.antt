@@ -2,3 +2,4 @@ pub mod ShownLemmas
 pub mod WordLemmas
 pub mod PieceLemmas
 pub mod BadLines
+pub mod GeneratedLemmas

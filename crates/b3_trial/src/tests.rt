@@ -1,4 +1,4 @@
-use crate::{Trial, TrialFault, read_trial, show};
+use crate::{Trial, TrialFault, generate, read_trial, show};
 use b3_base::{
     Bytes, Event, EventKind, Events, MapFault, Memory, NoMemory, Observation, Status, Widths, Words,
 };
@@ -234,5 +234,32 @@ fn observations(rt: HostRuntime) -> Result<(), Fail> {
     let want =
         "status waiting\nevent call 0x1a0: 5 0\nevent patch b@9:\nmemory 0x0 000f10\nmemory 0x2000 ab\nmemory 0xfffffffffffffffe 0102\n";
     assert_eq!(rt; text.as_slice(), want.as_bytes());
+    Ok(())
+}
+
+/// The sum of the bytes, each with 31 to the power of how many follow it, modulo 2^64.
+fn sum_of(bytes: &[u8]) -> u64 {
+    let mut sum: u64 = 0;
+    for byte in bytes {
+        sum = sum.wrapping_mul(31).wrapping_add(u64::from(*byte));
+    }
+    sum
+}
+
+#[test]
+fn generated(rt: HostRuntime) -> Result<(), Fail> {
+    let table = [
+        (0, 297_894, 13938673315115169374),
+        (1, 298_022, 149171563594718188),
+        (u32::MAX, 297_964, 9970087666954128476),
+    ];
+    for (n, len, sum) in table {
+        let text = generate(rt.alloc(), n)?;
+        assert_eq!(rt;
+            (text.len(), sum_of(text.as_slice())),
+            (len, sum),
+            "from {n}"
+        );
+    }
     Ok(())
 }
