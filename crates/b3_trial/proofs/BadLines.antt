@@ -98,8 +98,13 @@ bad_next text s line row rest h none =
     let nothing : led (Some first) front ≡ None = behind s h.front (row ∷ []) h.leads ∙ none in
     record {
       counted = omega arith;
-      before = subst (λ (x : List (List ℕ)). BeginsTrial x) (sym (taken text h.front (row ∷ rest) (line - 1) h.parts (omega arith))) (begins s h.front h.leads);
-      here = inl (omega arith, λ b. begins_none front nothing (subst (λ (x : List (List ℕ)). BeginsTrial x) (taken text front rest line parts (omega arith)) b));
+      before = subst (λ (x : List (List ℕ)). BeginsTrial x) (sym (taken text h.front (row ∷ rest) (line - 1) h.parts (omega arith)))
+          (begins s h.front h.leads);
+      here = inl (
+        omega arith,
+        λ b. begins_none front nothing (subst (λ (x : List (List ℕ)). BeginsTrial x) (taken text front rest line parts
+            (omega arith)) b),
+      );
     }
 
 -- what all lines lead to
@@ -203,12 +208,14 @@ Found bytes result = IfOk result (λ made. Spells bytes (trial_of made))
 abbrev IsBad : List ℕ → Result GivenTrial TrialFault → Type 0
 IsBad bytes result = IfErr result (λ fault. IfBad fault (λ line. BadLine bytes line))
 
-pub spelled_is_read : (bytes : List ℕ) (result : Result GivenTrial TrialFault) → Found bytes result → IsBad bytes result → (t : Trial) → Spells bytes t → Gives result (Ok t)
+pub spelled_is_read : (bytes : List ℕ) (result : Result GivenTrial TrialFault) → Found bytes result → IsBad bytes result → (t : Trial)
+    → Spells bytes t → Gives result (Ok t)
 spelled_is_read bytes (Ok made) found bad t h = ap Ok (one_trial bytes t (trial_of made) h found)
 spelled_is_read bytes (Err (Bad line)) found bad t h = absurd (trial_is_good (lines_of bytes) t line h bad)
 spelled_is_read bytes (Err NoMemory) found bad t h = tt
 
-pub bad_is_told : (bytes : List ℕ) (result : Result GivenTrial TrialFault) → Found bytes result → IsBad bytes result → (line : ℕ) → BadLine bytes line → Gives result (Err (Bad line))
+pub bad_is_told : (bytes : List ℕ) (result : Result GivenTrial TrialFault) → Found bytes result → IsBad bytes result → (line : ℕ)
+    → BadLine bytes line → Gives result (Err (Bad line))
 bad_is_told bytes (Ok made) found bad line h = absurd (trial_is_good (lines_of bytes) (trial_of made) line found h)
 bad_is_told bytes (Err (Bad other)) found bad line h = ap (λ (n : ℕ). Err (Bad n)) (one_bad_line (lines_of bytes) line other h bad)
 bad_is_told bytes (Err NoMemory) found bad line h = tt

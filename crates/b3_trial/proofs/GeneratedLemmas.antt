@@ -20,7 +20,8 @@ use Rattle.b3_trial.specs.Generated.{argument_row, arguments, line_text, next_st
 
 -- ---- draws
 
-pub state_next : (state product sum : ℕ) → product ≡ (state * 6364136223846793005) % 2 ^ 64 → sum ≡ (product + 1442695040888963407) % 2 ^ 64 → sum ≡ next_state state
+pub state_next : (state product sum : ℕ) → product ≡ (state * 6364136223846793005) % 2 ^ 64 → sum ≡ (product + 1442695040888963407) % 2 ^ 64
+    → sum ≡ next_state state
 state_next state product sum e f =
     f ∙ ap (λ n. (n + 1442695040888963407) % 2 ^ 64) e ∙ mod-add-mod (state * 6364136223846793005) (2 ^ 64) 1442695040888963407
 
@@ -61,7 +62,8 @@ one_text out line new row e f =
     f ∙ ap (λ (x : List ℕ). x ++ 10 ∷ []) e ∙ append_assoc out (line_of_row row) (10 ∷ []) ∙ ap (λ (x : List ℕ). out ++ x) (sym (append-nil (line_text row)))
 
 -- the row of a value by its parts
-pub value_same : (ty : Ty) (id : ℕ) (opcode : Opcode) (kind : Kind) (children ids : List ℕ) (body : Body) → kind ≡ record { opcode = opcode; chill = false; traps = false }
+pub value_same : (ty : Ty) (id : ℕ) (opcode : Opcode) (kind : Kind) (children ids : List ℕ) (body : Body)
+    → kind ≡ record { opcode = opcode; chill = false; traps = false }
     → children ≡ ids → ValueRow (record { id = id; ty = ty; kind = kind; children = children; body = body; line = 0 }) ≡ value_row ty id opcode ids body
 value_same ty id opcode kind children ids body e f = rw (e, f) refl
 
@@ -71,7 +73,8 @@ more_text out a b x y e f =
     f ∙ ap (λ (t : List ℕ). t ++ text_of y) e ∙ append_assoc out (text_of x) (text_of y) ∙ ap (λ (t : List ℕ). out ++ t) (sym (text_append x y))
 
 -- a line more, where the lines that are left go on
-text_goes : (old new first : List ℕ) (row all : List Row) (rest : List Row) → all ≡ row ++ rest → new ≡ old ++ text_of row → old ++ text_of all ≡ first → new ++ text_of rest ≡ first
+text_goes : (old new first : List ℕ) (row all : List Row) (rest : List Row) → all ≡ row ++ rest → new ≡ old ++ text_of row
+    → old ++ text_of all ≡ first → new ++ text_of rest ≡ first
 text_goes old new first row all rest e f g =
     ap (λ (t : List ℕ). t ++ text_of rest) f ∙ append_assoc old (text_of row) (text_of rest)
     ∙ ap (λ (t : List ℕ). old ++ t) (sym (text_append row rest)) ∙ ap (λ (x : List Row). old ++ text_of x) (sym e) ∙ g
@@ -90,7 +93,8 @@ pub arguments_done : (count r : ℕ) → count ≡ 0 → arguments count r ≡ [
 unfolding arguments
 arguments_done count r e = rw e refl
 
-pub argument_more : (old new first : List ℕ) (r id : ℕ) → r < 8 → id ≡ r → new ≡ old ++ text_of (value_row Int64 id op.ArgumentReg [] (Argument (record { 0 = r })) ∷ [])
+pub argument_more : (old new first : List ℕ) (r id : ℕ) → r < 8 → id ≡ r
+    → new ≡ old ++ text_of (value_row Int64 id op.ArgumentReg [] (Argument (record { 0 = r })) ∷ [])
     → old ++ text_of (arguments (8 - r) r) ≡ first → new ++ text_of (arguments (8 - (r + 1)) (r + 1)) ≡ first
 argument_more old new first r id low same f g =
     let n : 8 - r ≡ suc (8 - (r + 1)) = omega arith in
@@ -113,7 +117,8 @@ operation_more old new first last state after k low e f g =
     let n : last - k ≡ suc (last - (k + 1)) = omega arith in
     let same : after ≡ state_behind 3 state = e ∙ sym (behind_three state) in
     text_goes old new first (operation state k ∷ []) (operations (last - k) state k) (operations (last - (k + 1)) after (k + 1))
-    (ap (λ c. operations c state k) n ∙ operations_suc (last - (k + 1)) state k ∙ ap (λ s. operation state k ∷ operations (last - (k + 1)) s (k + 1)) (sym same)) f g
+    (ap (λ c. operations c state k) n ∙ operations_suc (last - (k + 1)) state k
+    ∙ ap (λ s. operation state k ∷ operations (last - (k + 1)) s (k + 1)) (sym same)) f g
 
 pub state_more : (last state after k whole : ℕ) → k < last → after ≡ next_state (next_state (next_state state))
     → state_behind (3 * (last - k)) state ≡ whole → state_behind (3 * (last - (k + 1))) after ≡ whole
@@ -139,7 +144,8 @@ pub procedure_more : (old new first : List ℕ) (last state after p : ℕ) → p
 procedure_more old new first last state after p low e f g =
     let n : last - p ≡ suc (last - (p + 1)) = omega arith in
     text_goes old new first (procedure_rows state p) (procedures_from (last - p) state p) (procedures_from (last - (p + 1)) after (p + 1))
-    (ap (λ c. procedures_from c state p) n ∙ procedures_suc (last - (p + 1)) state p ∙ ap (λ s. procedure_rows state p ++ procedures_from (last - (p + 1)) s (p + 1)) (sym e)) f g
+    (ap (λ c. procedures_from c state p) n ∙ procedures_suc (last - (p + 1)) state p
+    ∙ ap (λ s. procedure_rows state p ++ procedures_from (last - (p + 1)) s (p + 1)) (sym e)) f g
 
 -- ---- a body that carries nothing fits
 

@@ -35,7 +35,8 @@ none_any m first (suc n) e (i, low, some) =
     (λ over. let same : i ≡ n = omega (arith, low) in some_is (m (first + n)) both.1 (subst (λ (k : ℕ). IsSome (m (first + k))) same some))
     (cases_lt i n)
 
-or_cases : (m : Memory) (first n : ℕ) (a b : Bool) → a || b ≡ true → (a ≡ true → IsAnyMapped m first n) → (b ≡ true → IsSome (m (first + n))) → IsAnyMapped m first (suc n)
+or_cases : (m : Memory) (first n : ℕ) (a b : Bool) → a || b ≡ true → (a ≡ true → IsAnyMapped m first n) → (b ≡ true → IsSome (m (first + n)))
+    → IsAnyMapped m first (suc n)
 or_cases m first n true b h more here = let any = more refl in (any.0, omega (arith, any.1), any.2)
 or_cases m first n false true h more here = (n, omega arith, here refl)
 or_cases m first n false false h more here = absurd cc
@@ -72,7 +73,8 @@ piece_wraps m piece over =
     let test : nat_le (piece.address + length piece.bytes) (2 ^ 64) ≡ false = grind (arith, nat_tests) in
     rw test refl
 
-pub piece_overlaps : (m : Memory) (piece : Piece) → piece.address + length piece.bytes ≤ 2 ^ 64 → IsAnyMapped m piece.address (length piece.bytes) → with_piece m piece ≡ None
+pub piece_overlaps : (m : Memory) (piece : Piece) → piece.address + length piece.bytes ≤ 2 ^ 64 → IsAnyMapped m piece.address (length piece.bytes)
+    → with_piece m piece ≡ None
 unfolding with_piece
 piece_overlaps m piece fits any =
     let test : nat_le (piece.address + length piece.bytes) (2 ^ 64) ≡ true = le-leb _ _ fits in
@@ -87,11 +89,13 @@ empty_memory v e = ap map.get e ∙ fun_ext (λ q. map.get-empty nat_cmp q)
 pub give_not : (s : SoFar) (value : ℕ) (pieces : List Piece) (m new : Memory) (good : Bool) → m ≡ no_memory → with_pieces m pieces ≡ cond good (Some new) None
     → good ≡ false → with_give s value pieces ≡ None
 give_not s value pieces m new good first e off =
-    let none : with_pieces no_memory pieces ≡ None = ap (λ (x : Memory). with_pieces x pieces) (sym first) ∙ e ∙ ap (λ (x : Bool). cond x (Some new) None) off in
+    let none : with_pieces no_memory pieces ≡ None = ap (λ (x : Memory). with_pieces x pieces) (sym first) ∙ e
+    ∙ ap (λ (x : Bool). cond x (Some new) None) off in
     ap (option_and_then (λ (x : Memory). with_answer s (GiveAnswer value x))) none
 
 pub give_put : (s : SoFar) (value : ℕ) (pieces : List Piece) (m new : Memory) (good : Bool) → m ≡ no_memory → with_pieces m pieces ≡ cond good (Some new) None
     → good ≡ true → with_give s value pieces ≡ with_answer s (GiveAnswer value new)
 give_put s value pieces m new good first e on =
-    let some : with_pieces no_memory pieces ≡ Some new = ap (λ (x : Memory). with_pieces x pieces) (sym first) ∙ e ∙ ap (λ (x : Bool). cond x (Some new) None) on in
+    let some : with_pieces no_memory pieces ≡ Some new = ap (λ (x : Memory). with_pieces x pieces) (sym first) ∙ e
+    ∙ ap (λ (x : Bool). cond x (Some new) None) on in
     ap (option_and_then (λ (x : Memory). with_answer s (GiveAnswer value x))) some

@@ -74,5 +74,6 @@ next_byte m from address next first old new low none e f g =
     ∙ append_assoc first (memory_below m address) (byte_at m address (m address))
     ∙ ap (λ (x : List ℕ). first ++ x) (sym (below_more m address next e))
 
-pub no_more : (m : Memory) (from : ℕ) (first out : List ℕ) → from ≤ 2 ^ 64 → ((q : ℕ) → from ≤ q → m q ≡ None) → out ≡ first ++ memory_below m from → out ≡ first ++ memory_below m (2 ^ 64)
+pub no_more : (m : Memory) (from : ℕ) (first out : List ℕ) → from ≤ 2 ^ 64 → ((q : ℕ) → from ≤ q → m q ≡ None) → out ≡ first ++ memory_below m from
+    → out ≡ first ++ memory_below m (2 ^ 64)
 no_more m from first out low none e = e ∙ ap (λ (x : List ℕ). first ++ x) (sym (below_skipped m from (2 ^ 64) low (λ q a b. none q a)))

@@ -33,9 +33,11 @@ onto_end front = ap Some (append-nil front)
 
 -- ---- bytes
 
-pub bytes_more : (high low byte : ℕ) (front more : List ℕ) → hex_byte high low ≡ Some byte → onto front (hex_bytes (high ∷ low ∷ more)) ≡ onto (front ++ byte ∷ []) (hex_bytes more)
+pub bytes_more : (high low byte : ℕ) (front more : List ℕ) → hex_byte high low ≡ Some byte
+    → onto front (hex_bytes (high ∷ low ∷ more)) ≡ onto (front ++ byte ∷ []) (hex_bytes more)
 unfolding hex_bytes
-bytes_more high low byte front more e = ap (λ (o : Option ℕ). onto front (option_and_then (λ b. onto (b ∷ []) (hex_bytes more)) o)) e ∙ onto_onto front byte (hex_bytes more)
+bytes_more high low byte front more e = ap (λ (o : Option ℕ). onto front (option_and_then (λ b. onto (b ∷ []) (hex_bytes more)) o)) e
+    ∙ onto_onto front byte (hex_bytes more)
 
 pub bytes_not : (high low : ℕ) (front more : List ℕ) → hex_byte high low ≡ None → onto front (hex_bytes (high ∷ low ∷ more)) ≡ None
 unfolding hex_bytes
@@ -57,9 +59,11 @@ bytes_end front text none = ap (λ (x : List ℕ). onto front (hex_bytes x)) (ni
 
 -- ---- pieces
 
-pub pieces_more : (t : List ℕ) (ts : List (List ℕ)) (piece : Piece) (front : List Piece) → piece_of t ≡ Some piece → onto front (pieces_of (t ∷ ts)) ≡ onto (front ++ piece ∷ []) (pieces_of ts)
+pub pieces_more : (t : List ℕ) (ts : List (List ℕ)) (piece : Piece) (front : List Piece) → piece_of t ≡ Some piece
+    → onto front (pieces_of (t ∷ ts)) ≡ onto (front ++ piece ∷ []) (pieces_of ts)
 unfolding pieces_of
-pieces_more t ts piece front e = ap (λ (o : Option Piece). onto front (option_and_then (λ p. onto (p ∷ []) (pieces_of ts)) o)) e ∙ onto_onto front piece (pieces_of ts)
+pieces_more t ts piece front e = ap (λ (o : Option Piece). onto front (option_and_then (λ p. onto (p ∷ []) (pieces_of ts)) o)) e
+    ∙ onto_onto front piece (pieces_of ts)
 
 pub pieces_not : (t : List ℕ) (ts : List (List ℕ)) (front : List Piece) → piece_of t ≡ None → onto front (pieces_of (t ∷ ts)) ≡ None
 unfolding pieces_of

@@ -72,14 +72,16 @@ arguments zero r = []
 arguments (suc count) r = argument_row r ∷ arguments count (r + 1)
 
 abbrev pub constants : ℕ → List Row
-constants constant = value_row Int64 8 op.Const64 [] (Constant 1) ∷ value_row Int64 9 op.Const64 [] (Constant constant) ∷ []
+constants constant =
+    value_row Int64 8 op.Const64 [] (Constant 1) ∷ value_row Int64 9 op.Const64 [] (Constant constant) ∷ []
 
 abbrev pub entry_end : List Row
 entry_end = value_row Void 10 op.Upsilon (0 ∷ []) (Target 12) ∷ value_row Void 11 op.Jump [] Plain ∷ One 1 ∷ []
 
 -- the header and block 0: the eight arguments, 1, a draw, and the first value of the Phi
 unfoldable pub entry : ℕ → ℕ → List Row
-entry p constant = (Header (codes "g" ++ decimal p) ∷ Heading 0 ∷ []) ++ (arguments 8 0 ++ (constants constant ++ entry_end))
+entry p constant =
+    (Header (codes "g" ++ decimal p) ∷ Heading 0 ∷ []) ++ (arguments 8 0 ++ (constants constant ++ entry_end))
 
 -- block 1, a loop, but for its arithmetic; block 2 returns
 abbrev pub loop_front : List Row

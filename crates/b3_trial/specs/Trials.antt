@@ -95,7 +95,8 @@ once_up_to most before word = if nat_le word most then once before word else Non
 abbrev pub with_mapped : SoFar → Piece → Option SoFar
 with_mapped s piece =
     if nat_le (s.mapped + length piece.bytes) most_mapped
-    then option_map (λ memory. record s { memory = memory; mapped = s.mapped + length piece.bytes }) (with_piece s.memory piece)
+    then option_map (λ memory. record s { memory = memory; mapped = s.mapped + length piece.bytes })
+    (with_piece s.memory piece)
     else None
 
 abbrev pub with_junk : SoFar → ℕ → Option SoFar

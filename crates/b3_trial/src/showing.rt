@@ -143,7 +143,8 @@ fn put_byte_at(
     memory: &Memory,
     address: u64,
 ) -> Result<(), NoMemory>
-    ensures { OnOk result (out.new ≡ out.old ++ spec.byte_at (map.get memory.now) address (map.get memory.now address)) }
+    ensures { OnOk result (out.new
+        ≡ out.old ++ spec.byte_at (map.get memory.now) address (map.get memory.now address)) }
 {
     let Some(byte) = byte_in(memory, address) else {
         return Ok(());

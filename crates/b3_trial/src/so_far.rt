@@ -68,7 +68,8 @@ fn set_up_to(most: u64, place: &mut Option<u64>, word: u64) -> bool
 
 /// Maps a piece. False where an address is mapped already, or past 2^64.
 fn put_piece(memory: &mut Memory, piece: &Piece) -> Result<bool, NoMemory>
-    ensures { IfOk result (λ good. spec.with_piece (map.get memory.old) piece.now ≡ (if good then Some (map.get memory.new) else None)) }
+    ensures { IfOk result (λ good. spec.with_piece (map.get memory.old) piece.now
+        ≡ (if good then Some (map.get memory.new) else None)) }
 {
     match memory.map(piece.address, piece.bytes.as_slice()) {
         Ok(()) => Ok(true),
@@ -80,7 +81,8 @@ fn put_piece(memory: &mut Memory, piece: &Piece) -> Result<bool, NoMemory>
 
 /// Maps pieces, one by one, up to the first that can't be mapped.
 fn put_pieces(memory: &mut Memory, pieces: &[Piece]) -> Result<bool, NoMemory>
-    ensures { IfOk result (λ good. spec.with_pieces (map.get memory.old) pieces.now ≡ (if good then Some (map.get memory.new) else None)) }
+    ensures { IfOk result (λ good. spec.with_pieces (map.get memory.old) pieces.now
+        ≡ (if good then Some (map.get memory.new) else None)) }
 {
     let mut left = pieces;
     while let Some((piece, more)) = left.split_first() {
@@ -118,7 +120,8 @@ impl SoFar {
     // ---- what a line adds: false where the line is bad
 
     fn put_register(&mut self, number: u32, word: u64) -> bool
-        ensures { spec.with_register (so_far_of self.old) number word ≡ (if result then Some (so_far_of self.new) else None) }
+        ensures { spec.with_register (so_far_of self.old) number word
+            ≡ (if result then Some (so_far_of self.new) else None) }
     {
         let at = number as usize;
         if at >= 31 || self.is_given[at] {
@@ -130,7 +133,8 @@ impl SoFar {
     }
 
     fn put_mapped(&mut self, piece: &Piece) -> Result<bool, NoMemory>
-        ensures { IfOk result (λ good. spec.with_mapped (so_far_of self.old) piece.now ≡ (if good then Some (so_far_of self.new) else None)) }
+        ensures { IfOk result (λ good. spec.with_mapped (so_far_of self.old) piece.now
+            ≡ (if good then Some (so_far_of self.new) else None)) }
     {
         let Some(mapped) = self.mapped.checked_add(piece.bytes.len() as u64) else {
             return Ok(false);
@@ -143,7 +147,8 @@ impl SoFar {
     }
 
     fn put_junk(&mut self, word: u64) -> Result<bool, NoMemory>
-        ensures { IfOk result (λ good. spec.with_junk (so_far_of self.old) word ≡ (if good then Some (so_far_of self.new) else None)) }
+        ensures { IfOk result (λ good. spec.with_junk (so_far_of self.old) word
+            ≡ (if good then Some (so_far_of self.new) else None)) }
     {
         if self.junk.len() >= MOST_JUNK {
             return Ok(false);
@@ -153,7 +158,8 @@ impl SoFar {
     }
 
     fn put_answer(&mut self, answer: Answer) -> Result<bool, NoMemory>
-        ensures { IfOk result (λ good. spec.with_answer (so_far_of self.old) (answer_of answer) ≡ (if good then Some (so_far_of self.new) else None)) }
+        ensures { IfOk result (λ good. spec.with_answer (so_far_of self.old) (answer_of answer)
+            ≡ (if good then Some (so_far_of self.new) else None)) }
     {
         if self.answers.len() >= MOST_ANSWERS {
             return Ok(false);
@@ -163,7 +169,8 @@ impl SoFar {
     }
 
     fn put_give(&mut self, alloc: Global, value: u64, pieces: &[Piece]) -> Result<bool, NoMemory>
-        ensures { IfOk result (λ good. spec.with_give (so_far_of self.old) value pieces.now ≡ (if good then Some (so_far_of self.new) else None)) }
+        ensures { IfOk result (λ good. spec.with_give (so_far_of self.old) value pieces.now
+            ≡ (if good then Some (so_far_of self.new) else None)) }
     {
         let mut writes = Memory::new(alloc);
         if !put_pieces(&mut writes, pieces)? {
@@ -174,7 +181,8 @@ impl SoFar {
 
     /// A line behind the one that names the procedure.
     fn put_said(&mut self, alloc: Global, line: Line) -> Result<bool, NoMemory>
-        ensures { IfOk result (λ good. spec.said (so_far_of self.old) line ≡ (if good then Some (so_far_of self.new) else None)) }
+        ensures { IfOk result (λ good. spec.said (so_far_of self.old) line
+            ≡ (if good then Some (so_far_of self.new) else None)) }
     {
         match line {
             Line::Nothing => Ok(true),
@@ -207,7 +215,8 @@ impl SoFar {
     }
 
     fn put_line(&mut self, alloc: Global, line: Line) -> Result<bool, NoMemory>
-        ensures { IfOk result (λ good. spec.added (so_far_of self.old) line ≡ (if good then Some (so_far_of self.new) else None)) }
+        ensures { IfOk result (λ good. spec.added (so_far_of self.old) line
+            ≡ (if good then Some (so_far_of self.new) else None)) }
     {
         if self.name.is_some() {
             self.put_said(alloc, line)
@@ -218,7 +227,8 @@ impl SoFar {
 
     /// Adds what a line says. False where it is bad; it is refused for want of memory alone.
     pub(crate) fn put(&mut self, alloc: Global, text: &[u8]) -> Result<bool, NoMemory>
-        ensures { IfOk result (λ good. spec.added_to (Some (so_far_of self.old)) (line_of text.now) ≡ (if good then Some (so_far_of self.new) else None)) }
+        ensures { IfOk result (λ good. spec.added_to (Some (so_far_of self.old)) (line_of text.now)
+            ≡ (if good then Some (so_far_of self.new) else None)) }
     {
         match read_line(alloc, text)? {
             Some(line) => self.put_line(alloc, line),

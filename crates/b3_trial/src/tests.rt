@@ -155,8 +155,8 @@ fn trial_text(alloc: Global, trial: Trial) -> Option<Bytes> {
 
 #[test]
 fn trials(rt: HostRuntime) -> Result<(), Fail> {
-    let text =
-        b"procedure f.1\nblocks 9\nx30 7\nbytes 0x2000 0105fF\nstack 16 77\njunk 3\ngive 8 16:0a 0x20:0b0c\nleave\njunk 0x04";
+    let text = b"procedure f.1\nblocks 9\nx30 7\nbytes 0x2000 0105fF\nstack 16 77\njunk 3\n\
+          give 8 16:0a 0x20:0b0c\nleave\njunk 0x04";
     let trial = read(rt.alloc(), text).ok_or("refused")?;
     assert_eq!(rt; trial.name.as_slice(), b"f.1".as_slice());
     assert_eq!(rt; (trial.start.registers[30], trial.answers.len()), (7, 2));
@@ -232,7 +232,8 @@ fn observations(rt: HostRuntime) -> Result<(), Fail> {
     let alloc = rt.alloc();
     let text = text_of(alloc, Status::Waiting, events(alloc)?, memory(alloc)?).ok_or("no memory")?;
     let want =
-        "status waiting\nevent call 0x1a0: 5 0\nevent patch b@9:\nmemory 0x0 000f10\nmemory 0x2000 ab\nmemory 0xfffffffffffffffe 0102\n";
+        "status waiting\nevent call 0x1a0: 5 0\nevent patch b@9:\nmemory 0x0 000f10\nmemory 0x2000 ab\n\
+         memory 0xfffffffffffffffe 0102\n";
     assert_eq!(rt; text.as_slice(), want.as_bytes());
     Ok(())
 }

@@ -5,4 +5,5 @@ use Rattle.b3_trial.proofs.GeneratedLemmas.{one_text}
 use Rattle.b3_trial.proofs.generating.put_heading.Goals as goal
 
 pub returns : goal.returns
-returns c = on_ok_weaker c.put_end.result (λ ok. one_text c.args.out.now c.write_heading.new.out c.put_end.new.out (Heading c.args.number) c.in_ok-write_heading.ensures ok) c.put_end.ensures
+returns c = on_ok_weaker c.put_end.result (λ ok. one_text c.args.out.now c.write_heading.new.out c.put_end.new.out (Heading c.args.number)
+    c.in_ok-write_heading.ensures ok) c.put_end.ensures

@@ -5,4 +5,5 @@ use Rattle.b3_trial.proofs.GeneratedLemmas.{one_text}
 use Rattle.b3_trial.proofs.generating.put_one.Goals as goal
 
 pub returns : goal.returns
-returns c = on_ok_weaker c.put_end.result (λ ok. one_text c.args.out.now c.write_one.new.out c.put_end.new.out (One c.args.target) c.in_ok-write_one.ensures ok) c.put_end.ensures
+returns c = on_ok_weaker c.put_end.result (λ ok. one_text c.args.out.now c.write_one.new.out c.put_end.new.out (One c.args.target)
+    c.in_ok-write_one.ensures ok) c.put_end.ensures

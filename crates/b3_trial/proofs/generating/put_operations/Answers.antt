@@ -5,9 +5,11 @@ use Rattle.b3_trial.proofs.generating.put_operations.Goals as goal
 
 pub loop-k-preserved : goal.loop-k-preserved
 loop-k-preserved c = record {
-  text = operation_more c.loop-k.out c.put_operation.new.out (c.args.out.now ++ text_of (operations 500 c.args.state.now 13)) 513 c.loop-k.state c.put_operation.new.state c.loop-k.k
+  text = operation_more c.loop-k.out c.put_operation.new.out (c.args.out.now ++ text_of (operations 500 c.args.state.now 13)) 513 c.loop-k.state
+      c.put_operation.new.state c.loop-k.k
       (omega arith) c.put_operation.ensures.moved c.in_ok-put_operation.ensures.text c.loop-k.invariant.text;
-  state = state_more 513 c.loop-k.state c.put_operation.new.state c.loop-k.k (state_behind 1500 c.args.state.now) (omega arith) c.put_operation.ensures.moved c.loop-k.invariant.state;
+  state = state_more 513 c.loop-k.state c.put_operation.new.state c.loop-k.k (state_behind 1500 c.args.state.now) (omega arith)
+      c.put_operation.ensures.moved c.loop-k.invariant.state;
 }
 
 pub returns-clause-text : goal.returns-clause-text

@@ -7,4 +7,5 @@ pub returns-clause-is : goal.returns-clause-is
 returns-clause-is c = c.read.ensures ∙ read_one (map.get c.args.memory.now) c.args.address c.ranges.address.fits
 
 pub returns-clause-byte : goal.returns-clause-byte
-returns-clause-byte c = is_byte (map.get c.args.memory.now) c.args.address c.read.result c.ranged.ensures (c.read.ensures ∙ read_one (map.get c.args.memory.now) c.args.address c.ranges.address.fits)
+returns-clause-byte c = is_byte (map.get c.args.memory.now) c.args.address c.read.result c.ranged.ensures (c.read.ensures
+    ∙ read_one (map.get c.args.memory.now) c.args.address c.ranges.address.fits)

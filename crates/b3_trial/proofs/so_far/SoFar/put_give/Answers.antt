@@ -7,7 +7,8 @@ use Rattle.b3_trial.proofs.so_far.SoFar.put_give.Goals as goal
 
 pub returns-then-not-branch : goal.returns-then-not-branch
 returns-then-not-branch c =
-    give_not (so_far_of c.args.self.now) c.args.value c.args.pieces.now (map.get c.new-writes.result) (map.get c.put_pieces.new.memory) c.in_ok-put_pieces.field-0
+    give_not (so_far_of c.args.self.now) c.args.value c.args.pieces.now (map.get c.new-writes.result) (map.get c.put_pieces.new.memory)
+    c.in_ok-put_pieces.field-0
     (empty_memory _ c.new-writes.ensures) c.in_ok-put_pieces.ensures c.if-not-branch.true
 
 pub returns : goal.returns
