@@ -3,9 +3,6 @@
 ghost use Rattle.std.specs.Prelude.{◌≡◌, ◌≤◌, ◌<◌, ◌^◌, ◌++◌, ◌∷◌, [], OnOk, IfOk, codes};
 ghost use Rattle.std.specs.Fmt.{decimal};
 ghost use Rattle.b3_ir.specs.Table.{row_of};
-ghost use Rattle.b3_ir.specs.declared.opcode.Ty.TheVariants as types;
-ghost use Rattle.b3_ir.specs.declared.opcode.Opcode.TheVariants as ops;
-ghost use Rattle.b3_ir.specs.declared.value.Body.TheVariants as bodies;
 ghost use Rattle.b3_rows.specs.declared.row.Row.TheVariants as rows;
 ghost use Rattle.b3_written.specs.Listed.{FitsWord};
 ghost use Rattle.b3_trial.specs.Generated as spec;

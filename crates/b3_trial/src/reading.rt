@@ -1,6 +1,6 @@
 //! Reading a trial, line by line.
 
-ghost use Rattle.std.specs.Prelude.{◌≡◌, ℕ, ◌-◌, ◌<◌, ◌^◌, length, IfOk, IfErr, Ok, Err};
+ghost use Rattle.std.specs.Prelude.{ℕ, ◌-◌, ◌<◌, ◌^◌, length, IfOk, IfErr, Ok, Err};
 ghost use Rattle.b3_trial.specs.Told.{Gives, IfBad};
 ghost use Rattle.b3_trial.specs.Trials as spec;
 ghost use Rattle.b3_trial.specs.Trials.{BadLine, Spells, trial_of};

@@ -1,8 +1,8 @@
 //! What the lines of a trial say so far.
 
-ghost use Rattle.std.specs.Prelude.{◌≡◌, ◌+◌, ◌<◌, ◌≤◌, ◌↔◌, not, length, IfOk, IsTrue, Some, None, if◌then◌else◌, option_map, slice_index_or};
+ghost use Rattle.std.specs.Prelude.{◌≡◌, ◌<◌, IfOk, Some, None, if◌then◌else◌, option_map};
 ghost use Rattle.std.specs.FinMap as map;
-ghost use Rattle.b3_base.specs.Observed.{answer_of, no_memory};
+ghost use Rattle.b3_base.specs.Observed.{answer_of};
 ghost use Rattle.b3_trial.specs.Lines.{line_of};
 ghost use Rattle.b3_trial.specs.Trials as spec;
 ghost use Rattle.b3_trial.specs.Trials.{so_far_of, trial_of};
