@@ -1,0 +1,5 @@
+pub mod ShownLemmas
+pub mod WordLemmas
+pub mod PieceLemmas
+pub mod BadLines
+pub mod GeneratedLemmas

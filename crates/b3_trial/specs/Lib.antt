@@ -1,0 +1,5 @@
+pub mod Shown
+pub mod Lines
+pub mod Trials
+pub mod Told
+pub mod Generated
