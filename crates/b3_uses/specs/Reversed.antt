@@ -1,0 +1,46 @@
+-- No public clause cites this module. The blocks of a procedure as a flow that goes backwards: what is
+-- live there is what some path from block 0 doesn't define.
+use Rattle.std.specs.Prelude.{◌≡◌, ◌≢◌, ℕ, ◌+◌, ◌-◌, ◌<◌, ◌≤◌, ◌⊎◌, ◌↔◌, List, length, Option, Some, Contains}
+use Rattle.b3_ir.specs.Procedure.{Procedure, values_of}
+use Rattle.b3_ir.specs.declared.value.Value.{Value}
+use Rattle.b3_rules.specs.Paths.{IsCovered, IsSuccessor}
+use Rattle.flow_live.specs.Graph.{Graph, Defines, IsSuccessor as Leads, LiveOut, Uses}
+
+-- one of these values has the id
+abbrev pub HasDefinition : List Value → ℕ → Type 0
+HasDefinition values id = (v : Value) × Contains values v × (v.id ≡ id)
+
+-- the place of a block in the flow, and the block of a place: the last block stands first, so that most
+-- successors in the flow have higher numbers
+abbrev pub turned : ℕ → ℕ → ℕ
+turned blocks block = blocks - 1 - block
+
+-- A flow over the blocks of a procedure that leads from each block to those that it is a successor of.
+-- Some ids have names there; a block's places define the names of its values, and the last place of
+-- block 0, its entry, uses every name. Nothing else is used.
+pub record IsReversed (p : Procedure) (names : ℕ → Option ℕ) (g : Graph) : Type 0 where
+  pub blocks : g.blocks ≡ length p.blocks
+  pub leads : (at next : ℕ) → at < g.blocks → next < g.blocks → Leads g at next
+      ↔ IsSuccessor p (turned g.blocks next) (turned g.blocks at)
+  pub inside : (at next : ℕ) → at < g.blocks → Leads g at next → next < g.blocks
+  pub defines : (at id name : ℕ) → at < g.blocks → names id ≡ Some name
+      → ((place : ℕ) × Defines g name (record { block = at; place = place }))
+      ↔ HasDefinition (values_of p (turned g.blocks at)) id
+  pub uses : (at place name : ℕ) → at < g.blocks → name < g.names
+      → Uses g name (record { block = at; place = place })
+      ↔ ((turned g.blocks at ≡ 0) × (place + 1 ≡ g.places at))
+  pub entry : (at place name : ℕ) → at < g.blocks → turned g.blocks at ≡ 0 → place + 1 ≡ g.places at
+      → Defines g name (record { block = at; place = place }) → ⊥
+  pub some : (at : ℕ) → at < g.blocks → 1 ≤ g.places at
+  pub named : (id name : ℕ) → names id ≡ Some name → name < g.names
+
+-- each successor is a block
+abbrev pub LeadsInside : Procedure → Type 0
+LeadsInside p = (block next : ℕ) → IsSuccessor p block next → next < length p.blocks
+
+-- an id is covered at a place exactly where it is defined earlier in the block, or the block isn't block 0
+-- and the id's name isn't live out of it in the reversed flow
+abbrev pub IsDecidedBackwards : Procedure → (ℕ → Option ℕ) → Graph → Type 0
+IsDecidedBackwards p names g = (block id name : ℕ) (before : List Value) → block < g.blocks → names id ≡ Some name
+    → IsCovered p block before id
+    ↔ (HasDefinition before id ⊎ ((block ≢ 0) × (LiveOut g name (turned g.blocks block) → ⊥)))
