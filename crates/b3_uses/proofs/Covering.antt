@@ -9,8 +9,8 @@ use Rattle.flow_live.proofs.Paths.{live_exposed, live_through}
 use Rattle.b3_ir.specs.Procedure.{Block, Procedure, no_block, values_of}
 use Rattle.b3_ir.specs.declared.value.Value.{Value}
 use Rattle.b3_rules.specs.Paths.{IsSuccessor, IsPath, HasRun, IsCovered}
-use Rattle.b3_uses.specs.Reversed.{HasDefinition, IsReversed, turned, LeadsInside, IsDecidedBackwards}
-use Rattle.b3_uses.proofs.Lists.{contains_none, contains_head, contains_tail, contains_cases}
+use Rattle.b3_uses.specs.Reversed.{HasDefinition, IsReversed, turned}
+use Rattle.b3_uses.proofs.Contained.{contains_none, contains_head, contains_tail, contains_cases}
 
 -- ---- decided by search
 pub defined_or_not : (vs : List Value) (id : ℕ) → HasDefinition vs id ⊎ (HasDefinition vs id → ⊥)
@@ -49,7 +49,7 @@ block_in (block ∷ blocks) (suc b) v has = let lt : b < length blocks = block_i
 abbrev at_place : ℕ → ℕ → Place
 at_place block place = record { block = block; place = place }
 
-module _ (p : Procedure) (names : ℕ → Option ℕ) (g : Graph) (reversed : IsReversed p names g) (inside : LeadsInside p) (id name : ℕ) (is : names id ≡ Some name) where
+module _ (p : Procedure) (names : ℕ → Option ℕ) (g : Graph) (reversed : IsReversed p names g) (id name : ℕ) (is : names id ≡ Some name) where
   abbrev back : ℕ → ℕ
   back at = turned g.blocks at
 

@@ -1,2 +1,2 @@
 pub mod Covering
-pub mod Lists
+pub mod Contained

@@ -1,1 +1,5 @@
 pub mod Reversed
+pub mod Lists
+pub mod Names
+pub mod Open
+pub mod Leasts

@@ -1,10 +1,12 @@
 -- No public clause cites this module. The blocks of a procedure as a flow that goes backwards: what is
 -- live there is what some path from block 0 doesn't define.
-use Rattle.std.specs.Prelude.{◌≡◌, ◌≢◌, ℕ, ◌+◌, ◌-◌, ◌<◌, ◌≤◌, ◌⊎◌, ◌↔◌, List, length, Option, Some, Contains}
+use Rattle.std.specs.Prelude.{◌≡◌, ◌≢◌, ℕ, ◌+◌, ◌-◌, ◌<◌, ◌≤◌, ◌⊎◌, ◌↔◌, ◌==◌, if◌then◌else◌, List, length, slice_index_or, Option, Some, Contains}
 use Rattle.b3_ir.specs.Procedure.{Procedure, values_of}
 use Rattle.b3_ir.specs.declared.value.Value.{Value}
-use Rattle.b3_rules.specs.Paths.{IsCovered, IsSuccessor}
+use Rattle.b3_rules.specs.Paths.{IsCovered, IsSuccessor, successors_in}
+use Rattle.b3_uses.specs.Lists.{list_at}
 use Rattle.flow_live.specs.Graph.{Graph, Defines, IsSuccessor as Leads, LiveOut, Uses}
+use Rattle.flow_live.specs.declared.touch.Touch.TheVariants.{Def, Use}
 
 -- one of these values has the id
 abbrev pub HasDefinition : List Value → ℕ → Type 0
@@ -34,13 +36,44 @@ pub record IsReversed (p : Procedure) (names : ℕ → Option ℕ) (g : Graph) :
   pub some : (at : ℕ) → at < g.blocks → 1 ≤ g.places at
   pub named : (id name : ℕ) → names id ≡ Some name → name < g.names
 
--- each successor is a block
-abbrev pub LeadsInside : Procedure → Type 0
-LeadsInside p = (block next : ℕ) → IsSuccessor p block next → next < length p.blocks
-
 -- an id is covered at a place exactly where it is defined earlier in the block, or the block isn't block 0
 -- and the id's name isn't live out of it in the reversed flow
 abbrev pub IsDecidedBackwards : Procedure → (ℕ → Option ℕ) → Graph → Type 0
 IsDecidedBackwards p names g = (block id name : ℕ) (before : List Value) → block < g.blocks → names id ≡ Some name
     → IsCovered p block before id
     ↔ (HasDefinition before id ⊎ ((block ≢ 0) × (LiveOut g name (turned g.blocks block) → ⊥)))
+
+-- ---- such a flow
+
+-- the flow of some lists: for each block its successors in the flow, and the names that it defines. The last
+-- block, which is block 0 of the procedure, has a second place, which uses every name
+abbrev pub graph_of : ℕ → List (List ℕ) → List (List ℕ) → Graph
+graph_of names sources defined = record {
+  blocks = length sources;
+  names = names;
+  places = λ at. (if at + 1 == length sources then 2 else 1);
+  successors = λ at. length (list_at sources at);
+  successor = λ at k. slice_index_or (list_at sources at) k 0;
+  touches = λ at place. (if place == 0 then length (list_at defined at) else names);
+  touch = λ at place k. (if place == 0 then Def (slice_index_or (list_at defined at) k 0) else Use k);
+}
+
+-- a block leads to some successors: it is among the sources of each that is a block
+abbrev pub LeadsTo : ℕ → ℕ → List ℕ → ℕ → ℕ → Type 0
+LeadsTo blocks block successors at source =
+    (source ≡ turned blocks block)
+    × ((next : ℕ) × Contains successors next × (next < blocks) × (at ≡ turned blocks next))
+
+-- so it is to those of some of its values
+abbrev pub LeadsToAny : ℕ → ℕ → List Value → ℕ → ℕ → Type 0
+LeadsToAny blocks block values at source =
+    (v : Value) × Contains values v × LeadsTo blocks block (successors_in v.body) at source
+
+-- a block defines a name, where there is one
+abbrev pub DefinesOne : ℕ → ℕ → Option ℕ → ℕ → ℕ → Type 0
+DefinesOne blocks block named at name = (at ≡ turned blocks block) × (named ≡ Some name)
+
+-- it defines the names of the ids of some values
+abbrev pub DefinesAt : ℕ → ℕ → (ℕ → Option ℕ) → List Value → ℕ → ℕ → Type 0
+DefinesAt blocks block names values at name =
+    (v : Value) × Contains values v × DefinesOne blocks block (names v.id) at name
