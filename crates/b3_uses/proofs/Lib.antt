@@ -1,2 +1,5 @@
-pub mod Covering
 pub mod Contained
+pub mod Covering
+pub mod Adding
+pub mod Noting
+pub mod Walking

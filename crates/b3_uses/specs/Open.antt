@@ -1,5 +1,5 @@
 -- No public clause cites this module. Uses that no value earlier in their block defines, and names of ids.
-use Rattle.std.specs.Prelude.{◌≡◌, ℕ, ◌⊎◌, Bool, false, List, ◌∷◌, ◌++◌, Option, Some, Contains}
+use Rattle.std.specs.Prelude.{◌≡◌, ℕ, ◌<◌, ◌⊎◌, ◌==◌, ◌||◌, Bool, false, List, [], ◌∷◌, ◌++◌, Option, Some, Contains}
 use Rattle.std.specs.BTreeMap as tree
 use Rattle.std.specs.Ordering.{nat_cmp}
 use Rattle.b3_ir.specs.Procedure.{Procedure, values_of}
@@ -50,10 +50,15 @@ pub record IsAsked (values : List Value) (line id : ℕ) : Type 0 where
 abbrev pub IsOpenIn : ℕ → List Value → ℕ → ℕ → ℕ → Type 0
 IsOpenIn block values b l i = (b ≡ block) × IsAsked values l i
 
--- the uses are the open uses of a procedure
-pub record ListsOpenUses (p : Procedure) (found : OpenUses) : Type 0 where
-  pub all : (block line id : ℕ) → IsAsked (values_of p block) line id
+-- the uses are the open uses of the blocks below one
+pub record ListsBelow (p : Procedure) (end : ℕ) (found : OpenUses) : Type 0 where
+  pub all : (block line id : ℕ) → block < end → IsAsked (values_of p block) line id
       → (use_ : OpenUse) × Contains found.uses use_ × IsUse (names_in found) block line id use_
   pub only : (use_ : OpenUse) → Contains found.uses use_
-      → (id : ℕ) × IsAsked (values_of p use_.block) use_.line id
-      × IsUse (names_in found) use_.block use_.line id use_
+      → (use_.block < end) × ((id : ℕ) × IsAsked (values_of p use_.block) use_.line id
+      × IsUse (names_in found) use_.block use_.line id use_)
+
+-- one of some values has the id
+abbrev pub has_id : List Value → ℕ → Bool
+has_id [] id = false
+has_id (v ∷ vs) id = (v.id == id) || has_id vs id

@@ -4,7 +4,7 @@ use Rattle.std.specs.Prelude.{◌≡◌, ◌≢◌, ℕ, ◌+◌, ◌-◌, ◌<�
 use Rattle.b3_ir.specs.Procedure.{Procedure, values_of}
 use Rattle.b3_ir.specs.declared.value.Value.{Value}
 use Rattle.b3_rules.specs.Paths.{IsCovered, IsSuccessor, successors_in}
-use Rattle.b3_uses.specs.Lists.{list_at}
+use Rattle.b3_uses.specs.Lists.{SomeBelow, SomeOf, list_at}
 use Rattle.flow_live.specs.Graph.{Graph, Defines, IsSuccessor as Leads, LiveOut, Uses}
 use Rattle.flow_live.specs.declared.touch.Touch.TheVariants.{Def, Use}
 
@@ -51,29 +51,39 @@ abbrev pub graph_of : ℕ → List (List ℕ) → List (List ℕ) → Graph
 graph_of names sources defined = record {
   blocks = length sources;
   names = names;
-  places = λ at. (if at + 1 == length sources then 2 else 1);
+  places = λ at. (if at == length sources - 1 then 2 else 1);
   successors = λ at. length (list_at sources at);
   successor = λ at k. slice_index_or (list_at sources at) k 0;
   touches = λ at place. (if place == 0 then length (list_at defined at) else names);
   touch = λ at place k. (if place == 0 then Def (slice_index_or (list_at defined at) k 0) else Use k);
 }
 
--- a block leads to some successors: it is among the sources of each that is a block
-abbrev pub LeadsTo : ℕ → ℕ → List ℕ → ℕ → ℕ → Type 0
-LeadsTo blocks block successors at source =
-    (source ≡ turned blocks block)
-    × ((next : ℕ) × Contains successors next × (next < blocks) × (at ≡ turned blocks next))
+-- a block leads to another: it is among the other's sources
+abbrev pub LeadsToOne : ℕ → ℕ → ℕ → ℕ → ℕ → Type 0
+LeadsToOne blocks block next at source =
+    (next < blocks) × (at ≡ turned blocks next) × (source ≡ turned blocks block)
 
--- so it is to those of some of its values
+-- it leads to some successors, where they are blocks, and to those of some values
+abbrev pub LeadsTo : ℕ → ℕ → List ℕ → ℕ → ℕ → Type 0
+LeadsTo blocks block successors at source = SomeOf (LeadsToOne blocks block) successors at source
+
 abbrev pub LeadsToAny : ℕ → ℕ → List Value → ℕ → ℕ → Type 0
 LeadsToAny blocks block values at source =
-    (v : Value) × Contains values v × LeadsTo blocks block (successors_in v.body) at source
+    SomeOf (λ (v : Value). LeadsTo blocks block (successors_in v.body)) values at source
 
--- a block defines a name, where there is one
+-- a block defines a name, where there is one, and the names of the ids of some values
 abbrev pub DefinesOne : ℕ → ℕ → Option ℕ → ℕ → ℕ → Type 0
 DefinesOne blocks block named at name = (at ≡ turned blocks block) × (named ≡ Some name)
 
--- it defines the names of the ids of some values
 abbrev pub DefinesAt : ℕ → ℕ → (ℕ → Option ℕ) → List Value → ℕ → ℕ → Type 0
 DefinesAt blocks block names values at name =
-    (v : Value) × Contains values v × DefinesOne blocks block (names v.id) at name
+    SomeOf (λ (v : Value). DefinesOne blocks block (names v.id)) values at name
+
+-- what the blocks below one lead to and define
+abbrev pub LedBelow : Procedure → ℕ → ℕ → ℕ → Type 0
+LedBelow p end at source =
+    SomeBelow (λ block. LeadsToAny (length p.blocks) block (values_of p block)) end at source
+
+abbrev pub DefinedBelow : Procedure → (ℕ → Option ℕ) → ℕ → ℕ → ℕ → Type 0
+DefinedBelow p names end at name =
+    SomeBelow (λ block. DefinesAt (length p.blocks) block names (values_of p block)) end at name

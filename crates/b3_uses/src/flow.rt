@@ -7,7 +7,7 @@ ghost use Rattle.std.specs.Ordering.{nat_cmp};
 ghost use Rattle.b3_ir.specs.Procedure.{values_of};
 ghost use Rattle.b3_rules.specs.Paths.{successors_in};
 ghost use Rattle.b3_uses.specs.Lists.{AddsTo};
-ghost use Rattle.b3_uses.specs.Reversed.{DefinesAt, DefinesOne, IsReversed, LeadsTo, LeadsToAny, graph_of};
+ghost use Rattle.b3_uses.specs.Reversed.{DefinesAt, DefinesOne, IsReversed, LeadsTo, LeadsToAny, LeadsToOne, graph_of};
 ghost use Rattle.flow_live.specs.Graph.{IsInRange};
 
 use crate::lists::Lists;
@@ -38,7 +38,7 @@ impl Flow for Reversed {
     }
 
     fn places(&self, block: usize) -> usize {
-        if block + 1 == self.sources.len() { 2 } else { 1 }
+        if block == self.sources.len() - 1 { 2 } else { 1 }
     }
 
     fn successors(&self, block: usize) -> usize {
@@ -115,29 +115,52 @@ impl Reversed {
         ensures defined { OnOk result (AddsTo self.old.defined self.new.defined
             (DefinesOne (length self.old.sources) block (tree.get nat_cmp names.now.numbers value.now.id))) }
     {
-        let blocks = self.sources.len();
-        if let Some(name) = names.get(value.id) {
-            self.defined.add(blocks - 1 - block, name)?;
-        }
-        self.add_sources(block, successors(&value.body))
+        self.add_name(block, names.get(value.id))?;
+        self.add_successors(block, successors(&value.body))
     }
 
-    /// Makes a block a source of others.
-    fn add_sources(&mut self, block: usize, successors: &[u32]) -> Result<(), NoMemory>
+    /// Adds a name that a block defines, if there is one.
+    fn add_name(&mut self, block: usize, name: Option<usize>) -> Result<(), NoMemory>
+        requires { block < length self.old.sources }
+        ensures names { OnOk result (self.new.names ≡ self.old.names) }
+        ensures sources { OnOk result (self.new.sources ≡ self.old.sources) }
+        ensures defined { OnOk result (AddsTo self.old.defined self.new.defined
+            (DefinesOne (length self.old.sources) block name)) }
+    {
+        let last = self.sources.len() - 1;
+        match name {
+            Some(name) => self.defined.add(last - block, name),
+            None => Ok(()),
+        }
+    }
+
+    /// Makes a block a source of some others.
+    fn add_successors(&mut self, block: usize, successors: &[u32]) -> Result<(), NoMemory>
         requires { block < length self.old.sources }
         ensures names { OnOk result (self.new.names ≡ self.old.names) }
         ensures sources { OnOk result (AddsTo self.old.sources self.new.sources
             (LeadsTo (length self.old.sources) block successors.now)) }
         ensures defined { OnOk result (self.new.defined ≡ self.old.defined) }
     {
-        let blocks = self.sources.len();
-        for successor in successors {
-            let next = *successor as usize;
-            if next < blocks {
-                self.sources.add(blocks - 1 - next, blocks - 1 - block)?;
-            }
+        for next in successors {
+            self.add_successor(block, *next as usize)?;
         }
         Ok(())
+    }
+
+    /// Makes a block a source of another, where that is a block.
+    fn add_successor(&mut self, block: usize, next: usize) -> Result<(), NoMemory>
+        requires { block < length self.old.sources }
+        ensures names { OnOk result (self.new.names ≡ self.old.names) }
+        ensures sources { OnOk result (AddsTo self.old.sources self.new.sources
+            (LeadsToOne (length self.old.sources) block next)) }
+        ensures defined { OnOk result (self.new.defined ≡ self.old.defined) }
+    {
+        let last = self.sources.len() - 1;
+        if next > last {
+            return Ok(());
+        }
+        self.sources.add(last - next, last - block)
     }
 }
 

@@ -1,10 +1,10 @@
 //! The uses that stand before or outside the block of their definition, and names for what they use.
 
-ghost use Rattle.std.specs.Prelude.{◌≡◌, ◌<◌, length, IfOk, OnOk};
+ghost use Rattle.std.specs.Prelude.{◌≡◌, ℕ, ◌<◌, ◌==◌, ◌||◌, length, IfOk, OnOk};
 ghost use Rattle.std.specs.BTreeSet as keys;
 ghost use Rattle.std.specs.Ordering.{nat_cmp};
 ghost use Rattle.b3_ir.specs.Procedure.{values_of};
-ghost use Rattle.b3_uses.specs.Open.{Adds, IsAskedHere, IsOneUse, IsOpenIn, ListsOpenUses};
+ghost use Rattle.b3_uses.specs.Open.{Adds, IsAskedHere, IsOneUse, IsOpenIn, ListsBelow};
 
 use crate::names::Names;
 use b3_base::{NoMemory, Seq};
@@ -30,7 +30,7 @@ pub(crate) struct OpenUses {
 
 /// The open uses of a procedure. It is refused for want of memory alone.
 pub(crate) fn open_uses(alloc: Global, p: &Proc) -> Result<OpenUses, NoMemory>
-    ensures { IfOk result (ListsOpenUses p.now.procedure) }
+    ensures { IfOk result (ListsBelow p.now.procedure (length p.now.procedure.blocks)) }
 {
     let mut found = OpenUses {
         names: Names::new(alloc),
@@ -60,7 +60,7 @@ impl OpenUses {
         while let Some(node) = at {
             let value = p.value(node);
             self.add_value(&earlier, block, value)?;
-            earlier.insert(value.id)?;
+            add_key(&mut earlier, value.id)?;
             at = p.next(node);
         }
         Ok(())
@@ -91,4 +91,12 @@ impl OpenUses {
         let name = self.names.make(id)?;
         self.uses.push(OpenUse { block, name, line })
     }
+}
+
+/// Adds a key to a set. It is refused for want of memory alone.
+fn add_key(set: &mut BTreeSet<u32>, key: u32) -> Result<(), NoMemory>
+    ensures { OnOk result ((q : ℕ) → keys.contains nat_cmp set.new q ≡ (keys.contains nat_cmp set.old q || (key == q))) }
+{
+    set.insert(key)?;
+    Ok(())
 }

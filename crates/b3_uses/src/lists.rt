@@ -51,7 +51,8 @@ impl Lists {
     /// Adds a number to the list at a place. It is refused for want of memory alone.
     pub(crate) fn add(&mut self, at: usize, number: usize) -> Result<(), NoMemory>
         requires { at < length self.old }
-        ensures { OnOk result (AddsTo self.old self.new (IsPut at number)) }
+        ensures added { OnOk result (AddsTo self.old self.new (IsPut at number)) }
+        ensures len { length self.new ≡ length self.old }
     {
         self.lists[at].push(number)
     }
