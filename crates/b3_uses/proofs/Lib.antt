@@ -3,3 +3,5 @@ pub mod Covering
 pub mod Adding
 pub mod Noting
 pub mod Walking
+pub mod Turning
+pub mod Deciding
