@@ -81,6 +81,13 @@ module _ (p : Procedure) (found : OpenUses) (g : Graph) (lists : ListsBelow p (l
   inside : (b : ℕ) → b < length p.blocks → b < g.blocks
   inside b lt = omega (arith, reversed.blocks)
 
+  -- each open use has a block and a name of the flow
+  pub block_within : (u : OpenUse) → Contains found.uses u → u.block < g.blocks
+  block_within u has = inside u.block (lists.only u has).0
+
+  pub name_within : (u : OpenUse) → Contains found.uses u → u.name < g.names
+  name_within u has = let only = lists.only u has in reversed.named only.1.0 u.name only.1.2.name_is
+
   abbrev Open : ℕ → List Value → Value → ℕ → Type 0
   Open b before v id = (u : OpenUse) × Contains found.uses u × IsUse (names_in found) b v.line id u
 

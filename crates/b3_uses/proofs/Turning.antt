@@ -128,14 +128,20 @@ module _ (p : Procedure) (names : ℕ → Option ℕ) (count : ℕ) (sources def
         numbered.apart h.2.0.id id name h.2.2.1 is,
       )
 
-  is_defines : (at id name : ℕ) → at < length sources → names id ≡ Some name → HasDefinition (values_of p (turned (length sources) at)) id → Defined at name
-  is_defines at id name lt is d =
-      let there = contains_at (list_at defined at) name (at_named at name (
+  named_there : (at id name : ℕ) → at < length sources → names id ≡ Some name → HasDefinition (values_of p (turned (length sources) at)) id → IsAt (list_at defined at) name
+  named_there at id name lt is d =
+      let same : names d.0.id ≡ Some name = subst (λ (i : ℕ). names i ≡ Some name) (sym d.2) is in
+      contains_at (list_at defined at) name (at_named at name (
         turned (length sources) at,
         omega (arith, many),
-        (d.0, d.1, (omega (arith, many), ap names d.2 ∙ is)),
-      )) in
-      (0, (some_places (at == length sources - 1), (there.0, there.1, ap Def there.2)))
+        (d.0, d.1, (omega (arith, many), same)),
+      ))
+
+  first_place : (at name : ℕ) → IsAt (list_at defined at) name → Defined at name
+  first_place at name there = (0, (some_places (at == length sources - 1), (there.0, there.1, ap Def there.2)))
+
+  is_defines : (at id name : ℕ) → at < length sources → names id ≡ Some name → HasDefinition (values_of p (turned (length sources) at)) id → Defined at name
+  is_defines at id name lt is d = first_place at name (named_there at id name lt is d)
 
   last_place : (at place : ℕ) → turned (length sources) at ≡ 0 → at < length sources → place + 1 ≡ g.places at → place ≡ 1
   last_place at place root lt last =

@@ -1,6 +1,6 @@
 //! Procedures whose uses are covered, and procedures with uses that aren't.
 
-ghost use Rattle.std.specs.Prelude.{◌≡◌, ◌≤◌, ◌<◌, length, IfOk};
+ghost use Rattle.std.specs.Prelude.{◌≡◌, ◌+◌, ◌≤◌, false, length, IfOk};
 ghost use Rattle.b3_ir.specs.Fits.{Fits};
 ghost use Rattle.b3_ir.specs.Procedure.{total};
 
@@ -250,26 +250,26 @@ fn covers_uses_in_many_blocks(rt: HostRuntime) -> Result<(), Fail> {
     Ok(())
 }
 
-/// So many blocks that each jump to the next, with three values each that the block after uses, and use
-/// the first of block 0.
+/// So many blocks that each jump to the next, with a value that uses the one of the block before and the
+/// first of all.
 fn chain(alloc: Global, p: &mut Proc, count: u32) -> Result<(), Fail>
     requires no_blocks { length p.old.procedure.blocks ≡ 0 }
     requires no_values { total p.old.procedure ≡ 0 }
     requires few { count ≤ 4096 }
 {
     for block in 0..count {
-        let id = 4 * block;
         p.add_block_at(block, 1)?;
-        for i in 0..3u32 {
-            let used = if block == 0 {
-                children(alloc, &[])?
-            } else {
-                children(alloc, &[id + i - 4, 0])?
-            };
-            p.push(block, plain(Opcode::Add, Ty::Int64, id + i, used, Body::Plain))?;
-        }
+        let id = 2 * block;
+        let used = if block == 0 {
+            children(alloc, &[])?
+        } else {
+            children(alloc, &[id - 2, 0])?
+        };
         let body = Body::Targets(ids(alloc, &[block + 1])?);
-        p.push(block, plain(Opcode::Jump, Ty::Void, id + 3, children(alloc, &[])?, body))?;
+        let sum = plain(Opcode::Add, Ty::Int64, id, used, Body::Plain);
+        let jump = plain(Opcode::Jump, Ty::Void, id + 1, children(alloc, &[])?, body);
+        p.push(block, sum)?;
+        p.push(block, jump)?;
     }
     Ok(())
 }

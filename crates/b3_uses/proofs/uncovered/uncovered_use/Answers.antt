@@ -3,20 +3,24 @@ use Rattle.std.specs.Prelude.{Contains}
 use Rattle.b3_uses.specs.Leasts.{IsLeastMissed}
 use Rattle.b3_uses.specs.Reversed.{graph_of}
 use Rattle.b3_uses.specs.declared.gather.OpenUse.{OpenUse}
-use Rattle.b3_uses.proofs.Deciding.{all_covered, first_uncovered}
+use Rattle.b3_uses.proofs.Deciding.{all_covered, block_within, first_uncovered, name_within}
 use Rattle.b3_uses.proofs.uncovered.uncovered_use.Goals as goal
 
 pub least_missed-requires-clause-block : goal.least_missed-requires-clause-block
 least_missed-requires-clause-block c u has =
-    let only = c.in_ok-found.ensures.only u (subst (λ (l : List OpenUse). Contains l u) c.uses.ensures has) in
-    let lt : u.block < length c.args.p.now.procedure.blocks = only.0 in
-    omega (arith, lt, c.in_ok-flow.ensures.reversed.blocks, c.blocks-3.ensures)
+    let flow = c.in_ok-flow.flow in
+    let found = c.in_ok-found.found in
+    let there : Contains found.uses u = subst (λ (l : List OpenUse). Contains l u) c.uses.ensures has in
+    let within = block_within c.args.p.now.procedure found (graph_of flow.names flow.sources flow.defined) c.in_ok-found.ensures c.in_ok-flow.ensures.reversed u there in
+    omega (arith, within, c.blocks-3.ensures)
 
 pub least_missed-requires-clause-name : goal.least_missed-requires-clause-name
 least_missed-requires-clause-name c u has =
-    let only = c.in_ok-found.ensures.only u (subst (λ (l : List OpenUse). Contains l u) c.uses.ensures has) in
-    let lt : u.name < c.in_ok-flow.flow.names = c.in_ok-flow.ensures.reversed.named only.1.0 u.name only.1.2.name_is in
-    omega (arith, lt, c.in_ok-sets.ensures.names)
+    let flow = c.in_ok-flow.flow in
+    let found = c.in_ok-found.found in
+    let there : Contains found.uses u = subst (λ (l : List OpenUse). Contains l u) c.uses.ensures has in
+    let within = name_within c.args.p.now.procedure found (graph_of flow.names flow.sources flow.defined) c.in_ok-found.ensures c.in_ok-flow.ensures.reversed u there in
+    omega (arith, within, c.in_ok-sets.ensures.names)
 
 pub returns-clause-covered : goal.returns-clause-covered
 returns-clause-covered c none =
