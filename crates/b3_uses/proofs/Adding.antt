@@ -1,5 +1,5 @@
 -- Lists to which more is added, step by step.
-use Rattle.std.proofs.Common.{◌≡◌, ◌≢◌, ℕ, ◌+◌, ◌-◌, ◌<◌, ◌≤◌, ◌⊎◌, ◌↔◌, inl, inr, List, [], ◌∷◌, ◌++◌, Option, Some, None, get_or, length, refl, sym, ap, ◌∙◌, subst, arith, ⊎_elim}
+use Rattle.std.proofs.Common.{◌≡◌, ◌≢◌, ℕ, ◌+◌, ◌-◌, ◌<◌, ◌⊎◌, ◌↔◌, inl, inr, List, [], ◌∷◌, ◌++◌, Option, Some, None, get_or, length, refl, sym, ap, ◌∙◌, subst, arith, ⊎_elim}
 use Rattle.std.proofs.lemmas.Bool.{cases_eq, cases_lt}
 use Rattle.std.proofs.lemmas.List.{length-set, get_or-set_same, get_or-set_other, get_or_read}
 use Rattle.std.proofs.lemmas.List.Elements.{Contains-push, Contains-push_cases, Contains-append_left}
@@ -56,8 +56,8 @@ adds_below of_ k old mid new first second =
     adds_same old new (λ at n. SomeBelow of_ k at n ⊎ of_ k at n) (SomeBelow of_ (k + 1))
     (λ at n h. ⊎_elim (λ some. (some.0, omega (arith, some.1), some.2)) (λ here. (k, omega arith, here)) h)
     (λ at n some.
-        let lt : some.0 < k + 1 = some.1 in
-        ⊎_elim (λ (e : some.0 ≡ k). inr (subst (λ j. of_ j at n) e some.2)) (λ (other : some.0 ≢ k). inl (some.0, omega arith, some.2)) (cases_eq some.0 k))
+    let lt : some.0 < k + 1 = some.1 in
+    ⊎_elim (λ (e : some.0 ≡ k). inr (subst (λ j. of_ j at n) e some.2)) (λ (other : some.0 ≢ k). inl (some.0, omega arith, some.2)) (cases_eq some.0 k))
     (adds_both old mid new (SomeBelow of_ k) (of_ k) first second)
 
 pub adds_below_none : (of_ : ℕ → ℕ → ℕ → Type 0) (lists : List (List ℕ)) → AddsTo lists lists (SomeBelow of_ 0)
@@ -73,8 +73,8 @@ puts lists at number lt = record {
     here : (a n : ℕ) → a ≡ at → Contains (list_at (slice_set lists at (list_at lists at ++ number ∷ [])) a) n ↔ (Contains (list_at lists a) n ⊎ IsPut at number a n)
     here a n e =
         let is : list_at (slice_set lists at (list_at lists at ++ number ∷ [])) a ≡ list_at lists a ++ number ∷ [] =
-            ap (λ b. list_at (slice_set lists at (list_at lists at ++ number ∷ [])) b) e ∙ get_or-set_same lists at (list_at lists at ++ number ∷ []) [] lt
-            ∙ ap (λ b. list_at lists b ++ number ∷ []) (sym e) in (
+        ap (λ b. list_at (slice_set lists at (list_at lists at ++ number ∷ [])) b) e ∙ get_or-set_same lists at (list_at lists at ++ number ∷ []) [] lt
+        ∙ ap (λ b. list_at lists b ++ number ∷ []) (sym e) in (
           (λ has. ⊎_elim (λ h. inl h) (λ (f : number ≡ n). inr (e, sym f)) (Contains-push_cases (list_at lists a) number n (subst (λ l. Contains l n) is has))),
           (λ has. subst (λ l. Contains l n) (sym is) (⊎_elim (λ h. Contains-append_left (list_at lists a) (number ∷ []) n h)
               (λ put. subst (λ m. Contains (list_at lists a ++ number ∷ []) m) (sym put.1) (Contains-push (list_at lists a) number)) has)),
@@ -83,7 +83,7 @@ puts lists at number lt = record {
     there : (a n : ℕ) → a ≢ at → Contains (list_at (slice_set lists at (list_at lists at ++ number ∷ [])) a) n ↔ (Contains (list_at lists a) n ⊎ IsPut at number a n)
     there a n other =
         let is : list_at (slice_set lists at (list_at lists at ++ number ∷ [])) a ≡ list_at lists a =
-            get_or-set_other lists at a (list_at lists at ++ number ∷ []) [] other in (
+        get_or-set_other lists at a (list_at lists at ++ number ∷ []) [] other in (
           (λ has. inl (subst (λ l. Contains l n) is has)),
           (λ has. subst (λ l. Contains l n) (sym is) (⊎_elim (λ h. h) (λ put. absurd (other put.0)) has)),
         )

@@ -1,9 +1,9 @@
 -- An id is covered at a place exactly where it is defined earlier in the block, or is not live out
 -- of the block in the reversed flow.
-use Rattle.std.proofs.Common.{◌≡◌, ◌≢◌, ℕ, zero, suc, ◌+◌, ◌-◌, ◌<◌, ◌≤◌, ◌⊎◌, ◌↔◌, inl, inr, List, [], ◌∷◌, Some, Option, length, refl, sym, ap, ◌∙◌, subst, arith, ⊎_elim}
+use Rattle.std.proofs.Common.{◌≡◌, ◌≢◌, ℕ, zero, suc, ◌+◌, ◌-◌, ◌<◌, ◌≤◌, ◌⊎◌, ◌↔◌, inl, inr, List, [], ◌∷◌, Some, Option, length, sym, ap, ◌∙◌, subst, arith, ⊎_elim}
 use Rattle.std.proofs.lemmas.Bool.{cases_eq}
 use Rattle.std.specs.Prelude.{Contains, slice_index_or}
-use Rattle.flow_live.specs.Graph.{Graph, Place, Uses, Defines, length_of, IsPath as IsFlowPath, EndsInUse, IsSuccessor as Leads, LiveIn, LiveOut}
+use Rattle.flow_live.specs.Graph.{Graph, Place, Uses, Defines, length_of, IsPath as IsFlowPath, EndsInUse, LiveIn, LiveOut}
 use Rattle.flow_live.specs.Solving.{IsDefinedBelow}
 use Rattle.flow_live.proofs.Paths.{live_exposed, live_through}
 use Rattle.b3_ir.specs.Procedure.{Block, Procedure, no_block, values_of}

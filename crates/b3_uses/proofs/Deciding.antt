@@ -1,5 +1,5 @@
 -- Covered uses and the least line of one that isn't, by the open uses that are missed.
-use Rattle.std.proofs.Common.{◌≡◌, ◌≢◌, ℕ, zero, suc, ◌+◌, ◌<◌, ◌≤◌, ◌⊎◌, ◌↔◌, inl, inr, List, [], ◌∷◌, ◌++◌, Option, Some, None, length, take, slice_get, refl, sym, ap, ◌∙◌, subst, arith, ⊎_elim}
+use Rattle.std.proofs.Common.{◌≡◌, ℕ, zero, suc, ◌<◌, ◌≤◌, ◌⊎◌, inl, inr, List, [], ◌∷◌, ◌++◌, Option, Some, None, length, take, slice_get, refl, sym, ap, ◌∙◌, subst, arith, ⊎_elim}
 use Rattle.std.proofs.lemmas.Bool.{cases_lt}
 use Rattle.std.proofs.lemmas.List.Elements.{All-contains, Contains-get_or, Contains-push, Contains-push_cases, Contains-append_left}
 use Rattle.std.specs.Prelude.{Contains, IfSome, min, slice_index_or}
@@ -11,7 +11,7 @@ use Rattle.b3_rules.specs.Paths.{IsCovered, IsCoveredAt}
 use Rattle.b3_rules.specs.Rules.{CoversUses}
 use Rattle.b3_uses.specs.Leasts.{IsLeastMissed, IsMissed, lower_of}
 use Rattle.b3_uses.specs.Open.{IsAsked, IsUse, ListsBelow, names_in}
-use Rattle.b3_uses.specs.Reversed.{HasDefinition, IsReversed, turned}
+use Rattle.b3_uses.specs.Reversed.{IsReversed, turned}
 use Rattle.b3_uses.specs.declared.gather.OpenUse.{OpenUse}
 use Rattle.b3_uses.specs.declared.gather.OpenUses.{OpenUses}
 use Rattle.b3_uses.proofs.Contained.{contains_middle, contains_none}
@@ -30,9 +30,9 @@ least_missed g uses u None so_far missed = (
 )
 least_missed g uses u (Some line) so_far missed = (
   ⊎_elim
-  (λ (lt : u.line < line). let e : u.line ≡ min line u.line = omega arith in (u, Contains-push uses u, missed, e))
-  (λ (le : line ≤ u.line). let e : line ≡ min line u.line = omega arith in let w = so_far.0 in (w.0, Contains-append_left uses (u ∷ []) w.0 w.1, w.2, w.3 ∙ e))
-  (cases_lt u.line line),
+      (λ (lt : u.line < line). let e : u.line ≡ min line u.line = omega arith in (u, Contains-push uses u, missed, e))
+      (λ (le : line ≤ u.line). let e : line ≡ min line u.line = omega arith in let w = so_far.0 in (w.0, Contains-append_left uses (u ∷ []) w.0 w.1, w.2, w.3 ∙ e))
+      (cases_lt u.line line),
   λ w has w_missed.
       ⊎_elim
       (λ h. let le : line ≤ w.line = so_far.1 w h w_missed in omega arith)

@@ -1,5 +1,5 @@
 -- Open uses that are noted step by step.
-use Rattle.std.proofs.Common.{◌≡◌, ◌≢◌, ℕ, ◌+◌, ◌<◌, ◌≤◌, ◌⊎◌, ◌↔◌, inl, inr, Bool, true, false, List, [], ◌∷◌, ◌++◌, Some, length, refl, sym, ap, ◌∙◌, subst, arith, ⊎_elim, take}
+use Rattle.std.proofs.Common.{◌≡◌, ◌≢◌, ℕ, ◌+◌, ◌<◌, ◌⊎◌, inl, inr, Bool, true, false, List, [], ◌∷◌, ◌++◌, Some, length, refl, sym, ap, ◌∙◌, subst, arith, ⊎_elim, take}
 use Rattle.std.proofs.lemmas.Bool.{cases_eq, eq-eqb, ne_eqb}
 use Rattle.std.proofs.lemmas.List.Elements.{Contains-push, Contains-push_cases, Contains-append_left}
 use Rattle.std.proofs.lemmas.List.{take_more}
@@ -165,15 +165,18 @@ value_noted old mid new block earlier vs v seen first second =
     notes_both old mid new (IsOpenIn block vs) (IsAskedHere block v.line earlier v.children) (IsOpenIn block (vs ++ v ∷ [])) first second
     (λ b l i h. cut b l i h.0 h.1)
     (λ b l i h. (h.0, asked_before vs v l i h.1))
-    (λ b l i h. (h.0, record {
-      before = vs;
-      value = v;
-      rest = [];
-      split = refl;
-      line_is = sym h.1;
-      child = h.2;
-      undefined = unseen_undefined vs i (earlier i) (seen i) h.3;
-    }))
+    (λ b l i h. (
+      h.0,
+      record {
+        before = vs;
+        value = v;
+        rest = [];
+        split = refl;
+        line_is = sym h.1;
+        child = h.2;
+        undefined = unseen_undefined vs i (earlier i) (seen i) h.3;
+      },
+    ))
   where
     cut : (b l i : ℕ) → b ≡ block → IsAsked (vs ++ v ∷ []) l i → IsOpenIn block vs b l i ⊎ IsAskedHere block v.line earlier v.children b l i
     cut b l i here a =
@@ -183,15 +186,18 @@ value_noted old mid new block earlier vs v seen first second =
               let line : l ≡ v.line = sym a.line_is ∙ ap (λ (w : Value). w.line) (sym same.1) in
               let none : HasDefinition vs i → ⊥ = subst (λ ws. HasDefinition ws i → ⊥) (sym same.0) a.undefined in
               inr (here, line, child, undefined_unseen vs i (earlier i) (seen i) none)
-          | inr more ↦ inl (here, record {
-            before = a.before;
-            value = a.value;
-            rest = more.0;
-            split = more.1;
-            line_is = a.line_is;
-            child = a.child;
-            undefined = a.undefined;
-          })
+          | inr more ↦ inl (
+            here,
+            record {
+              before = a.before;
+              value = a.value;
+              rest = more.0;
+              split = more.1;
+              line_is = a.line_is;
+              child = a.child;
+              undefined = a.undefined;
+            },
+          )
         ]
 
 -- ---- the blocks
@@ -218,7 +224,7 @@ lists_more p k old new first second = record {
             let is : IsUse (names_in new) h.0 h.1 h.2 u = h.4 in
             let block : u.block ≡ k = is.block_is ∙ (h.3).0 in
             let asked : IsAsked (values_of p u.block) u.line h.2 =
-                subst (λ b. IsAsked (values_of p b) u.line h.2) (sym block) (subst (λ l. IsAsked (values_of p k) l h.2) (sym is.line_is) (h.3).1) in
+            subst (λ b. IsAsked (values_of p b) u.line h.2) (sym block) (subst (λ l. IsAsked (values_of p k) l h.2) (sym is.line_is) (h.3).1) in
             (omega (arith, block), (h.2, asked, record { block_is = refl; line_is = refl; name_is = is.name_is }))
       ];
 }

@@ -1,14 +1,12 @@
 -- The flow of the tables of a procedure is its reversed flow.
-use Rattle.std.proofs.Common.{◌≡◌, ◌≢◌, ℕ, zero, suc, ◌+◌, ◌-◌, ◌<◌, ◌≤◌, ◌⊎◌, ◌↔◌, inl, inr, Bool, true, false, List, [], ◌∷◌, ◌++◌, Option, Some, None, length, replicate, refl, sym, ap, ◌∙◌, subst, arith, ⊎_elim}
+use Rattle.std.proofs.Common.{◌≡◌, ◌≢◌, ℕ, zero, suc, ◌+◌, ◌-◌, ◌<◌, ◌≤◌, ◌⊎◌, inl, inr, Bool, true, false, List, [], Option, Some, length, replicate, refl, sym, ap, ◌∙◌, subst, arith, ⊎_elim}
 use Rattle.std.proofs.lemmas.Bool.{cases_eq, eq-eqb, ne_eqb}
 use Rattle.std.proofs.lemmas.List.{get_or_default, length-replicate}
 use Rattle.std.proofs.lemmas.List.Elements.{Contains-get_or}
 use Rattle.std.specs.Prelude.{Contains, ◌==◌, slice_index_or, if◌then◌else◌}
 use Rattle.flow_live.specs.Graph.{Graph, Uses, Defines, IsInRange, IsSuccessor as Leads, name_of}
-use Rattle.flow_live.specs.declared.touch.Touch.{Touch}
 use Rattle.flow_live.specs.declared.touch.Touch.TheVariants.{Use, LateUse, Def}
 use Rattle.b3_ir.specs.Procedure.{Procedure, values_of}
-use Rattle.b3_ir.specs.declared.value.Value.{Value}
 use Rattle.b3_rules.specs.Paths.{IsSuccessor, successors_in}
 use Rattle.b3_uses.specs.Lists.{AddsTo, list_at}
 use Rattle.b3_uses.specs.Names.{IsNumbered}
@@ -192,6 +190,6 @@ module _ (p : Procedure) (names : ℕ → Option ℕ) (count : ℕ) (sources def
     name = λ block place k lt place_lt k_lt.
         touched_below (place == 0) (slice_index_or (list_at defined block) k 0) k (length (list_at defined block)) count k_lt
         (λ inside.
-            let h = named_at block (slice_index_or (list_at defined block) k 0) (Contains-get_or (list_at defined block) k 0 inside) in
-            numbered.below h.2.0.id (slice_index_or (list_at defined block) k 0) h.2.2.1);
+        let h = named_at block (slice_index_or (list_at defined block) k 0) (Contains-get_or (list_at defined block) k 0 inside) in
+        numbered.below h.2.0.id (slice_index_or (list_at defined block) k 0) h.2.2.1);
   }

@@ -38,7 +38,11 @@ impl Flow for Reversed {
     }
 
     fn places(&self, block: usize) -> usize {
-        if block == self.sources.len() - 1 { 2 } else { 1 }
+        if block == self.sources.len() - 1 {
+            2
+        } else {
+            1
+        }
     }
 
     fn successors(&self, block: usize) -> usize {

@@ -60,7 +60,12 @@ fn value(alloc: Global, row: Line, id: u32, line: u32) -> Result<Value, Fail>
 {
     let (opcode, ty, used, body) = match row {
         Line::Block => return Err("no value".into()),
-        Line::Constant => (Opcode::Const64, Ty::Int64, children(alloc, &[])?, Body::Constant(7)),
+        Line::Constant => (
+            Opcode::Const64,
+            Ty::Int64,
+            children(alloc, &[])?,
+            Body::Constant(7),
+        ),
         Line::Use(i) => (
             Opcode::Add,
             Ty::Int64,

@@ -1,6 +1,5 @@
 use Rattle.std.proofs.Common.{◌≡◌, ℕ, [], length, replicate, sym, subst, ◌∙◌, arith}
 use Rattle.std.specs.BTreeMap as tree
-use Rattle.std.specs.BTreeMap.{btree_map_len}
 use Rattle.std.specs.Ordering.{nat_cmp}
 use Rattle.b3_ir.specs.Procedure.{values_of}
 use Rattle.b3_uses.specs.Lists.{AddsTo}

@@ -1,8 +1,7 @@
-use Rattle.std.proofs.Common.{◌≡◌, ℕ, [], length, replicate}
+use Rattle.std.proofs.Common.{◌≡◌, [], length, replicate}
 use Rattle.std.specs.BTreeMap as tree
 use Rattle.std.specs.BTreeMap.{btree_map_len}
 use Rattle.std.specs.Ordering.{nat_cmp}
-use Rattle.b3_ir.specs.Procedure.{values_of}
 use Rattle.b3_uses.specs.Lists.{AddsTo}
 use Rattle.b3_uses.specs.Reversed.{DefinedBelow, LedBelow}
 use Rattle.b3_uses.proofs.flow.reverse.Given as goal

@@ -1,11 +1,9 @@
-use Rattle.std.proofs.Common.{◌≡◌, ℕ, ◌+◌, List, [], ◌∷◌, ◌++◌, Bool, true, false, Option, Some, length, take, sym, ap, subst, ◌∙◌, arith}
+use Rattle.std.proofs.Common.{◌≡◌, ℕ, ◌+◌, [], ◌∷◌, ◌++◌, Bool, true, false, Option, Some, take, sym, ap, subst, ◌∙◌, arith}
 use Rattle.std.proofs.lemmas.List.{take_all, take_more}
 use Rattle.std.proofs.lemmas.List.Elements.{Contains-get_or}
 use Rattle.std.specs.Prelude.{slice_index_or}
 use Rattle.b3_uses.specs.Leasts.{IsLeastMissed}
 use Rattle.b3_uses.specs.declared.gather.OpenUse.{OpenUse}
-use Rattle.flow_live.specs.Graph.{Graph}
-use Rattle.flow_live.specs.Liveness.{IsLivenessOf}
 use Rattle.b3_uses.proofs.Deciding.{least_kept, least_missed}
 use Rattle.b3_uses.proofs.uncovered.least_missed.Goals as goal
 use Rattle.b3_uses.proofs.uncovered.least_missed.Goals.{then-is_missed, else-is_missed}

@@ -1,4 +1,4 @@
-use Rattle.std.proofs.Common.{◌≡◌, ◌<◌, ℕ, List, length, sym, subst, ◌∙◌, arith}
+use Rattle.std.proofs.Common.{List, subst, arith}
 use Rattle.std.specs.Prelude.{Contains}
 use Rattle.b3_uses.specs.Leasts.{IsLeastMissed}
 use Rattle.b3_uses.specs.Reversed.{graph_of}
@@ -28,7 +28,7 @@ returns-clause-covered c none =
     let g = graph_of flow.names flow.sources flow.defined in
     let found = c.in_ok-found.found in
     let least : IsLeastMissed g found.uses c.least_missed.result =
-        subst (λ (l : List OpenUse). IsLeastMissed g l c.least_missed.result) c.uses.ensures (c.least_missed.ensures g c.in_ok-sets.ensures) in
+    subst (λ (l : List OpenUse). IsLeastMissed g l c.least_missed.result) c.uses.ensures (c.least_missed.ensures g c.in_ok-sets.ensures) in
     all_covered c.args.p.now.procedure found g c.in_ok-found.ensures c.in_ok-flow.ensures.reversed c.least_missed.result least none
 
 pub returns-clause-uncovered : goal.returns-clause-uncovered
@@ -37,5 +37,5 @@ returns-clause-uncovered c =
     let g = graph_of flow.names flow.sources flow.defined in
     let found = c.in_ok-found.found in
     let least : IsLeastMissed g found.uses c.least_missed.result =
-        subst (λ (l : List OpenUse). IsLeastMissed g l c.least_missed.result) c.uses.ensures (c.least_missed.ensures g c.in_ok-sets.ensures) in
+    subst (λ (l : List OpenUse). IsLeastMissed g l c.least_missed.result) c.uses.ensures (c.least_missed.ensures g c.in_ok-sets.ensures) in
     first_uncovered c.args.p.now.procedure found g c.in_ok-found.ensures c.in_ok-flow.ensures.reversed c.least_missed.result least

@@ -1,8 +1,7 @@
-use Rattle.std.proofs.Common.{◌≡◌, ℕ, ◌<◌, List, [], ◌∷◌, ◌++◌, Option, length, refl, sym, ap, subst, ◌∙◌}
+use Rattle.std.proofs.Common.{◌≡◌, ℕ, ◌<◌, [], ◌∷◌, ◌++◌, Option, length, refl, sym, subst, ◌∙◌}
 use Rattle.std.specs.BTreeMap as tree
 use Rattle.std.specs.Ordering.{nat_cmp}
 use Rattle.b3_ir.specs.Procedure.{values_from}
-use Rattle.b3_ir.specs.declared.value.Value.{Value}
 use Rattle.b3_rules.specs.Paths.{successors_in}
 use Rattle.b3_uses.specs.Lists.{AddsTo}
 use Rattle.b3_uses.specs.Reversed.{DefinesOne, LeadsTo}
@@ -38,9 +37,9 @@ loop-at-preserved c =
     let many : length c.loop-at.self.sources ≡ n = (inv.3).as_many ∙ c.requires.blocks in
     let names = tree.get nat_cmp c.args.names.now.numbers in
     let sources : AddsTo c.loop-at.self.sources c.add_value.new.self.sources (LeadsTo n block (successors_in v.body)) =
-        subst (λ (m : ℕ). AddsTo c.loop-at.self.sources c.add_value.new.self.sources (LeadsTo m block (successors_in v.body))) many c.in_ok-add_value.ensures.sources in
+    subst (λ (m : ℕ). AddsTo c.loop-at.self.sources c.add_value.new.self.sources (LeadsTo m block (successors_in v.body))) many c.in_ok-add_value.ensures.sources in
     let defined : AddsTo c.loop-at.self.defined c.add_value.new.self.defined (DefinesOne n block (names v.id)) =
-        subst (λ (m : ℕ). AddsTo c.loop-at.self.defined c.add_value.new.self.defined (DefinesOne m block (names v.id))) many c.in_ok-add_value.ensures.defined in (
+    subst (λ (m : ℕ). AddsTo c.loop-at.self.defined c.add_value.new.self.defined (DefinesOne m block (names v.id))) many c.in_ok-add_value.ensures.defined in (
       inv.0 ++ v ∷ [],
       walk_on p block inv.0 c.loop-at.at c.next-at.result c.in-Some.node v inv.1 c.in-Some.is (c.value-value.ensures.head block there) (c.next-at.ensures.rest block there)
           (c.next-at.ensures.there block there),

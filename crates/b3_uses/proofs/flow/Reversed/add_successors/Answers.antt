@@ -18,7 +18,7 @@ loop-next-preserved c =
     let next : ℕ = slice_index_or nexts i 0 in
     let more : take (i + 1) nexts ≡ take i nexts ++ next ∷ [] = one_more nexts nexts i refl c.loop-next-test.true in
     let step : AddsTo mid new (LeadsToOne n c.args.block next) =
-        subst (λ (m : ℕ). AddsTo mid new (LeadsToOne m c.args.block next)) (inv.sources).as_many c.in_ok-add_successor.ensures.sources in
+    subst (λ (m : ℕ). AddsTo mid new (LeadsToOne m c.args.block next)) (inv.sources).as_many c.in_ok-add_successor.ensures.sources in
     record {
       names = c.in_ok-add_successor.ensures.names ∙ inv.names;
       sources = subst (λ l. AddsTo old new (LeadsTo n c.args.block l)) (sym more) (successors_more n c.args.block next (take i nexts) old mid new inv.sources step);

@@ -1,10 +1,9 @@
-use Rattle.std.proofs.Common.{◌≡◌, ℕ, ◌<◌, List, [], ◌∷◌, ◌++◌, Option, length, refl, sym, ap, subst, ◌∙◌}
+use Rattle.std.proofs.Common.{ℕ, ◌<◌, [], ◌∷◌, ◌++◌, Option, length, sym, ap, subst}
 use Rattle.std.specs.BTreeSet as keys
 use Rattle.std.specs.Ordering.{nat_cmp}
 use Rattle.std.specs.BTreeMap.{is_at}
 use Rattle.std.specs.List.{list_any}
 use Rattle.b3_ir.specs.Procedure.{values_from}
-use Rattle.b3_ir.specs.declared.value.Value.{Value}
 use Rattle.b3_uses.proofs.Noting.{seen_more, value_noted, values_none}
 use Rattle.b3_uses.proofs.Walking.{shorter, walk_on, walk_start}
 use Rattle.b3_uses.proofs.gather.OpenUses.add_block.Goals as goal

@@ -1,7 +1,7 @@
-use Rattle.std.proofs.Common.{◌≡◌, ℕ, List, ◌++◌, length, IfSome}
+use Rattle.std.proofs.Common.{◌≡◌, ℕ, List, length}
 use Rattle.std.specs.BTreeSet as keys
 use Rattle.std.specs.Ordering.{nat_cmp}
-use Rattle.b3_ir.specs.Procedure.{IsIn, values_from, values_of}
+use Rattle.b3_ir.specs.Procedure.{values_from}
 use Rattle.b3_ir.specs.declared.value.Value.{Value}
 use Rattle.b3_uses.specs.Open.{Adds, IsOpenIn, has_id}
 use Rattle.b3_uses.specs.Walked.{Walked}

@@ -1,8 +1,5 @@
-use Rattle.std.proofs.Common.{◌≡◌, ◌<◌, ℕ, List, [], ◌∷◌, ◌++◌, length, subst, sym, ap, ◌∙◌}
-use Rattle.std.proofs.lemmas.List.{get_or_read}
+use Rattle.std.proofs.Common.{ℕ, List}
 use Rattle.std.proofs.lemmas.Result.{on_ok_weaker}
-use Rattle.std.specs.Prelude.{slice_set}
-use Rattle.b3_uses.specs.Lists.{AddsTo, IsPut, list_at}
 use Rattle.b3_uses.proofs.Adding.{put_in}
 use Rattle.b3_uses.proofs.lists.Lists.add.Goals as goal
 

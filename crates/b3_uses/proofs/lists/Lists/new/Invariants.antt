@@ -1,4 +1,4 @@
-use Rattle.std.proofs.Common.{◌≡◌, ◌≤◌, [], replicate}
+use Rattle.std.proofs.Common.{◌≡◌, [], replicate}
 use Rattle.b3_uses.proofs.lists.Lists.new.Given as goal
 
 abbrev pub invariant-loop : goal.invariant-loop
