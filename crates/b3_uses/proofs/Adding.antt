@@ -23,7 +23,8 @@ adds_same old new more other to from adds = record {
   );
 }
 
-pub adds_both : (old mid new : List (List ℕ)) (more other : ℕ → ℕ → Type 0) → AddsTo old mid more → AddsTo mid new other → AddsTo old new (λ at n. more at n ⊎ other at n)
+pub adds_both : (old mid new : List (List ℕ)) (more other : ℕ → ℕ → Type 0) → AddsTo old mid more → AddsTo mid new other
+    → AddsTo old new (λ at n. more at n ⊎ other at n)
 adds_both old mid new more other first second = record {
   as_many = second.as_many ∙ first.as_many;
   numbers = λ at n. (
@@ -34,12 +35,14 @@ adds_both old mid new more other first second = record {
 }
 
 -- one more element
-pub adds_one : {X : Type 0} (of_ : X → ℕ → ℕ → Type 0) (xs : List X) (x : X) (old mid new : List (List ℕ)) → AddsTo old mid (SomeOf of_ xs) → AddsTo mid new (of_ x)
+pub adds_one : {X : Type 0} (of_ : X → ℕ → ℕ → Type 0) (xs : List X) (x : X) (old mid new : List (List ℕ)) → AddsTo old mid (SomeOf of_ xs)
+    → AddsTo mid new (of_ x)
     → AddsTo old new (SomeOf of_ (xs ++ x ∷ []))
 adds_one of_ xs x old mid new first second =
     adds_same old new (λ at n. SomeOf of_ xs at n ⊎ of_ x at n) (SomeOf of_ (xs ++ x ∷ []))
     (λ at n h. ⊎_elim (λ some. (some.0, Contains-append_left xs (x ∷ []) some.0 some.1, some.2)) (λ here. (x, Contains-push xs x, here)) h)
-    (λ at n some. ⊎_elim (λ h. inl (some.0, h, some.2)) (λ (e : x ≡ some.0). inr (subst (λ y. of_ y at n) (sym e) some.2)) (Contains-push_cases xs x some.0 some.1))
+    (λ at n some. ⊎_elim (λ h. inl (some.0, h, some.2)) (λ (e : x ≡ some.0). inr (subst (λ y. of_ y at n) (sym e) some.2))
+    (Contains-push_cases xs x some.0 some.1))
     (adds_both old mid new (SomeOf of_ xs) (of_ x) first second)
 
 pub adds_skipped : {X : Type 0} (of_ : X → ℕ → ℕ → Type 0) (xs : List X) (x : X) (old new : List (List ℕ)) → AddsTo old new (SomeOf of_ xs)
@@ -70,7 +73,8 @@ puts lists at number lt = record {
   numbers = λ a n. ⊎_elim (λ (e : a ≡ at). here a n e) (λ (other : a ≢ at). there a n other) (cases_eq a at);
 }
   where
-    here : (a n : ℕ) → a ≡ at → Contains (list_at (slice_set lists at (list_at lists at ++ number ∷ [])) a) n ↔ (Contains (list_at lists a) n ⊎ IsPut at number a n)
+    here : (a n : ℕ) → a ≡ at → Contains (list_at (slice_set lists at (list_at lists at ++ number ∷ [])) a) n ↔
+        (Contains (list_at lists a) n ⊎ IsPut at number a n)
     here a n e =
         let is : list_at (slice_set lists at (list_at lists at ++ number ∷ [])) a ≡ list_at lists a ++ number ∷ [] =
         ap (λ b. list_at (slice_set lists at (list_at lists at ++ number ∷ [])) b) e ∙ get_or-set_same lists at (list_at lists at ++ number ∷ []) [] lt
@@ -80,7 +84,8 @@ puts lists at number lt = record {
               (λ put. subst (λ m. Contains (list_at lists a ++ number ∷ []) m) (sym put.1) (Contains-push (list_at lists a) number)) has)),
         )
 
-    there : (a n : ℕ) → a ≢ at → Contains (list_at (slice_set lists at (list_at lists at ++ number ∷ [])) a) n ↔ (Contains (list_at lists a) n ⊎ IsPut at number a n)
+    there : (a n : ℕ) → a ≢ at → Contains (list_at (slice_set lists at (list_at lists at ++ number ∷ [])) a) n ↔
+        (Contains (list_at lists a) n ⊎ IsPut at number a n)
     there a n other =
         let is : list_at (slice_set lists at (list_at lists at ++ number ∷ [])) a ≡ list_at lists a =
         get_or-set_other lists at a (list_at lists at ++ number ∷ []) [] other in (
@@ -93,7 +98,8 @@ puts lists at number lt = record {
 pub leads_one : (blocks block next : ℕ) (old new : List (List ℕ)) → next < blocks → AddsTo old new (IsPut (turned blocks next) (turned blocks block))
     → AddsTo old new (LeadsToOne blocks block next)
 leads_one blocks block next old new lt adds =
-    adds_same old new (IsPut (turned blocks next) (turned blocks block)) (LeadsToOne blocks block next) (λ at n put. (lt, put.0, put.1)) (λ at n leads. (leads.1, leads.2)) adds
+    adds_same old new (IsPut (turned blocks next) (turned blocks block)) (LeadsToOne blocks block next) (λ at n put. (lt, put.0, put.1))
+    (λ at n leads. (leads.1, leads.2)) adds
 
 pub leads_outside : (blocks block next : ℕ) (lists : List (List ℕ)) → (next < blocks → ⊥) → AddsTo lists lists (LeadsToOne blocks block next)
 leads_outside blocks block next lists none = adds_nothing lists (LeadsToOne blocks block next) (λ at n leads. none leads.0)
@@ -131,13 +137,15 @@ values_more blocks block vs v old mid new first second =
 pub names_start : (blocks block : ℕ) (names : ℕ → Option ℕ) (lists : List (List ℕ)) → AddsTo lists lists (DefinesAt blocks block names [])
 names_start blocks block names lists = adds_start (λ (v : Value). DefinesOne blocks block (names v.id)) lists
 
-pub names_more : (blocks block : ℕ) (names : ℕ → Option ℕ) (vs : List Value) (v : Value) (old mid new : List (List ℕ)) → AddsTo old mid (DefinesAt blocks block names vs)
+pub names_more : (blocks block : ℕ) (names : ℕ → Option ℕ) (vs : List Value) (v : Value) (old mid new : List (List ℕ))
+    → AddsTo old mid (DefinesAt blocks block names vs)
     → AddsTo mid new (DefinesOne blocks block (names v.id)) → AddsTo old new (DefinesAt blocks block names (vs ++ v ∷ []))
 names_more blocks block names vs v old mid new first second =
     adds_one (λ (w : Value). DefinesOne blocks block (names w.id)) vs v old mid new first second
 
 -- the same, as a list is lent and put back
-pub put_in : (old lists : List (List ℕ)) (list new : List ℕ) (at number : ℕ) → lists ≡ old → at < length old → list ≡ get_or lists at list → new ≡ list ++ number ∷ []
+pub put_in : (old lists : List (List ℕ)) (list new : List ℕ) (at number : ℕ) → lists ≡ old → at < length old → list ≡ get_or lists at list
+    → new ≡ list ++ number ∷ []
     → AddsTo old (slice_set lists at new) (IsPut at number)
 put_in old lists list new at number same lt read is =
     let within : at < length lists = omega (arith, ap length same) in

@@ -73,7 +73,8 @@ module _ (p : Procedure) (names : ℕ → Option ℕ) (g : Graph) (reversed : Is
       clear earlier less d = never (back at, contains_head (back at) [], (reversed.defines at id name lt is).0 (earlier, d))
   live_along (d ∷ passed) at lt path never =
       live_through g name at
-      (λ (below : IsDefinedBelow g name at (g.places at)). never (back at, contains_head (back at) (d ∷ passed), (reversed.defines at id name lt is).0 (below.0, below.2))) (
+      (λ (below : IsDefinedBelow g name at (g.places at)). never
+      (back at, contains_head (back at) (d ∷ passed), (reversed.defines at id name lt is).0 (below.0, below.2))) (
         back d,
         (reversed.leads at (back d) lt in_d).1 (subst (λ (b : ℕ). IsSuccessor p b (back at)) (sym same) path.0),
         live_along passed (back d) in_d (subst (λ (b : ℕ). IsPath p passed b) (sym same) path.1) clear,
@@ -95,7 +96,8 @@ module _ (p : Procedure) (names : ℕ → Option ℕ) (g : Graph) (reversed : Is
 
   -- a use that is reached backwards is a path that doesn't define the id
   abbrev Missing : Place → Type 0
-  Missing at = (passed : List ℕ) × IsPath p passed (back at.block) × (PassedDefinition p passed id → ⊥) × ((place : ℕ) → at.place ≤ place → Defines g name (at_place at.block place) → ⊥)
+  Missing at = (passed : List ℕ) × IsPath p passed (back at.block) × (PassedDefinition p passed id → ⊥)
+      × ((place : ℕ) → at.place ≤ place → Defines g name (at_place at.block place) → ⊥)
 
   ends_at_root : (at : Place) → at.block < g.blocks → Uses g name at → Missing at
   ends_at_root at in_flow use_ =
@@ -121,7 +123,8 @@ module _ (p : Procedure) (names : ℕ → Option ℕ) (g : Graph) (reversed : Is
         (cases_eq place at.place),
   )
 
-  back_to : (at next : Place) → at.block < g.blocks → next.block < g.blocks → at.place + 1 ≡ length_of g at.block → IsSuccessor p (back next.block) (back at.block) → next.place ≡ 0 → (Defines g name at → ⊥) → Missing next → Missing at
+  back_to : (at next : Place) → at.block < g.blocks → next.block < g.blocks → at.place + 1 ≡ length_of g at.block
+      → IsSuccessor p (back next.block) (back at.block) → next.place ≡ 0 → (Defines g name at → ⊥) → Missing next → Missing at
   back_to at next in_flow next_in last leads first clear m = (
     back next.block ∷ m.0,
     (leads, m.1),
@@ -161,7 +164,8 @@ module _ (p : Procedure) (names : ℕ → Option ℕ) (g : Graph) (reversed : Is
         back live.0 ∷ m.0,
         (leads, m.1),
         λ d. ⊎_elim
-            (λ (e : back live.0 ≡ d.0). let there = (reversed.defines live.0 id name next_in is).1 (subst (λ (b : ℕ). HasDefinition (values_of p b) id) (sym e) d.2) in m.3 there.0 (omega arith) there.1)
+            (λ (e : back live.0 ≡ d.0). let there = (reversed.defines live.0 id name next_in is).1
+            (subst (λ (b : ℕ). HasDefinition (values_of p b) id) (sym e) d.2) in m.3 there.0 (omega arith) there.1)
             (λ more. m.2 (d.0, more, d.2)) (contains_cases (back live.0) m.0 d.0 d.1),
       )
 
@@ -171,17 +175,21 @@ module _ (p : Procedure) (names : ℕ → Option ℕ) (g : Graph) (reversed : Is
   ran passed before (inl d) = (d.0, d.2, inl d.1)
   ran passed before (inr d) = ((d.2).0, (d.2).2, inr (d.0, d.1, (d.2).1))
 
-  not_ran : (passed : List ℕ) (before : List Value) → (HasDefinition before id → ⊥) → (PassedDefinition p passed id → ⊥) → (v : Value) → v.id ≡ id → HasRun p passed before v → ⊥
+  not_ran : (passed : List ℕ) (before : List Value) → (HasDefinition before id → ⊥) → (PassedDefinition p passed id → ⊥) → (v : Value) → v.id ≡ id
+      → HasRun p passed before v → ⊥
   not_ran passed before here never v e (inl h) = here (v, h, e)
   not_ran passed before here never v e (inr h) = never (h.0, h.1, (v, h.2, e))
 
-  missed_live : (block : ℕ) (passed : List ℕ) → block < g.blocks → IsPath p passed block → (PassedDefinition p passed id → ⊥) → (block ≡ 0) ⊎ LiveOut g name (back block)
+  missed_live : (block : ℕ) (passed : List ℕ) → block < g.blocks → IsPath p passed block → (PassedDefinition p passed id → ⊥)
+      → (block ≡ 0) ⊎ LiveOut g name (back block)
   missed_live block [] lt path never = inl path
   missed_live block (c ∷ passed) lt path never =
       inr (
         back c,
-        (reversed.leads (back block) (back c) (back_below block lt) in_c).1 (subst (λ (b : ℕ). IsSuccessor p b (back (back block))) (sym same) (subst (λ (b : ℕ). IsSuccessor p c b) (sym (back_back block lt)) path.0)),
-        live_along passed (back c) in_c (subst (λ (b : ℕ). IsPath p passed b) (sym same) path.1) (λ h. never (subst (λ (b : ℕ). PassedDefinition p (b ∷ passed) id) same h)),
+        (reversed.leads (back block) (back c) (back_below block lt) in_c).1
+            (subst (λ (b : ℕ). IsSuccessor p b (back (back block))) (sym same) (subst (λ (b : ℕ). IsSuccessor p c b) (sym (back_back block lt)) path.0)),
+        live_along passed (back c) in_c (subst (λ (b : ℕ). IsPath p passed b) (sym same) path.1)
+            (λ h. never (subst (λ (b : ℕ). PassedDefinition p (b ∷ passed) id) same h)),
       )
     where
       source : c < g.blocks
@@ -193,7 +201,8 @@ module _ (p : Procedure) (names : ℕ → Option ℕ) (g : Graph) (reversed : Is
       same : back (back c) ≡ c
       same = back_back c source
 
-  covered_if : (block : ℕ) (before : List Value) → block < g.blocks → HasDefinition before id ⊎ ((block ≢ 0) × (LiveOut g name (back block) → ⊥)) → IsCovered p block before id
+  covered_if : (block : ℕ) (before : List Value) → block < g.blocks → HasDefinition before id ⊎ ((block ≢ 0) × (LiveOut g name (back block) → ⊥))
+      → IsCovered p block before id
   covered_if block before lt (inl d) passed path = ran passed before (inl d)
   covered_if block before lt (inr h) passed path =
       elim (passed_or_not p passed id) [
@@ -201,7 +210,8 @@ module _ (p : Procedure) (names : ℕ → Option ℕ) (g : Graph) (reversed : Is
         | inr never ↦ absurd (⊎_elim h.0 h.1 (missed_live block passed lt path never))
       ]
 
-  if_covered : (block : ℕ) (before : List Value) → block < g.blocks → IsCovered p block before id → HasDefinition before id ⊎ ((block ≢ 0) × (LiveOut g name (back block) → ⊥))
+  if_covered : (block : ℕ) (before : List Value) → block < g.blocks → IsCovered p block before id
+      → HasDefinition before id ⊎ ((block ≢ 0) × (LiveOut g name (back block) → ⊥))
   if_covered block before lt covered =
       elim (defined_or_not before id) [
         | inl d ↦ inl d
@@ -214,5 +224,6 @@ module _ (p : Procedure) (names : ℕ → Option ℕ) (g : Graph) (reversed : Is
         )
       ]
 
-  pub covered_iff : (block : ℕ) (before : List Value) → block < g.blocks → IsCovered p block before id ↔ (HasDefinition before id ⊎ ((block ≢ 0) × (LiveOut g name (back block) → ⊥)))
+  pub covered_iff : (block : ℕ) (before : List Value) → block < g.blocks
+      → IsCovered p block before id ↔ (HasDefinition before id ⊎ ((block ≢ 0) × (LiveOut g name (back block) → ⊥)))
   covered_iff block before lt = (if_covered block before lt, covered_if block before lt)

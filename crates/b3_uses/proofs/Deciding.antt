@@ -26,12 +26,14 @@ pub least_missed : (g : Graph) (uses : List OpenUse) (u : OpenUse) (least : Opti
     → IsLeastMissed g (uses ++ u ∷ []) (Some (lower_of least u.line))
 least_missed g uses u None so_far missed = (
   (u, Contains-push uses u, missed, refl),
-  λ w has w_missed. ⊎_elim (λ h. absurd (so_far w h w_missed)) (λ (e : u ≡ w). let same : u.line ≡ w.line = ap (λ (x : OpenUse). x.line) e in omega arith) (Contains-push_cases uses u w has),
+  λ w has w_missed. ⊎_elim (λ h. absurd (so_far w h w_missed)) (λ (e : u ≡ w). let same : u.line ≡ w.line = ap (λ (x : OpenUse). x.line) e in omega arith)
+      (Contains-push_cases uses u w has),
 )
 least_missed g uses u (Some line) so_far missed = (
   ⊎_elim
       (λ (lt : u.line < line). let e : u.line ≡ min line u.line = omega arith in (u, Contains-push uses u, missed, e))
-      (λ (le : line ≤ u.line). let e : line ≡ min line u.line = omega arith in let w = so_far.0 in (w.0, Contains-append_left uses (u ∷ []) w.0 w.1, w.2, w.3 ∙ e))
+      (λ (le : line ≤ u.line). let e : line ≡ min line u.line = omega arith in let w = so_far.0 in
+      (w.0, Contains-append_left uses (u ∷ []) w.0 w.1, w.2, w.3 ∙ e))
       (cases_lt u.line line),
   λ w has w_missed.
       ⊎_elim
@@ -43,11 +45,13 @@ least_missed g uses u (Some line) so_far missed = (
 pub least_kept : (g : Graph) (uses : List OpenUse) (u : OpenUse) (least : Option ℕ) → IsLeastMissed g uses least → (IsMissed g u → ⊥)
     → IsLeastMissed g (uses ++ u ∷ []) least
 least_kept g uses u None so_far kept =
-    λ w has missed. ⊎_elim (λ h. so_far w h missed) (λ (e : u ≡ w). kept (subst (λ (x : OpenUse). IsMissed g x) (sym e) missed)) (Contains-push_cases uses u w has)
+    λ w has missed. ⊎_elim (λ h. so_far w h missed) (λ (e : u ≡ w). kept (subst (λ (x : OpenUse). IsMissed g x) (sym e) missed))
+    (Contains-push_cases uses u w has)
 least_kept g uses u (Some line) so_far kept = (
   (let w = so_far.0 in (w.0, Contains-append_left uses (u ∷ []) w.0 w.1, w.2, w.3)),
   λ w has missed.
-      ⊎_elim (λ h. so_far.1 w h missed) (λ (e : u ≡ w). absurd (kept (subst (λ (x : OpenUse). IsMissed g x) (sym e) missed))) (Contains-push_cases uses u w has),
+      ⊎_elim (λ h. so_far.1 w h missed) (λ (e : u ≡ w). absurd (kept (subst (λ (x : OpenUse). IsMissed g x) (sym e) missed)))
+      (Contains-push_cases uses u w has),
 )
 
 -- ---- places
@@ -156,8 +160,10 @@ module _ (p : Procedure) (found : OpenUses) (g : Graph) (lists : ListsBelow p (l
 
       uncovered : CoversUses p u.block (length asked.before) asked.value → ⊥
       uncovered all =
-          let here : IsCoveredAt p u.block (length asked.before) id = All-contains (IsCoveredAt p u.block (length asked.before)) asked.value.children id all asked.child in
-          let same : take (length asked.before) (values_of p u.block) ≡ asked.before = ap (λ vs. take (length asked.before) vs) asked.split ∙ take_before asked.before (asked.value ∷ asked.rest) in
+          let here : IsCoveredAt p u.block (length asked.before) id =
+          All-contains (IsCoveredAt p u.block (length asked.before)) asked.value.children id all asked.child in
+          let same : take (length asked.before) (values_of p u.block) ≡ asked.before = ap (λ vs. take (length asked.before) vs) asked.split
+          ∙ take_before asked.before (asked.value ∷ asked.rest) in
           let covered : IsCovered p u.block asked.before id = subst (λ vs. IsCovered p u.block vs id) same here in
           elim ((covered_iff p (names_in found) g reversed id u.name (only.1.2).name_is u.block asked.before (inside u.block only.0)).0 covered) [
             | inl d ↦ asked.undefined d

@@ -68,8 +68,10 @@ true_false t e f = cc
 pub child_seen : (old mid : OpenUses) (block line : ℕ) (earlier : ℕ → Bool) (ids : List ℕ) (id : ℕ) → Adds old mid (IsAskedHere block line earlier ids)
     → earlier id ≡ true → Adds old mid (IsAskedHere block line earlier (ids ++ id ∷ []))
 child_seen old mid block line earlier ids id first seen =
-    notes_both old mid mid (IsAskedHere block line earlier ids) none (IsAskedHere block line earlier (ids ++ id ∷ [])) first (notes_nothing mid none (λ b l i h. h))
-    (λ b l i h. ⊎_elim (λ has. inl (h.0, h.1, has, h.3)) (λ (e : id ≡ i). true_false (earlier id) seen (subst (λ j. earlier j ≡ false) (sym e) h.3)) (Contains-push_cases ids id i h.2))
+    notes_both old mid mid (IsAskedHere block line earlier ids) none (IsAskedHere block line earlier (ids ++ id ∷ [])) first
+    (notes_nothing mid none (λ b l i h. h))
+    (λ b l i h. ⊎_elim (λ has. inl (h.0, h.1, has, h.3)) (λ (e : id ≡ i). true_false (earlier id) seen (subst (λ j. earlier j ≡ false) (sym e) h.3))
+    (Contains-push_cases ids id i h.2))
     (λ b l i h. (h.0, h.1, Contains-append_left ids (id ∷ []) i h.2, h.3))
     (λ b l i h. absurd h)
   where
@@ -213,7 +215,8 @@ lists_more p k old new first second = record {
   all = λ block line id lt a.
       ⊎_elim
       (λ (e : block ≡ k). second.added block line id (e, subst (λ b. IsAsked (values_of p b) line id) e a))
-      (λ (other : block ≢ k). let u = first.all block line id (omega (arith, lt, other)) a in (u.0, second.kept u.0 u.1, renamed old new second.names block line id u.0 u.2))
+      (λ (other : block ≢ k). let u = first.all block line id (omega (arith, lt, other)) a in
+      (u.0, second.kept u.0 u.1, renamed old new second.names block line id u.0 u.2))
       (cases_eq block k);
   only = λ u has.
       elim (second.only u has) [

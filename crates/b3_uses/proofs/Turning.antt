@@ -64,7 +64,9 @@ is_eq a b e = ⊎_elim (λ (same : a ≡ b). same) (λ (other : a ≢ b). true_f
 not_eq : (a b : ℕ) → (a == b) ≡ false → a ≢ b
 not_eq a b e same = true_false (a == b) (eq-eqb a b same) e
 
-module _ (p : Procedure) (names : ℕ → Option ℕ) (count : ℕ) (sources defined : List (List ℕ)) (numbered : IsNumbered names count) (led : AddsTo (replicate (length p.blocks) []) sources (LedBelow p (length p.blocks))) (named : AddsTo (replicate (length p.blocks) []) defined (DefinedBelow p names (length p.blocks))) where
+module _ (p : Procedure) (names : ℕ → Option ℕ) (count : ℕ) (sources defined : List (List ℕ)) (numbered : IsNumbered names count)
+    (led : AddsTo (replicate (length p.blocks) []) sources (LedBelow p (length p.blocks)))
+    (named : AddsTo (replicate (length p.blocks) []) defined (DefinedBelow p names (length p.blocks))) where
   abbrev blocks : ℕ
   blocks = length p.blocks
 
@@ -97,7 +99,8 @@ module _ (p : Procedure) (names : ℕ → Option ℕ) (count : ℕ) (sources def
         subst (λ (b : ℕ). Contains (successors_in h.2.0.body) b) to s.1,
       )
 
-  is_leads : (at next : ℕ) → at < length sources → next < length sources → IsSuccessor p (turned (length sources) next) (turned (length sources) at) → Leads g at next
+  is_leads : (at next : ℕ) → at < length sources → next < length sources → IsSuccessor p (turned (length sources) next) (turned (length sources) at)
+      → Leads g at next
   is_leads at next at_lt next_lt leads =
       contains_at (list_at sources at) next (at_led at next (
         turned (length sources) next,
@@ -126,7 +129,8 @@ module _ (p : Procedure) (names : ℕ → Option ℕ) (count : ℕ) (sources def
         numbered.apart h.2.0.id id name h.2.2.1 is,
       )
 
-  named_there : (at id name : ℕ) → at < length sources → names id ≡ Some name → HasDefinition (values_of p (turned (length sources) at)) id → IsAt (list_at defined at) name
+  named_there : (at id name : ℕ) → at < length sources → names id ≡ Some name → HasDefinition (values_of p (turned (length sources) at)) id
+      → IsAt (list_at defined at) name
   named_there at id name lt is d =
       let same : names d.0.id ≡ Some name = subst (λ (i : ℕ). names i ≡ Some name) (sym d.2) is in
       contains_at (list_at defined at) name (at_named at name (
@@ -147,14 +151,16 @@ module _ (p : Procedure) (names : ℕ → Option ℕ) (count : ℕ) (sources def
       let two : place + 1 ≡ 2 = subst (λ (b : Bool). place + 1 ≡ (if b then 2 else 1)) is last in
       omega arith
 
-  uses_is : (at place name : ℕ) → at < length sources → Uses g name (record { block = at; place = place }) → (turned (length sources) at ≡ 0) × (place + 1 ≡ g.places at)
+  uses_is : (at place name : ℕ) → at < length sources → Uses g name (record { block = at; place = place })
+      → (turned (length sources) at ≡ 0) × (place + 1 ≡ g.places at)
   uses_is at place name lt u =
       let said = use_is (place == 0) (slice_index_or (list_at defined at) u.1.0 0) u.1.0 name u.1.2 in
       let second = second_place (at == length sources - 1) place (not_eq place 0 said.0) u.0 in
       let last : at ≡ length sources - 1 = is_eq at (length sources - 1) second.0 in
       (omega arith, second.1)
 
-  is_uses : (at place name : ℕ) → at < length sources → name < count → turned (length sources) at ≡ 0 → place + 1 ≡ g.places at → Uses g name (record { block = at; place = place })
+  is_uses : (at place name : ℕ) → at < length sources → name < count → turned (length sources) at ≡ 0 → place + 1 ≡ g.places at
+      → Uses g name (record { block = at; place = place })
   is_uses at place name lt named_ root last =
       let one : place ≡ 1 = last_place at place root lt last in
       let clear : (place == 0) ≡ false = ne_eqb place 0 (omega arith) in (
@@ -166,7 +172,8 @@ module _ (p : Procedure) (names : ℕ → Option ℕ) (count : ℕ) (sources def
         ),
       )
 
-  entry_clear : (at place name : ℕ) → at < length sources → turned (length sources) at ≡ 0 → place + 1 ≡ g.places at → Defines g name (record { block = at; place = place }) → ⊥
+  entry_clear : (at place name : ℕ) → at < length sources → turned (length sources) at ≡ 0 → place + 1 ≡ g.places at
+      → Defines g name (record { block = at; place = place }) → ⊥
   entry_clear at place name lt root last d =
       let one : place ≡ 1 = last_place at place root lt last in
       let said = def_is (place == 0) (slice_index_or (list_at defined at) d.1.0 0) d.1.0 name d.1.2 in

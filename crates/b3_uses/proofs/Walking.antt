@@ -13,14 +13,17 @@ pub shorter : {X : Type 0} (ys xs : List X) (x : X) → slice_get xs 0 ≡ Some 
 shorter ys [] x e rest = absurd (cc)
 shorter ys (y ∷ xs) x e rest = let same : length ys ≡ length xs = ap length rest in omega arith
 
-pub walk_start : (p : Kept) (block : ℕ) (at : Option ℕ) → values_from p block at ≡ values_of p.procedure block → IfSome at (λ node. IsIn p node block) → Walked p block [] at
+pub walk_start : (p : Kept) (block : ℕ) (at : Option ℕ) → values_from p block at ≡ values_of p.procedure block → IfSome at (λ node. IsIn p node block)
+    → Walked p block [] at
 walk_start p block at rest there = record { split = sym rest; there = there }
 
 pub walk_on : (p : Kept) (block : ℕ) (before : List Value) (at next : Option ℕ) (node : ℕ) (v : Value) → Walked p block before at → at ≡ Some node
-    → slice_get (values_from p block (Some node)) 0 ≡ Some v → values_from p block next ≡ drop 1 (values_from p block (Some node)) → IfSome next (λ n. IsIn p n block)
+    → slice_get (values_from p block (Some node)) 0 ≡ Some v → values_from p block next ≡ drop 1 (values_from p block (Some node))
+    → IfSome next (λ n. IsIn p n block)
     → Walked p block (before ++ v ∷ []) next
 walk_on p block before at next node v walked is head rest there = record {
-  split = walked.split ∙ ap (λ (o : Option ℕ). before ++ values_from p block o) is ∙ ap (λ vs. before ++ vs) (head_and_rest (values_from p block (Some node)) v head)
+  split = walked.split ∙ ap (λ (o : Option ℕ). before ++ values_from p block o) is
+      ∙ ap (λ vs. before ++ vs) (head_and_rest (values_from p block (Some node)) v head)
       ∙ ap (λ vs. before ++ v ∷ vs) (sym rest) ∙ sym (append_assoc before (v ∷ []) (values_from p block next));
   there = there;
 }

@@ -1,11 +1,11 @@
 -- No public clause cites this module. The blocks of a procedure as a flow that goes backwards: what is
 -- live there is what some path from block 0 doesn't define.
-use Rattle.std.specs.Prelude.{◌≡◌, ◌≢◌, ℕ, ◌+◌, ◌-◌, ◌<◌, ◌≤◌, ◌⊎◌, ◌↔◌, ◌==◌, if◌then◌else◌, List, length, slice_index_or, Option, Some, Contains}
+use Rattle.std.specs.Prelude.{◌≡◌, ℕ, ◌+◌, ◌-◌, ◌<◌, ◌≤◌, ◌↔◌, ◌==◌, if◌then◌else◌, List, length, slice_index_or, Option, Some, Contains}
 use Rattle.b3_ir.specs.Procedure.{Procedure, values_of}
 use Rattle.b3_ir.specs.declared.value.Value.{Value}
-use Rattle.b3_rules.specs.Paths.{IsCovered, IsSuccessor, successors_in}
+use Rattle.b3_rules.specs.Paths.{IsSuccessor, successors_in}
 use Rattle.b3_uses.specs.Lists.{SomeBelow, SomeOf, list_at}
-use Rattle.flow_live.specs.Graph.{Graph, Defines, IsSuccessor as Leads, LiveOut, Uses}
+use Rattle.flow_live.specs.Graph.{Graph, Defines, IsSuccessor as Leads, Uses}
 use Rattle.flow_live.specs.declared.touch.Touch.TheVariants.{Def, Use}
 
 -- one of these values has the id
@@ -35,13 +35,6 @@ pub record IsReversed (p : Procedure) (names : ℕ → Option ℕ) (g : Graph) :
       → Defines g name (record { block = at; place = place }) → ⊥
   pub some : (at : ℕ) → at < g.blocks → 1 ≤ g.places at
   pub named : (id name : ℕ) → names id ≡ Some name → name < g.names
-
--- an id is covered at a place exactly where it is defined earlier in the block, or the block isn't block 0
--- and the id's name isn't live out of it in the reversed flow
-abbrev pub IsDecidedBackwards : Procedure → (ℕ → Option ℕ) → Graph → Type 0
-IsDecidedBackwards p names g = (block id name : ℕ) (before : List Value) → block < g.blocks → names id ≡ Some name
-    → IsCovered p block before id
-    ↔ (HasDefinition before id ⊎ ((block ≢ 0) × (LiveOut g name (turned g.blocks block) → ⊥)))
 
 -- ---- such a flow
 

@@ -2,7 +2,6 @@
 
 ghost use Rattle.std.specs.Prelude.{◌≡◌, ◌<◌, ◌≤◌, length, IfOk, OnOk};
 ghost use Rattle.std.specs.BTreeMap as tree;
-ghost use Rattle.std.specs.BTreeMap.{btree_map_len};
 ghost use Rattle.std.specs.Ordering.{nat_cmp};
 ghost use Rattle.b3_ir.specs.Procedure.{values_of};
 ghost use Rattle.b3_rules.specs.Paths.{successors_in};
@@ -70,13 +69,11 @@ impl Flow for Reversed {
     }
 }
 
-/// The reversed flow of a procedure, in which these ids have names. It is refused for want
-/// of memory alone.
+/// The reversed flow of a procedure, in which some ids have names. It is refused for want of memory alone.
 pub(crate) fn reverse(alloc: Global, p: &Proc, names: &Names) -> Result<Reversed, NoMemory>
-    ensures reversed { IfOk result (λ flow.
-        IsReversed p.now.procedure (tree.get nat_cmp names.now.numbers) (graph_of flow.names flow.sources flow.defined)) }
+    ensures reversed { IfOk result (λ flow. IsReversed p.now.procedure (tree.get nat_cmp names.now.numbers)
+        (graph_of flow.names flow.sources flow.defined)) }
     ensures range { IfOk result (λ flow. IsInRange (graph_of flow.names flow.sources flow.defined)) }
-    ensures names { IfOk result (λ flow. flow.names ≡ btree_map_len names.now.numbers) }
 {
     let blocks = p.blocks();
     let mut flow = Reversed {
@@ -99,7 +96,8 @@ impl Reversed {
         ensures sources { OnOk result (AddsTo self.old.sources self.new.sources
             (LeadsToAny (length p.now.procedure.blocks) block (values_of p.now.procedure block))) }
         ensures defined { OnOk result (AddsTo self.old.defined self.new.defined
-            (DefinesAt (length p.now.procedure.blocks) block (tree.get nat_cmp names.now.numbers) (values_of p.now.procedure block))) }
+            (DefinesAt (length p.now.procedure.blocks) block (tree.get nat_cmp names.now.numbers)
+            (values_of p.now.procedure block))) }
     {
         let mut at = p.first(block);
         while let Some(node) = at {

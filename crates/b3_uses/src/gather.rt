@@ -1,4 +1,4 @@
-//! The uses that stand before or outside the block of their definition, and names for what they use.
+//! The uses that no value earlier in their block defines, and names for what they use.
 
 ghost use Rattle.std.specs.Prelude.{◌≡◌, ℕ, ◌<◌, ◌==◌, ◌||◌, length, IfOk, OnOk};
 ghost use Rattle.std.specs.BTreeSet as keys;
@@ -95,7 +95,8 @@ impl OpenUses {
 
 /// Adds a key to a set. It is refused for want of memory alone.
 fn add_key(set: &mut BTreeSet<u32>, key: u32) -> Result<(), NoMemory>
-    ensures { OnOk result ((q : ℕ) → keys.contains nat_cmp set.new q ≡ (keys.contains nat_cmp set.old q || (key == q))) }
+    ensures { OnOk result ((q : ℕ) →
+        keys.contains nat_cmp set.new q ≡ (keys.contains nat_cmp set.old q || (key == q))) }
 {
     set.insert(key)?;
     Ok(())

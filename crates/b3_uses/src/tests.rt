@@ -281,7 +281,14 @@ fn chain(alloc: Global, p: &mut Proc, count: u32) -> Result<(), Fail>
 
 fn plain(opcode: Opcode, ty: Ty, id: u32, children: Children, body: Body) -> Value
     requires { id ≤ 16384 }
-    ensures { result ≡ record { id = id; ty = ty; kind = record { opcode = opcode; chill = false; traps = false }; children = children; body = body; line = id + 2 } }
+    ensures { result ≡ record {
+      id = id;
+      ty = ty;
+      kind = record { opcode = opcode; chill = false; traps = false };
+      children = children;
+      body = body;
+      line = id + 2;
+    } }
 {
     Value {
         id,

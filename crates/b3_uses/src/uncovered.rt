@@ -14,10 +14,9 @@ use b3_ir::Proc;
 use flow_live::{Flow, LiveSets, live};
 use std::alloc::Global;
 
-/// The line of the first value, by lines, with a use that isn't covered: some path to the use doesn't run its
-/// definition first. None where all uses are covered. It is refused for want of memory alone; more than
-/// 2^32 pairs of a block and an id that is used outside its block, or before it is defined there, always are
-/// more than there is memory for.
+/// The least line of a value with a use that isn't covered, or None where each path to a use of a value runs
+/// the value first. It is refused for want of memory alone, and so it always is where the number of blocks
+/// times that of the ids which some block uses before it defines them, or without, is above 2^32.
 pub fn uncovered_use(alloc: Global, p: &Proc) -> Result<Option<u32>, NoMemory>
     ensures covered { IfOk result (λ line. line ≡ None → CoversAll p.now.procedure) }
     ensures uncovered { IfOk result (λ line. IfSome line (IsFirstUncovered p.now.procedure)) }

@@ -19,9 +19,11 @@ loop-block-preserved c =
     record {
       blocks = inv.blocks;
       names = c.in_ok-add_block.ensures.names ∙ inv.names;
-      sources = adds_below (λ block. LeadsToAny n block (values_of p block)) k (replicate n []) c.loop-block.flow.sources c.add_block.new.self.sources inv.sources
+      sources = adds_below (λ block. LeadsToAny n block (values_of p block)) k
+          (replicate n []) c.loop-block.flow.sources c.add_block.new.self.sources inv.sources
           c.in_ok-add_block.ensures.sources;
-      defined = adds_below (λ block. DefinesAt n block names (values_of p block)) k (replicate n []) c.loop-block.flow.defined c.add_block.new.self.defined inv.defined
+      defined = adds_below (λ block. DefinesAt n block names (values_of p block)) k
+          (replicate n []) c.loop-block.flow.defined c.add_block.new.self.defined inv.defined
           c.in_ok-add_block.ensures.defined;
     }
 

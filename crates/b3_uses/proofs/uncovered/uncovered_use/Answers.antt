@@ -11,7 +11,8 @@ least_missed-requires-clause-block c u has =
     let flow = c.in_ok-flow.flow in
     let found = c.in_ok-found.found in
     let there : Contains found.uses u = subst (λ (l : List OpenUse). Contains l u) c.uses.ensures has in
-    let within = block_within c.args.p.now.procedure found (graph_of flow.names flow.sources flow.defined) c.in_ok-found.ensures c.in_ok-flow.ensures.reversed u there in
+    let within = block_within c.args.p.now.procedure found
+    (graph_of flow.names flow.sources flow.defined) c.in_ok-found.ensures c.in_ok-flow.ensures.reversed u there in
     omega (arith, within, c.blocks-3.ensures)
 
 pub least_missed-requires-clause-name : goal.least_missed-requires-clause-name
@@ -19,7 +20,8 @@ least_missed-requires-clause-name c u has =
     let flow = c.in_ok-flow.flow in
     let found = c.in_ok-found.found in
     let there : Contains found.uses u = subst (λ (l : List OpenUse). Contains l u) c.uses.ensures has in
-    let within = name_within c.args.p.now.procedure found (graph_of flow.names flow.sources flow.defined) c.in_ok-found.ensures c.in_ok-flow.ensures.reversed u there in
+    let within = name_within c.args.p.now.procedure found
+    (graph_of flow.names flow.sources flow.defined) c.in_ok-found.ensures c.in_ok-flow.ensures.reversed u there in
     omega (arith, within, c.in_ok-sets.ensures.names)
 
 pub returns-clause-covered : goal.returns-clause-covered

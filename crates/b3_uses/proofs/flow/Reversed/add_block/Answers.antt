@@ -37,11 +37,13 @@ loop-at-preserved c =
     let many : length c.loop-at.self.sources ≡ n = (inv.3).as_many ∙ c.requires.blocks in
     let names = tree.get nat_cmp c.args.names.now.numbers in
     let sources : AddsTo c.loop-at.self.sources c.add_value.new.self.sources (LeadsTo n block (successors_in v.body)) =
-    subst (λ (m : ℕ). AddsTo c.loop-at.self.sources c.add_value.new.self.sources (LeadsTo m block (successors_in v.body))) many c.in_ok-add_value.ensures.sources in
+    subst (λ (m : ℕ). AddsTo c.loop-at.self.sources c.add_value.new.self.sources
+    (LeadsTo m block (successors_in v.body))) many c.in_ok-add_value.ensures.sources in
     let defined : AddsTo c.loop-at.self.defined c.add_value.new.self.defined (DefinesOne n block (names v.id)) =
     subst (λ (m : ℕ). AddsTo c.loop-at.self.defined c.add_value.new.self.defined (DefinesOne m block (names v.id))) many c.in_ok-add_value.ensures.defined in (
       inv.0 ++ v ∷ [],
-      walk_on p block inv.0 c.loop-at.at c.next-at.result c.in-Some.node v inv.1 c.in-Some.is (c.value-value.ensures.head block there) (c.next-at.ensures.rest block there)
+      walk_on p block inv.0 c.loop-at.at c.next-at.result c.in-Some.node v inv.1 c.in-Some.is (c.value-value.ensures.head block there)
+          (c.next-at.ensures.rest block there)
           (c.next-at.ensures.there block there),
       c.in_ok-add_value.ensures.names ∙ inv.2,
       values_more n block inv.0 v c.args.self.now.sources c.loop-at.self.sources c.add_value.new.self.sources inv.3 sources,

@@ -21,6 +21,7 @@ loop-next-preserved c =
     subst (λ (m : ℕ). AddsTo mid new (LeadsToOne m c.args.block next)) (inv.sources).as_many c.in_ok-add_successor.ensures.sources in
     record {
       names = c.in_ok-add_successor.ensures.names ∙ inv.names;
-      sources = subst (λ l. AddsTo old new (LeadsTo n c.args.block l)) (sym more) (successors_more n c.args.block next (take i nexts) old mid new inv.sources step);
+      sources = subst (λ l. AddsTo old new (LeadsTo n c.args.block l)) (sym more)
+          (successors_more n c.args.block next (take i nexts) old mid new inv.sources step);
       defined = c.in_ok-add_successor.ensures.defined ∙ inv.defined;
     }

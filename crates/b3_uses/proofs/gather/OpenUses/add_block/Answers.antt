@@ -31,8 +31,10 @@ loop-at-preserved c =
     let v = c.value-value.result.now in
     let there = rw c.in-Some.is at (c.loop-at.invariant.1).there in (
       inv.0 ++ v ∷ [],
-      walk_on p block inv.0 c.loop-at.at c.next-at.result c.in-Some.node v inv.1 c.in-Some.is (c.value-value.ensures.head block there) (c.next-at.ensures.rest block there)
+      walk_on p block inv.0 c.loop-at.at c.next-at.result c.in-Some.node v inv.1 c.in-Some.is (c.value-value.ensures.head block there)
+          (c.next-at.ensures.rest block there)
           (c.next-at.ensures.there block there),
       seen_more (keys.contains nat_cmp c.loop-at.earlier) (keys.contains nat_cmp c.add_key.new.set) inv.0 v inv.2 c.in_ok-add_key.ensures,
-      value_noted c.args.self.now c.loop-at.self c.add_value.new.self block (keys.contains nat_cmp c.loop-at.earlier) inv.0 v inv.2 inv.3 c.in_ok-add_value.ensures,
+      value_noted c.args.self.now c.loop-at.self c.add_value.new.self block
+          (keys.contains nat_cmp c.loop-at.earlier) inv.0 v inv.2 inv.3 c.in_ok-add_value.ensures,
     )

@@ -19,7 +19,8 @@ loop-id-preserved c =
     subst (λ l. Adds old c.if-not-contains.self (IsAskedHere c.args.block line earlier l)) (sym more)
     (elim c.if-not-contains.branch [
       | then-not-contains+in_ok-add w ↦ subst (λ new. Adds old new (IsAskedHere c.args.block line earlier (take i ids ++ id ∷ []))) (sym w.self-is)
-          (child_noted old c.loop-id.self w.add.new.self c.args.block line earlier (take i ids) id c.loop-id.invariant (sym c.contains.ensures ∙ w.if-not-contains.true) w.in_ok-add.ensures)
+          (child_noted old c.loop-id.self w.add.new.self c.args.block line earlier (take i ids) id c.loop-id.invariant
+          (sym c.contains.ensures ∙ w.if-not-contains.true) w.in_ok-add.ensures)
       | else-not-contains w ↦ subst (λ new. Adds old new (IsAskedHere c.args.block line earlier (take i ids ++ id ∷ []))) (sym w.self-is)
           (child_seen old c.loop-id.self c.args.block line earlier (take i ids) id c.loop-id.invariant (sym c.contains.ensures ∙ w.if-not-contains.false))
     ])
