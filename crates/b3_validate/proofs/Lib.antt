@@ -1,0 +1,5 @@
+pub mod Finding
+pub mod Leasts
+pub mod Walking
+pub mod Entries
+pub mod Numbers

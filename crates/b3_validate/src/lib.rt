@@ -1,0 +1,5 @@
+//! Whether a module is valid, and the first rule that it breaks.
+#![tactic(auto)]
+
+mod index;
+mod spot;
