@@ -3,3 +3,5 @@
 
 mod index;
 mod spot;
+mod stubs;
+mod values;
