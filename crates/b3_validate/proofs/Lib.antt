@@ -6,3 +6,4 @@ pub mod Numbers
 pub mod RuleNumbers
 pub mod Loops
 pub mod Judging
+pub mod Parts

@@ -11,12 +11,16 @@ use Rattle.b3_validate.specs.declared.spot.Spot.{Spot}
 abbrev pub IsNoLaterSpot : Spot → Spot → Type 0
 IsNoLaterSpot a b = (a.line < b.line) ⊎ ((a.line ≡ b.line) × (number_of a.rule ≤ number_of b.rule))
 
--- of two spots, the one that comes no later
+-- one spot comes before another
+abbrev pub IsBeforeSpot : Spot → Spot → Type 0
+IsBeforeSpot a b = (a.line < b.line) ⊎ ((a.line ≡ b.line) × (number_of a.rule < number_of b.rule))
+
+-- of two spots, the first where it comes no later, and else the second
 abbrev pub IsSooner : Option Spot → Option Spot → Option Spot → Type 0
 IsSooner None b r = r ≡ b
 IsSooner (Some a) None r = r ≡ Some a
 IsSooner (Some a) (Some b) r =
-    ((r ≡ Some a) × IsNoLaterSpot a b) ⊎ ((r ≡ Some b) × IsNoLaterSpot b a)
+    ((r ≡ Some a) × IsNoLaterSpot a b) ⊎ ((r ≡ Some b) × IsBeforeSpot b a)
 
 -- the first of the spots at which something is broken, or none where all is kept
 abbrev pub IsLeast : Type 0 → (Spot → Type 0) → Option Spot → Type 0

@@ -1,7 +1,7 @@
 //! Where rules are broken.
 
 ghost use Rattle.std.specs.Prelude.{◌≡◌, false, Some, None, IsTrue, option_map};
-ghost use Rattle.b3_validate.specs.Spots.{IsNoLaterSpot, IsSooner};
+ghost use Rattle.b3_validate.specs.Spots.{IsBeforeSpot, IsNoLaterSpot, IsSooner};
 
 use b3_rules::Rule;
 
@@ -16,7 +16,7 @@ impl Spot {
     /// Whether it comes no later than another: by line, and on one line by the number of the rule.
     pub(crate) fn is_no_later(self, other: Spot) -> bool
         ensures yes { IsTrue result → IsNoLaterSpot self other }
-        ensures no { result ≡ false → IsNoLaterSpot other self }
+        ensures no { result ≡ false → IsBeforeSpot other self }
     {
         self.line < other.line
             || self.line == other.line && self.rule.number() <= other.rule.number()
