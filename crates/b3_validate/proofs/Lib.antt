@@ -7,3 +7,4 @@ pub mod RuleNumbers
 pub mod Loops
 pub mod Judging
 pub mod Parts
+pub mod Firsts
