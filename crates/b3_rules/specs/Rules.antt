@@ -4,12 +4,11 @@ use Rattle.std.specs.Prelude.{◌≡◌, ◌≢◌, ℕ, ◌+◌, ◌-◌, ◌^�
 use Rattle.b3_base.specs.Arithmetic.{low}
 use Rattle.b3_ir.specs.Naming.{all_values, type_of, value_named}
 use Rattle.b3_ir.specs.Procedure.{Block, Procedure, StandsAt, values_of}
-use Rattle.b3_ir.specs.Table.{is_terminal}
 use Rattle.b3_ir.specs.Types.{allows_types, width_of}
 use Rattle.b3_ir.specs.declared.opcode.Opcode.{Opcode}
 use Rattle.b3_ir.specs.declared.opcode.Opcode.TheVariants.{ArgumentReg, CCall, Patchpoint, Phi, Return}
 use Rattle.b3_ir.specs.declared.opcode.Ty.{Ty}
-use Rattle.b3_ir.specs.declared.opcode.Ty.TheVariants.{Void, Int32, Int64}
+use Rattle.b3_ir.specs.declared.opcode.Ty.TheVariants.{Void, Int32}
 use Rattle.b3_ir.specs.declared.procedure.SlotLine.{SlotLine}
 use Rattle.b3_ir.specs.declared.value.Body.{Body}
 use Rattle.b3_ir.specs.declared.value.Body.TheVariants.{Argument, Cases, Slot, Target}

@@ -33,6 +33,12 @@ pub nth_from_literal : (p : ℕ → Bool) (map : Stackmap) (typed : Bool) (k : �
 unfolding allocatable
 nth_from_literal p map typed k same = nth_alike p (is_allowed map typed) allocatable k same
 
+pub count_from_literal : (p : ℕ → Bool) (map : Stackmap) (typed : Bool) → ((r : ℕ) → p r ≡ is_allowed map typed r)
+    → length (filter p (0 ∷ 1 ∷ 2 ∷ 3 ∷ 4 ∷ 5 ∷ 6 ∷ 7 ∷ 8 ∷ 9 ∷ 10 ∷ 11 ∷ 12 ∷ 13 ∷ 14 ∷ 19 ∷ 20 ∷ 21 ∷ 22 ∷ 23 ∷ 24 ∷ 25 ∷ 26 ∷ 27 ∷ 28 ∷ []))
+    ≡ length (allowed map typed)
+unfolding allocatable
+count_from_literal p map typed same = ap length (filter_alike p (is_allowed map typed) allocatable same)
+
 -- a placed child has fewer placed ones before it than there are
 pub placed_less : (cs : List Constraint) (k : ℕ) (c : Constraint) → slice_get cs k ≡ Some c → is_placed c ≡ true → placed_count (take k cs) < placed_count cs
 placed_less [] k c at placed = absurd (cc)

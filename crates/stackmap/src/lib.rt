@@ -5,13 +5,14 @@
 mod constraint;
 mod obeying;
 mod placing;
-mod set;
+pub mod set;
 mod site;
 #[cfg(test)]
 mod tests;
 
+pub use constraint::{fixed_by, has_result, is_late};
 pub use obeying::obeys;
-pub use placing::{register_for, result_register};
+pub use placing::{has_registers, register_for, result_register, with_fixed};
 pub use site::{
     Place, Places, Rep, Returns, Saved, SavedRow, Site, SiteKind, Sites, SlotRow, SlotRows,
 };

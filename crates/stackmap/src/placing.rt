@@ -1,12 +1,12 @@
 //! Placing: the registers that the reported children and the result of a stackmap value take.
 
-ghost use Rattle.std.specs.Prelude.{◌≡◌, ◌<◌, ◌≤◌, ◌↔◌, ◌||◌, ℕ, true, false, not, length, take, slice_get, IfSome, IsTrue, All};
+ghost use Rattle.std.specs.Prelude.{◌≡◌, ◌<◌, ◌≤◌, ◌↔◌, ◌&&◌, ◌||◌, ℕ, true, false, not, length, take, slice_get, IfSome, IsTrue, All};
 ghost use Rattle.std.specs.List.{filter, list_any};
-ghost use Rattle.stackmap.specs.Registers.{constraints_of, fixes, has, has_result, stackmap_in, stands_anywhere};
+ghost use Rattle.stackmap.specs.Registers.{constraints_of, fixes, has, has_result, is_placed_result, stackmap_in, stands_anywhere};
 ghost use Rattle.stackmap.specs.Placing.{child_register, is_allowed, nth_allowed, placed_count, register_for, register_numbered, result_in, result_register};
 ghost use Rattle.stackmap.specs.PlacesObey.{PlacesObey};
 ghost use Rattle.b3_ir.specs.declared.value.Stackmap.{Stackmap};
-ghost use Rattle.stackmap.specs.Rules.{IsPlaceable, FixesAllocatable};
+ghost use Rattle.stackmap.specs.Rules.{FixesAllocatable, HasRegisters, IsPlaceable};
 
 use crate::constraint::{fixed_by, has_result, is_placed, is_placed_result};
 use crate::set;
@@ -50,6 +50,29 @@ pub fn result_register(value: &Value) -> Option<Reg>
         Body::Map(map) => placed_result(map),
         _ => None,
     }
+}
+
+/// Whether as many registers are allowed as the reported children and the result ask for; `typed` says
+/// whether there is a result. It takes no memory.
+pub fn has_registers(map: &Stackmap, typed: bool) -> bool
+    requires fixed { All FixesAllocatable map.now.constraints }
+    requires result { typed ≡ true → FixesAllocatable map.now.result }
+    ensures { IsTrue result ↔ HasRegisters typed map.now }
+{
+    let children = placed_before(map, map.constraints.len());
+    let allowed = count_outside(&ALLOCATABLE, excluded(map, typed));
+    if asks_for_one(typed, map.result) {
+        children < allowed
+    } else {
+        children <= allowed
+    }
+}
+
+// Whether a result of this constraint, where there is one, is placed.
+fn asks_for_one(typed: bool, result_wants: Constraint) -> bool
+    ensures { result ≡ (typed && is_placed_result result_wants) }
+{
+    typed && is_placed_result(result_wants)
 }
 
 fn child_register(map: &Stackmap, typed: bool, child: usize) -> Option<Reg>
@@ -129,7 +152,8 @@ fn fixed_for(constraints: &[Constraint]) -> u32
     fixed
 }
 
-fn with_fixed(fixed: u32, constraint: Constraint) -> u32
+/// The set with the register that a constraint fixes, if it fixes one.
+pub fn with_fixed(fixed: u32, constraint: Constraint) -> u32
     requires { FixesAllocatable constraint }
     ensures { (r : ℕ) → has result r ≡ (has fixed r || fixes r constraint) }
 {
@@ -153,4 +177,17 @@ fn nth_outside(registers: &[u8], excluded: u32, at: usize) -> Option<Reg>
         }
     }
     None
+}
+
+// How many registers stand outside a set.
+fn count_outside(registers: &[u8], excluded: u32) -> usize
+    ensures { result ≡ length (filter (λ r. not (has excluded r)) registers.now) }
+{
+    let mut count = 0;
+    for r in registers {
+        if !set::is_in(excluded, *r) {
+            count += 1;
+        }
+    }
+    count
 }
