@@ -1,0 +1,7 @@
+pub mod Contained
+pub mod Covering
+pub mod Adding
+pub mod Noting
+pub mod Walking
+pub mod Turning
+pub mod Deciding

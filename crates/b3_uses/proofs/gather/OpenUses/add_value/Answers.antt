@@ -1,0 +1,25 @@
+use Rattle.std.proofs.Common.{◌≡◌, ℕ, ◌+◌, [], ◌∷◌, ◌++◌, take, sym, subst, ◌∙◌}
+use Rattle.std.specs.BTreeSet as keys
+use Rattle.std.specs.Ordering.{nat_cmp}
+use Rattle.std.specs.Prelude.{slice_index_or}
+use Rattle.b3_uses.specs.Open.{Adds, IsAskedHere}
+use Rattle.b3_uses.proofs.Noting.{child_noted, child_seen, one_more}
+use Rattle.b3_uses.proofs.gather.OpenUses.add_value.Goals as goal
+use Rattle.b3_uses.proofs.gather.OpenUses.add_value.Goals.{then-not-contains+in_ok-add, else-not-contains}
+
+pub loop-id-preserved : goal.loop-id-preserved
+loop-id-preserved c =
+    let old = c.args.self.now in
+    let line = c.args.value.now.line in
+    let earlier = keys.contains nat_cmp c.args.earlier.now in
+    let ids = c.args.value.now.children in
+    let i = c.loop-id.id-index in
+    let id : ℕ = slice_index_or c.as_slice-id-items.result.now i 0 in
+    let more : take (i + 1) ids ≡ take i ids ++ id ∷ [] = one_more c.as_slice-id-items.result.now ids i c.as_slice-id-items.ensures c.loop-id-test.true in
+    subst (λ l. Adds old c.if-not-contains.self (IsAskedHere c.args.block line earlier l)) (sym more)
+    (elim c.if-not-contains.branch [
+      | then-not-contains+in_ok-add w ↦ subst (λ new. Adds old new (IsAskedHere c.args.block line earlier (take i ids ++ id ∷ []))) (sym w.self-is)
+          (child_noted old c.loop-id.self w.add.new.self c.args.block line earlier (take i ids) id c.loop-id.invariant (sym c.contains.ensures ∙ w.if-not-contains.true) w.in_ok-add.ensures)
+      | else-not-contains w ↦ subst (λ new. Adds old new (IsAskedHere c.args.block line earlier (take i ids ++ id ∷ []))) (sym w.self-is)
+          (child_seen old c.loop-id.self c.args.block line earlier (take i ids) id c.loop-id.invariant (sym c.contains.ensures ∙ w.if-not-contains.false))
+    ])
