@@ -260,9 +260,6 @@ module _ (ps : List Procedure) (k : ℕ) (p : Procedure) (there : slice_get ps k
     ],
   )
 
-pub but_uses : (ps : List Procedure) (k : ℕ) (p : Procedure) → KeepsSome IsOther ps k p → KeepsAllButUses p
-but_uses ps k p keeps r part is is_part = (keeps r is).1 part is_part
-
 -- ---- the whole module
 
 within : (ps : List Procedure) (b : Breach) → IsBreach ps b → b.procedure < length ps

@@ -2,7 +2,7 @@
 
 ghost use Rattle.std.specs.Prelude.{◌≡◌, length, None, Some, IfOk, option_map, if◌then◌else◌};
 ghost use Rattle.b3_ir.specs.Procedure.{procedures};
-ghost use Rattle.b3_validate.specs.Firsts.{IsEarlierOf, IsFirstBelow, IsOther, IsUses, KeepBelow};
+ghost use Rattle.b3_validate.specs.Firsts.{IsEarlierOf, IsFirstBelow, IsOther, IsUses};
 
 use crate::procedure::procedure_breach;
 use crate::spot::{Spot, sooner, spot_on};
@@ -80,10 +80,8 @@ fn use_spot(line: Option<u32>) -> Option<Spot>
     }
 }
 
-/// The first breach of a module of the rule on uses, where it breaks no other. It is refused for want of memory
-/// alone.
+/// The first breach of a module of the rule on uses. It is refused for want of memory alone.
 pub(crate) fn use_breach(alloc: Global, module_: &Module) -> Result<Option<Found>, NoMemory>
-    requires { KeepBelow IsOther (procedures module_.now) (length module_.now) }
     ensures { IfOk result (IsFirstBelow IsUses (procedures module_.now) (length module_.now)) }
 {
     let mut found = None;

@@ -7,7 +7,6 @@ mod index;
 mod judge;
 mod procedure;
 mod spot;
-mod stubs;
 mod valid;
 
 mod values;

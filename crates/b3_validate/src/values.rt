@@ -1,7 +1,6 @@
 //! The rules that a value keeps.
 
 ghost use Rattle.std.specs.Prelude.{◌≡◌, ◌↔◌, ◌∷◌, [], ℕ, All, IfOk, IsTrue};
-ghost use Rattle.b3_ir.specs.Fits.{Fits};
 ghost use Rattle.b3_ir.specs.Procedure.{IsAt, IsIn, Kept, StandsAt};
 ghost use Rattle.b3_ir.specs.Table as table;
 ghost use Rattle.b3_rules.specs.Least.{IsLeastBroken};
@@ -11,10 +10,9 @@ ghost use Rattle.b3_rules.specs.Valid.{ValueKeeps};
 ghost use Rattle.b3_validate.specs.Index.{IsIndexOf};
 
 use crate::index::{Index, is_return};
-use crate::stubs::{cases_keep, site_breach};
 use b3_base::NoMemory;
 use b3_ir::{Body, NodeId, Opcode, Proc, Ty, Value, allows_types};
-use b3_rules::Rule;
+use b3_rules::{Rule, cases_keep, site_breach};
 use std::alloc::Global;
 
 /// Whether an opcode ends a block.
@@ -256,7 +254,6 @@ pub(crate) fn value_breach(
 ) -> Result<Option<Rule>, NoMemory>
     requires index { IsIndexOf p.now index.now }
     requires node { IsIn p.now node block }
-    requires fits { Fits value.now }
     ensures { IfOk result (λ broken. (j : ℕ) → IsAt p.now node block j → StandsAt p.now.procedure block j value.now →
         IsLeastBroken 1 19 (λ r. ValueKeeps r p.now.procedure block j value.now) broken) }
 {

@@ -4,15 +4,8 @@ use Rattle.std.proofs.lemmas.Option.{slice_get_within}
 use Rattle.b3_ir.specs.Procedure.{Kept, procedures}
 use Rattle.b3_validate.specs.declared.spot.Spot.{Spot}
 use Rattle.b3_validate.specs.Firsts.{IsFirstAt, IsUses}
-use Rattle.b3_validate.proofs.Firsts.{but_uses, first_next, procedure_at, uses_first}
+use Rattle.b3_validate.proofs.Firsts.{first_next, procedure_at, uses_first}
 use Rattle.b3_validate.proofs.found.use_breach.Goals as goal
-
-pub uncovered_use-requires : goal.uncovered_use-requires
-uncovered_use-requires c =
-    let ms = c.args.module_.now in
-    let p = c.proc.result.now in
-    let n = c.loop-at.at in
-    but_uses (procedures ms) n p.procedure (c.requires n p.procedure (procedure_at ms n p c.proc.ensures) (slice_get_within ms n p c.proc.ensures))
 
 pub loop-at-preserved : goal.loop-at-preserved
 loop-at-preserved c =
