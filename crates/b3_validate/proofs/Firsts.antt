@@ -53,13 +53,16 @@ no_later_through a b c x y =
       | inl less ↦ elim y [ inl more ↦ inl (omega arith) | inr same ↦ inl (omega (arith, same.0)) ]
       | inr same ↦ elim y [
         | inl more ↦ inl (omega (arith, same.0))
-        | inr also ↦ inr (same.0 ∙ also.0, elim same.1 [
-          | inl lower ↦ elim also.1 [ inl more ↦ inl (omega arith) | inr one ↦ inl (let n : number_of b.rule ≡ number_of c.rule = ap number_of one.0 in omega arith) ]
-          | inr one ↦ elim also.1 [
-            | inl more ↦ inl (let n : number_of a.rule ≡ number_of b.rule = ap number_of one.0 in omega arith)
-            | inr two ↦ inr (one.0 ∙ two.0, omega (arith, one.1, two.1))
-          ]
-        ])
+        | inr also ↦ inr (
+          same.0 ∙ also.0,
+          elim same.1 [
+            | inl lower ↦ elim also.1 [ inl more ↦ inl (omega arith) | inr one ↦ inl (let n : number_of b.rule ≡ number_of c.rule = ap number_of one.0 in omega arith) ]
+            | inr one ↦ elim also.1 [
+              | inl more ↦ inl (let n : number_of a.rule ≡ number_of b.rule = ap number_of one.0 in omega arith)
+              | inr two ↦ inr (one.0 ∙ two.0, omega (arith, one.1, two.1))
+            ]
+          ],
+        )
       ]
     ]
 
@@ -332,9 +335,9 @@ no_names ps has empty q = (λ yes. absurd (false≢true (sym (empty q) ∙ yes))
 pub new_name : (ps : List Procedure) (n : ℕ) (p : Procedure) (name : Bor (List ℕ)) (has : Bor (List ℕ) → Bool) (new : Bool) → Naming ps n has → name.now ≡ p.name → new ≡ not (has name) → IsTrue new ↔ HasNewName ps n p
 new_name ps n p name has new naming is e = (
   λ yes k q there less same.
-    let had : has name ≡ true = (naming name).1 (k, q, there, less, same ∙ sym is) in
-    let said : new ≡ false = e ∙ ap not had in
-    false≢true (sym said ∙ yes),
+      let had : has name ≡ true = (naming name).1 (k, q, there, less, same ∙ sym is) in
+      let said : new ≡ false = e ∙ ap not had in
+      false≢true (sym said ∙ yes),
   λ fresh. elim (cases_Bool (has name)) [
     | inl had ↦ absurd (let h = (naming name).0 had in fresh h.0 h.1 h.2 h.3 (h.4 ∙ is))
     | inr absent ↦ e ∙ ap not absent

@@ -32,9 +32,9 @@ phi_held p id types entry t named phi tells =
     let there = named_first p.procedure id named.block named.place v named.first in (
       λ yes. (v, there, sym named.opcode ∙ phi, tells.0 yes ∙ ap (λ (ty : Ty). ty ∷ []) named.ty),
       λ h.
-        let other : value_named p.procedure id ≡ Some h.0 = h.1 in
-        let same : h.0 ≡ v = cc in
-        tells.1 (h.3 ∙ ap (λ (w : Value). w.ty ∷ []) same ∙ ap (λ (ty : Ty). ty ∷ []) (sym named.ty)),
+          let other : value_named p.procedure id ≡ Some h.0 = h.1 in
+          let same : h.0 ≡ v = cc in
+          tells.1 (h.3 ∙ ap (λ (w : Value). w.ty ∷ []) same ∙ ap (λ (ty : Ty). ty ∷ []) (sym named.ty)),
     )
 
 pub phi_failed : (p : Kept) (id : ℕ) (types : List Ty) (entry : Named) (t : Bool) → IsNamedAt p id entry → (IsTrue t ↔ (entry.opcode ≡ Phi)) → t ≡ false → IsTrue t ↔ IsPhiOf p.procedure id types
@@ -43,18 +43,18 @@ phi_failed p id types entry t named tells fails =
     let there = named_first p.procedure id named.block named.place v named.first in (
       λ yes. absurd (false≢true (sym fails ∙ yes)),
       λ h.
-        let there_too : value_named p.procedure id ≡ Some h.0 = h.1 in
-        let same : h.0 ≡ v = cc in
-        tells.1 (named.opcode ∙ sym (ap (λ (w : Value). w.kind.opcode) same) ∙ h.2),
+          let there_too : value_named p.procedure id ≡ Some h.0 = h.1 in
+          let same : h.0 ≡ v = cc in
+          tells.1 (named.opcode ∙ sym (ap (λ (w : Value). w.kind.opcode) same) ∙ h.2),
     )
 
 pub phi_none : (p : Kept) (id : ℕ) (types : List Ty) → NonePasses p.procedure (has_id id) → IsTrue false ↔ IsPhiOf p.procedure id types
 phi_none p id types none = (
   λ yes. absurd (false≢true yes),
   λ h.
-    let there : value_named p.procedure id ≡ Some h.0 = h.1 in
-    let nothing : value_named p.procedure id ≡ None = named_none p.procedure id none in
-    absurd cc,
+      let there : value_named p.procedure id ≡ Some h.0 = h.1 in
+      let nothing : value_named p.procedure id ≡ None = named_none p.procedure id none in
+      absurd cc,
 )
 
 -- ---- Returns
@@ -70,9 +70,9 @@ pub alike_held : (p : Procedure) (v : Value) (types first : List Ty) (t : Bool) 
 alike_held p v types first t is are returned tells =
     let there = returned_first p returned.block returned.place returned.value returned.first in (
       λ yes _ w also.
-        let other : first_return (all_values p) ≡ Some w = also in
-        let same : w ≡ returned.value = cc in
-        sym are ∙ tells.0 yes ∙ returned.are ∙ sym (ap (types_of p) same),
+          let other : first_return (all_values p) ≡ Some w = also in
+          let same : w ≡ returned.value = cc in
+          sym are ∙ tells.0 yes ∙ returned.are ∙ sym (ap (types_of p) same),
       λ alike. tells.1 (are ∙ alike (opcode_returns v.kind.opcode is) returned.value there ∙ sym returned.are),
     )
 

@@ -72,11 +72,14 @@ module _ (p : Procedure) (part : Part) (is_part : IsPartOf p part) where
       breaks = least.1;
     },
     λ s b.
-      let same_line : line ≡ s.line = on_line ∙ sym (ap (line_of p) b.is_seen) ∙ b.on_line in
-      inr (same_line, elim (cases_lt (number_of s.rule) (number_of r)) [
-        | inl less ↦ absurd (b.breaks (keeps_here s.rule b.part b.is_seen (least.2 s.rule (in_range s.rule b.other_rule) less)))
-        | inr more ↦ more
-      ]),
+        let same_line : line ≡ s.line = on_line ∙ sym (ap (line_of p) b.is_seen) ∙ b.on_line in
+        inr (
+          same_line,
+          elim (cases_lt (number_of s.rule) (number_of r)) [
+            | inl less ↦ absurd (b.breaks (keeps_here s.rule b.part b.is_seen (least.2 s.rule (in_range s.rule b.other_rule) less)))
+            | inr more ↦ more
+          ],
+        ),
   )
 
   pub one_part : (line : ℕ) (o : Option Rule) (spot : Option Spot) → line ≡ line_of p part → IsLeastBroken 1 19 (λ r. Keeps r p part) o → spot ≡ option_map (λ r. record { line = line; rule = r }) o → IsLeastIn p (IsPart part) spot
@@ -101,6 +104,7 @@ module _ (p : Procedure) (a b r : Option Spot) (sooner : IsSooner a b r) where
                 inr (cc)
           ]
       split _ at none = absurd none
+
       first : (part : Part) → IsPartOf p part → IsSlotBelow n part → IsSlotBelow (n + 1) part
       first (SlotAt place other) at less = omega arith
       first _ at none = none
@@ -120,6 +124,7 @@ module _ (p : Procedure) (a b r : Option Spot) (sooner : IsSooner a b r) where
                 inr (cc)
           ]
       split _ at none = absurd none
+
       first : (part : Part) → IsPartOf p part → IsInBlock block n part → IsInBlock block (n + 1) part
       first (ValueAt c place other) at seen = (seen.0, omega (arith, seen.1))
       first _ at none = none
@@ -151,10 +156,12 @@ module _ (p : Procedure) (a b r : Option Spot) (sooner : IsSooner a b r) where
                 inr (inr (now, slice_get_within (values_of p n) place other moved))
           ]
       split _ at none = absurd none
+
       first : (part : Part) → IsPartOf p part → IsOfBlocksBelow n part → IsOfBlocksBelow (n + 1) part
       first (HeadingAt place other) at less = omega arith
       first (ValueAt c place other) at less = omega arith
       first _ at none = none
+
       second : (part : Part) → IsPartOf p part → IsOfBlock n block part → IsOfBlocksBelow (n + 1) part
       second part at seen =
           elim seen [

@@ -40,7 +40,7 @@ IsFirstAt some ps k p None = KeepsSome some ps k p
 IsFirstAt some ps k p (Some spot) =
     some spot.rule × IsBreach ps (breach_at k spot)
     × ((other : Breach) → some other.rule → IsBreach ps other → other.procedure ≡ k
-      → IsNoLaterSpot spot (record { line = other.line; rule = other.rule }))
+    → IsNoLaterSpot spot (record { line = other.line; rule = other.rule }))
 
 -- the first breach of some of the rules in the procedures before a place
 abbrev pub IsFirstBelow : (Rule → Type 0) → List Procedure → ℕ → Option Found → Type 0

@@ -7,10 +7,11 @@ mod index;
 mod judge;
 mod procedure;
 mod spot;
+#[cfg(test)]
+mod tests;
 mod valid;
-
 mod values;
 
 pub use fault::ValidateFault;
-pub use valid::Valid;
 pub use judge::validate;
+pub use valid::Valid;

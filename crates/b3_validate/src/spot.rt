@@ -28,10 +28,7 @@ pub(crate) fn spot_on(line: u32, broken: Option<Rule>) -> Option<Spot>
     ensures { result ≡ option_map (λ rule. record { line = line; rule = rule }) broken }
 {
     match broken {
-        Some(rule) => Some(Spot {
-            line,
-            rule,
-        }),
+        Some(rule) => Some(Spot { line, rule }),
         None => None,
     }
 }

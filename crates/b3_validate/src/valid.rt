@@ -31,9 +31,7 @@ impl Valid {
         requires { IsValid (procedures module_) }
         ensures { result ≡ module_ }
     {
-        Valid {
-            module: module_,
-        }
+        Valid { module: module_ }
     }
 
     /// The module.

@@ -35,13 +35,7 @@ fn is_last(p: &Proc, block: usize, node: NodeId) -> bool
 }
 
 /// The first of the rules on ids and ends of blocks that the value of a node breaks.
-fn place_breach(
-    p: &Proc,
-    index: &Index,
-    block: usize,
-    node: NodeId,
-    value: &Value,
-) -> Option<Rule>
+fn place_breach(p: &Proc, index: &Index, block: usize, node: NodeId, value: &Value) -> Option<Rule>
     requires index { IsIndexOf p.now index.now }
     requires node { IsIn p.now node block }
     ensures { (j : ℕ) → IsAt p.now node block j → StandsAt p.now.procedure block j value.now →

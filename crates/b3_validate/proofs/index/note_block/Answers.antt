@@ -16,11 +16,11 @@ loop-at-preserved c =
     let h = here p b c.in-Some.node v reached.there c.value-value.ensures.value in
     let named = reached.known h.place h.left in
     let next : AreNamedBefore p b (h.place + 1) c.if-not-contains_key.ids =
-        elim c.if-not-contains_key.branch [
-          | then-not-contains_key+in_ok-insert w ↦
-              rw w.ids-is (id_added p b h.place v h.stands (λ q. get nat_eq c.loop-at.ids q) (λ q. get nat_eq w.insert.new.self q) _ named (sym c.contains_key.ensures ∙ w.if-not-contains_key.true) h.node_at refl refl w.in_ok-insert.ensures.updates.0)
-          | else-not-contains_key w ↦ rw w.ids-is (id_known p b h.place v h.stands (λ q. get nat_eq c.loop-at.ids q) named (sym c.contains_key.ensures ∙ w.if-not-contains_key.false))
-        ] in
+    elim c.if-not-contains_key.branch [
+      | then-not-contains_key+in_ok-insert w ↦
+          rw w.ids-is (id_added p b h.place v h.stands (λ q. get nat_eq c.loop-at.ids q) (λ q. get nat_eq w.insert.new.self q) _ named (sym c.contains_key.ensures ∙ w.if-not-contains_key.true) h.node_at refl refl w.in_ok-insert.ensures.updates.0)
+      | else-not-contains_key w ↦ rw w.ids-is (id_known p b h.place v h.stands (λ q. get nat_eq c.loop-at.ids q) named (sym c.contains_key.ensures ∙ w.if-not-contains_key.false))
+    ] in
     reached_next p b (λ n. AreNamedBefore p b n c.if-not-contains_key.ids) c.in-Some.node c.next-at.result v h next (c.next-at.ensures.rest b reached.there) (c.next-at.ensures.there b reached.there)
 
 pub returns : goal.returns
