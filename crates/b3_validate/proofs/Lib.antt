@@ -1,0 +1,10 @@
+pub mod Finding
+pub mod Leasts
+pub mod Walking
+pub mod Entries
+pub mod Numbers
+pub mod RuleNumbers
+pub mod Loops
+pub mod Judging
+pub mod Parts
+pub mod Firsts

@@ -1,0 +1,4 @@
+pub mod Spots
+pub mod Index
+pub mod Firsts
+pub mod Faults
