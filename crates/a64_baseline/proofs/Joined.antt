@@ -12,7 +12,7 @@ use Rattle.std.proofs.lemmas.Grind.{flat_map-append}
 use Rattle.b3_ir.specs.Procedure.{Kept, Procedure, procedures}
 use Rattle.elf_obj.specs.declared.object.Symbol.{Symbol}
 use Rattle.a64_baseline.specs.Object.{frame_of, object_of, symbol_at, symbols_from, with_procedure, words_of}
-use Rattle.a64_baseline.proofs.Begins.{get_front, get_behind}
+use Rattle.a64_baseline.proofs.Numbering.{get_front, get_behind}
 
 -- the code of procedure k stands in a text that has `first` words before those of ps, where its symbol says
 pub record StandsInText (ps : List Procedure) (first : ℕ) (p : Procedure) (symbol : Symbol) : Type 0 where

@@ -3,6 +3,7 @@ pub mod Arguments
 pub mod Begins
 pub mod Blocks
 pub mod CodeLists
+pub mod Coding
 pub mod Entering
 mod Examples
 pub mod Sample
@@ -13,6 +14,7 @@ pub mod Leaving
 pub mod Machine
 pub mod Numbering
 pub mod Pieces
+pub mod Places
 pub mod Related
 pub mod Sizes
 pub mod Steps
