@@ -2,7 +2,7 @@
 use Rattle.std.proofs.Common.{◌≡◌, ℕ, zero, suc, ◌+◌, ◌^◌, ◌<◌, ◌≤◌, Bool, true, false, ◌||◌, List, [], ◌∷◌, ◌++◌, Option, Some, length, drop, refl, sym, ap, ◌∙◌, subst, arith, append_assoc, length-append}
 use Rattle.std.specs.Prelude.{slice_get, slice_index, slice_index_or, sum_by, IfSome, All}
 use Rattle.std.specs.List.{list_any}
-use Rattle.std.proofs.lemmas.List.{drop_more}
+use Rattle.std.proofs.lemmas.List.{drop_all, drop_more}
 use Rattle.std.proofs.lemmas.List.Sums.{sum_by-cons}
 use Rattle.b3_ir.specs.Procedure.{IsIn, Kept, Procedure, StandsAt, total, values_by_block, values_from, values_of}
 use Rattle.b3_supported.specs.Supported.{IsSupported}
@@ -11,6 +11,8 @@ use Rattle.a64_inst.specs.declared.inst.Inst.{Inst}
 use Rattle.a64_baseline.specs.Code.{prologue, argument_store, argument_stores, size_of, words_of_values, begins_from, begins_of, value_code, values_code, blocks_code, entry_code, ids_of, place_of, places_of, code_of}
 use Rattle.a64_baseline.specs.Object.{is_return, has_return}
 use Rattle.a64_baseline.specs.declared.layout.Count.{Count}
+use Rattle.a64_baseline.specs.Coded.{IsCodedValue}
+use Rattle.a64_baseline.proofs.Places.{ids_count}
 use Rattle.a64_baseline.proofs.Coding.{block_coded, place_is, value_coded}
 use Rattle.a64_baseline.proofs.Numbering.{before_zero, blocks_are, total_is, values_are}
 use Rattle.a64_baseline.proofs.Sizes.{value_size, values_size, values_words_most, stores_most, blocks_cons, begins_length}
@@ -184,6 +186,15 @@ laid_next p begins begins' values here returns returns' block count laid lt more
       all_returns = ap (λ b. b || list_any returns_some behind) returns_is ∙ or_assoc returns (returns_some vs) (list_any returns_some behind) ∙ all_returns;
     }
 
+-- past the last block all values are counted
+pub laid_whole : (p : Procedure) (begins : List ℕ) (values here : ℕ) (returns : Bool) (block : ℕ) → IsLaid p begins values here returns block → length p.blocks ≤ block → values ≡ total p
+laid_whole p begins values here returns block laid end =
+    let none : drop block (values_by_block p) ≡ [] = drop_all block (values_by_block p) (omega (arith, blocks_are p)) in
+    no_more values (total p) (subst (λ (l : List (List Value)). values + sum_by length l ≡ total p) none laid.all_values)
+  where
+    no_more : (n m : ℕ) → n + 0 ≡ m → n ≡ m
+    no_more n m e = omega arith
+
 -- ---- the stores of arguments
 -- the stores so far, with those that are left, are the stores of all
 pub record IsStored (p : Kept) (before code : List Inst) (at : Option ℕ) : Type 0 where
@@ -208,6 +219,17 @@ stored_next p built before code code' node v next stored e more rest there =
     }
 
 -- ---- the code of the values of a block
+-- what push_value asks of a value
+pub coded_by : (p : Procedure) → IsSupported p → (begins ids : List ℕ) (places : ℕ) → begins ≡ begins_of p → ids ≡ ids_of p → places ≡ places_of p → (b j : ℕ) (v : Value) → StandsAt p b j v → IsCodedValue ids places (length begins) v
+coded_by p built begins ids places e_begins e_ids e_places b j v there =
+    let count : length begins ≡ length p.blocks = omega (arith, ap (λ (l : List ℕ). length l) e_begins, begins_length (length (entry_code p)) (values_by_block p), blocks_are p) in
+    subst (λ n. IsCodedValue ids places n v) (sym count)
+    (subst (λ n. IsCodedValue ids n (length p.blocks) v) (sym e_places)
+    (subst (λ (l : List ℕ). IsCodedValue l (places_of p) (length p.blocks) v) (sym e_ids) (value_coded p built b j v there)))
+
+pub few_ids : (p : Procedure) → IsSupported p → (ids : List ℕ) → ids ≡ ids_of p → length ids ≤ 256
+few_ids p built ids e = omega (arith, ap (λ (l : List ℕ). length l) e, ids_count p, built.forms.few_values)
+
 -- each item, by its place
 all_from_index : (xs : List ℕ) → ((b : ℕ) → slice_index xs b < 2 ^ 12) → All (λ word. word < 2 ^ 12) xs
 all_from_index [] each k d lt = absurd (omega arith)

@@ -6,7 +6,7 @@ use Rattle.std.proofs.lemmas.Option.{get_or_from_slice_get, slice_get-get_or, sl
 use Rattle.b3_base.specs.declared.word.Width.TheVariants.{W64}
 use Rattle.b3_ir.specs.Fits.{Fits, HasTargets, IsArgument, IsBody, IsConstantBelow, IsTarget, reported_count}
 use Rattle.b3_ir.specs.Naming.{all_values, type_of, type_or_void, value_named}
-use Rattle.b3_ir.specs.Procedure.{Block, Procedure, StandsAt, no_block, values_by_block, values_of}
+use Rattle.b3_ir.specs.Procedure.{Block, Procedure, StandsAt, no_block, total, values_by_block, values_of}
 use Rattle.b3_ir.specs.Table.{is_terminal, row_of}
 use Rattle.b3_ir.specs.Types.{AllowsTypes, AreMore, AreTaken}
 use Rattle.b3_ir.specs.declared.opcode.Opcode.{Opcode}
@@ -233,6 +233,13 @@ module _ (p : Procedure) (built : IsSupported p) where
     where
       its_block : (b : ℕ) → b < length p.blocks → slice_get p.blocks b ≡ Some (slice_index_or p.blocks b no_block)
       its_block b lt = slice_get-get_or p.blocks b no_block lt
+
+  pub some_value : 1 ≤ total p
+  some_value = omega (arith, some_in (values_of p 0) (block_ends 0 (omega (arith, some_block))), sum_within p 0)
+    where
+      some_in : (vs : List Value) → EndsBlock vs → 1 ≤ length vs
+      some_in [] ends = absurd ends
+      some_in (v ∷ vs) ends = omega arith
 
   pub block_coded : (b : ℕ) → AreCoded p (values_of p b)
   block_coded b = all_coded (values_of p b) (λ j v there. value_coded b j v there)

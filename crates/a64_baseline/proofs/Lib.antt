@@ -11,6 +11,7 @@ pub mod Frame
 pub mod Joined
 pub mod GoodObject
 pub mod Leaving
+pub mod Listing
 pub mod Machine
 pub mod Numbering
 pub mod Pieces

@@ -1,17 +1,19 @@
 -- The numbers of values, counted over the blocks, and where the last value of a block stands.
-use Rattle.std.proofs.Common.{◌≡◌, ℕ, zero, suc, ◌+◌, ◌-◌, ◌<◌, ◌≤◌, inl, inr, true, false, List, [], ◌∷◌, ◌++◌, Some, length, map, refl, sym, ap, ◌∙◌, subst, arith}
+use Rattle.std.proofs.Common.{◌≡◌, ℕ, zero, suc, ◌+◌, ◌-◌, ◌<◌, ◌≤◌, inl, inr, true, false, List, [], ◌∷◌, ◌++◌, Some, length, map, take, refl, sym, ap, ◌∙◌, subst, arith}
 use Rattle.std.specs.Prelude.{slice_get, slice_index_or, sum_by}
 use Rattle.std.specs.List.{flat_map}
 use Rattle.std.proofs.Math.ListN.{get_or-eq_default}
 use Rattle.std.proofs.lemmas.Bool.{cases_lt}
 use Rattle.std.proofs.lemmas.List.{length-map}
 use Rattle.std.proofs.lemmas.List.Sums.{sum_by-cons}
-use Rattle.std.proofs.lemmas.Option.{slice_get_within}
+use Rattle.std.proofs.Math.Seq.{take-suc}
+use Rattle.std.proofs.lemmas.Option.{get_or_from_slice_get, slice_get_within}
 use Rattle.b3_ir.specs.Naming.{all_values}
 use Rattle.b3_ir.specs.Procedure.{Block, Procedure, StandsAt, no_block, total, values_by_block, values_of}
 use Rattle.b3_ir.specs.Table.{is_terminal}
 use Rattle.b3_ir.specs.declared.value.Value.{Value}
 use Rattle.b3_rules.specs.Rules.{IsEarlier}
+use Rattle.a64_baseline.specs.Coded.{before}
 
 -- ---- lists
 
@@ -34,6 +36,13 @@ pub get_some : {X : Type 0} (xs : List X) (k : ℕ) → k < length xs → (x : X
 get_some [] k lt = absurd (omega arith)
 get_some (x ∷ xs) zero lt = (x, refl)
 get_some (x ∷ xs) (suc k) lt = get_some xs k (omega arith)
+
+pub take_more : {X : Type 0} (xs : List X) (at : ℕ) (x : X) → slice_get xs at ≡ Some x → take (at + 1) xs ≡ take at xs ++ x ∷ []
+take_more xs at x there =
+    ap (λ n. take n xs) (next at) ∙ take-suc xs at x (slice_get_within xs at x there) ∙ ap (λ y. take at xs ++ y ∷ []) (get_or_from_slice_get xs at x x there)
+  where
+    next : (n : ℕ) → n + 1 ≡ suc n
+    next n = omega arith
 
 -- ---- the values of blocks
 
@@ -72,12 +81,6 @@ total_is p = total_of p.blocks
 
 -- ---- numbers
 
--- how many values stand before a block
-abbrev pub before : List Block → ℕ → ℕ
-before [] b = 0
-before (x ∷ blocks) zero = 0
-before (x ∷ blocks) (suc b) = length x.values + before blocks b
-
 -- the number of the value at place j of block b: those of the blocks before it, and of its own
 abbrev pub number_of : Procedure → ℕ → ℕ → ℕ
 number_of p b j = before p.blocks b + j
@@ -109,6 +112,11 @@ before_next blocks b = ap (before blocks) (next b) ∙ more blocks b
     more [] n = omega arith
     more (x ∷ all) zero = omega (arith, before_zero all)
     more (x ∷ all) (suc n) = omega (arith, more all n)
+
+-- all blocks
+pub before_all : (blocks : List Block) → before blocks (length blocks) ≡ sum_by (λ (s : Block). length s.values) blocks
+before_all [] = refl
+before_all (x ∷ blocks) = omega (arith, sum_by-cons (λ (s : Block). length s.values) x blocks, before_all blocks)
 
 -- the values of a block and of those before it are some of all
 pub sum_within : (p : Procedure) (b : ℕ) → before p.blocks b + length (values_of p b) ≤ total p

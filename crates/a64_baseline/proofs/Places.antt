@@ -1,8 +1,9 @@
 -- The places that ids name.
-use Rattle.std.proofs.Common.{◌≡◌, ◌≢◌, ℕ, zero, suc, ◌+◌, ◌<◌, ◌≤◌, Bool, true, false, List, [], ◌∷◌, Option, Some, length, map, take, refl, sym, ap, ◌∙◌, subst, arith, nat_eq, eq-eqb, ⊎_elim}
-use Rattle.std.specs.Prelude.{slice_get}
-use Rattle.std.specs.List.{list_any}
-use Rattle.std.proofs.lemmas.Bool.{ne_eqb}
+use Rattle.std.proofs.Common.{◌≡◌, ◌≢◌, ℕ, zero, suc, ◌+◌, ◌<◌, ◌≤◌, Bool, true, false, List, [], ◌∷◌, Option, Some, None, cond, length, map, take, refl, sym, ap, ◌∙◌, subst, arith, nat_eq, eq-eqb, ⊎_elim}
+use Rattle.std.specs.Prelude.{nat_lt, position, slice_get}
+use Rattle.std.specs.List.{list_any, position_or_len}
+use Rattle.std.proofs.lemmas.Bool.{ltb-false, ne_eqb}
+use Rattle.std.proofs.lemmas.List.Recursion.{is_position_or_len}
 use Rattle.std.proofs.lemmas.Bool.Decides.{eqb_tells}
 use Rattle.std.proofs.lemmas.List.{length-map}
 use Rattle.std.proofs.lemmas.List.Concat.{length-flat_map}
@@ -70,3 +71,48 @@ ids_count p = length-map (all_values p) (λ (v : Value). v.id) ∙ length-flat_m
 -- two ids that differ have two places, where one has one
 pub other_place : (p : Procedure) (i k : ℕ) → i ≢ k → place_of p i < places_of p → place_of p i ≢ place_of p k
 other_place p i k differ lt same = differ (same_place (ids_of p) i k same (omega (arith, ids_count p)))
+
+-- the place of an id is the first at which the test for it passes
+pub place_is_position : (ns : List ℕ) (id : ℕ) → place_among ns id ≡ position_or_len (nat_eq id) ns
+place_is_position ns id = is_position_or_len (λ (xs : List ℕ). place_among xs id) (nat_eq id) refl step ns
+  where
+    step : (x : ℕ) (xs : List ℕ) → place_among (x ∷ xs) id ≡ cond (nat_eq id x) 0 (1 + place_among xs id)
+    step x xs =
+        ⊎_elim
+        (λ (yes : (nat_eq id x ≡ true) × (id ≡ x)). rw (yes.0, eq-eqb x id (sym yes.1)) refl)
+        (λ (no : (nat_eq id x ≡ false) × (id ≢ x)). rw (no.0, ne_eqb x id (λ same. no.1 (sym same))) (omega arith))
+        (eqb_tells id x)
+
+pub position_most : (ns : List ℕ) (id : ℕ) → place_among ns id ≤ length ns
+position_most [] id = omega arith
+position_most (n ∷ ns) id =
+    ⊎_elim
+    (λ (yes : (nat_eq n id ≡ true) × (n ≡ id)). rw yes.0 (omega arith))
+    (λ (no : (nat_eq n id ≡ false) × (n ≢ id)). rw no.0 (let more = position_most ns id in omega arith))
+    (eqb_tells n id)
+
+pub place_found : (ns : List ℕ) (id place : ℕ) → position (nat_eq id) ns ≡ Some place → place ≡ place_among ns id
+place_found ns id place e = by (nat_lt (position_or_len (nat_eq id) ns) (length ns)) e ∙ sym (place_is_position ns id)
+  where
+    by : (b : Bool) → cond b (Some (position_or_len (nat_eq id) ns)) None ≡ Some place → place ≡ position_or_len (nat_eq id) ns
+    by true is = cc
+    by false is = cc
+
+pub place_missed : (ns : List ℕ) (id : ℕ) → position (nat_eq id) ns ≡ None → length ns ≡ place_among ns id
+place_missed ns id e = by (nat_lt (position_or_len (nat_eq id) ns) (length ns)) refl e
+  where
+    by : (b : Bool) → nat_lt (position_or_len (nat_eq id) ns) (length ns) ≡ b → cond b (Some (position_or_len (nat_eq id) ns)) None ≡ None → length ns ≡ place_among ns id
+    by true is none = cc
+    by false is none = omega (arith, ltb-false (position_or_len (nat_eq id) ns) (length ns) is, place_is_position ns id, position_most ns id)
+
+-- no id before its place is equal
+pub none_before : (ns : List ℕ) (id n : ℕ) → n ≤ place_among ns id → list_any (nat_eq id) (take n ns) ≡ false
+none_before ns id zero le = refl
+none_before [] id (suc n) le = refl
+none_before (m ∷ ns) id (suc n) le =
+    ⊎_elim
+    (λ (yes : (nat_eq m id ≡ true) × (m ≡ id)). let bad : suc n ≤ 0 = rw yes.0 at le in absurd (omega arith))
+    (λ (no : (nat_eq m id ≡ false) × (m ≢ id)).
+    let less : suc n ≤ suc (place_among ns id) = rw no.0 at le in
+    rw (ne_eqb id m (λ same. no.1 (sym same))) (none_before ns id n (omega arith)))
+    (eqb_tells m id)

@@ -1,8 +1,8 @@
 -- What a value needs to have code: places for itself and for what it names, and words at which its
 -- successors begin. No public clause cites this module.
-use Rattle.std.specs.Prelude.{◌≡◌, ℕ, ◌^◌, ◌<◌, ◌≤◌, false, List, [], ◌∷◌}
+use Rattle.std.specs.Prelude.{◌≡◌, ℕ, zero, suc, ◌+◌, ◌^◌, ◌<◌, ◌≤◌, false, List, [], ◌∷◌, length}
 use Rattle.b3_ir.specs.Fits.{IsConstantBelow}
-use Rattle.b3_ir.specs.Procedure.{place_among}
+use Rattle.b3_ir.specs.Procedure.{Block, place_among}
 use Rattle.b3_ir.specs.Table.{is_terminal}
 use Rattle.b3_ir.specs.declared.opcode.Opcode.{Opcode}
 use Rattle.b3_ir.specs.declared.opcode.Opcode.TheVariants.{ArgumentReg, Const64, Add, Sub, Phi, Upsilon, Jump, Branch, Return}
@@ -11,6 +11,12 @@ use Rattle.b3_ir.specs.declared.opcode.Ty.TheVariants.{Int64}
 use Rattle.b3_ir.specs.declared.value.Body.{Body}
 use Rattle.b3_ir.specs.declared.value.Body.TheVariants.{Argument, Target, Targets}
 use Rattle.b3_ir.specs.declared.value.Value.{Value}
+
+-- how many values stand before block b
+abbrev pub before : List Block → ℕ → ℕ
+before [] b = 0
+before (x ∷ blocks) zero = 0
+before (x ∷ blocks) (suc b) = length x.values + before blocks b
 
 -- an id names a value that has one of so many places
 abbrev pub HasPlace : List ℕ → ℕ → ℕ → Type 0
