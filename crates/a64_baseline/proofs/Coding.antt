@@ -108,6 +108,11 @@ module _ (p : Procedure) (built : IsSupported p) where
       let block : All Fits (values_of p b) = All-get_or (λ (s : Block). All Fits s.values) p.blocks b no_block (in_blocks p b j v there) built.fit in
       subst Fits (get_or_from_slice_get (values_of p b) j v v there) (All-get_or Fits (values_of p b) j v (slice_get_within (values_of p b) j v there) block)
 
+  its_form : (b j : ℕ) (v : Value) → StandsAt p b j v → IsForm v
+  its_form b j v there =
+      let at = row_get p.blocks b j v there in
+      subst IsForm (get_or_from_slice_get (all_values p) (number_of p b j) v v at) (All-get_or IsForm (all_values p) (number_of p b j) v (slice_get_within (all_values p) (number_of p b j) v at) built.forms.values)
+
   its_types : (b j : ℕ) (v : Value) → StandsAt p b j v → AllowsTypes v.kind.opcode v.ty (types_of p v)
   its_types b j v there = allowed v.kind.opcode v.ty (types_of p v) (built.valid rule.Types (ValueAt b j v) there)
 
@@ -155,9 +160,9 @@ module _ (p : Procedure) (built : IsSupported p) where
   pub return_value : (b j : ℕ) (v : Value) → StandsAt p b j v → v.kind.opcode ≡ Return → (i : ℕ) × (v.children ≡ i ∷ []) × HasValue p i Int64
   return_value b j v there op =
       let allows : AllowsTypes Return v.ty (types_of p v) = subst (λ o. AllowsTypes o v.ty (types_of p v)) op (its_types b j v there) in
-      let child = returned_child (type_of p) v.children allows.children ((built.forms.values b j v there).child op) in
+      let child = returned_child (type_of p) v.children allows.children ((its_form b j v there).child op) in
       let has = typed_value child.0 (type_of p child.0) refl child.2 in
-      let ty : type_of p child.0 ≡ Int64 = wide (type_of p child.0) child.2 (λ is. (built.forms.values has.block has.place has.value has.there).no_int32 (has.typed ∙ is)) in
+      let ty : type_of p child.0 ≡ Int64 = wide (type_of p child.0) child.2 (λ is. (its_form has.block has.place has.value has.there).no_int32 (has.typed ∙ is)) in
       (child.0, child.1, subst (HasValue p child.0) ty has)
 
   -- ---- bodies
@@ -197,7 +202,7 @@ module _ (p : Procedure) (built : IsSupported p) where
     arith_coded : (t : Ty) → t ≢ Void → v.ty ≡ t → AreTaken t (Alike ∷ Alike ∷ []) NoMore (types_of p v) → (v.ty ≡ Int64) × ((i : ℕ) × (k : ℕ) × (v.children ≡ i ∷ k ∷ []) × HasPlace (ids_of p) (places_of p) i × HasPlace (ids_of p) (places_of p) k)
     arith_coded t typed gives taken =
         let two = two_children (type_of p) v.children t taken in (
-          gives ∙ wide t typed (λ is. (built.forms.values b j v there).no_int32 (gives ∙ is)),
+          gives ∙ wide t typed (λ is. (its_form b j v there).no_int32 (gives ∙ is)),
           (two.0, two.1, two.2, child_place two.0 (λ void. typed (sym two.3 ∙ void)), child_place two.1 (λ void. typed (sym two.4 ∙ void))),
         )
 
@@ -218,7 +223,7 @@ module _ (p : Procedure) (built : IsSupported p) where
 
     pub value_coded : IsCodedIn p v
     value_coded = record {
-      form = coded_as v.kind.opcode refl (built.forms.values b j v there).coded;
+      form = coded_as v.kind.opcode refl (its_form b j v there).coded;
       own = λ other. let lt = has_place b j v there other in omega (arith, place_is b j v there);
     }
 

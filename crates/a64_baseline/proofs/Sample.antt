@@ -120,11 +120,10 @@ module _ (name : List ℕ) (line : ℕ) where
   is_valid r (ValueAt b j v) there = value_keeps r b j v there
 
   -- ---- the forms
-  has_form : (b j : ℕ) (v : Value) → StandsAt (seven name line) b j v → IsForm v
-  has_form zero zero v there = let same : constant_value ≡ v = cc in subst IsForm same (record { coded = refl; no_int32 = λ is. cc; child = λ is. absurd cc })
-  has_form zero (suc zero) v there = let same : return_value ≡ v = cc in subst IsForm same (record { coded = refl; no_int32 = λ is. cc; child = λ is. omega arith })
-  has_form zero (suc (suc j)) v there = cc
-  has_form (suc b) j v there = cc
+  all_forms : All IsForm (constant_value ∷ return_value ∷ [])
+  all_forms =
+      All-cons IsForm constant_value (return_value ∷ []) (record { coded = refl; no_int32 = λ is. cc; child = λ is. absurd cc })
+      (All-cons IsForm return_value [] (record { coded = refl; no_int32 = λ is. cc; child = λ is. omega arith }) (All-nil IsForm))
 
   all_fit : AllFit (block_of line ∷ [])
   all_fit =
@@ -137,5 +136,5 @@ module _ (name : List ℕ) (line : ℕ) where
     name = named;
     valid = is_valid;
     fit = all_fit;
-    forms = record { slots = refl; values = has_form; few_values = omega arith; few_blocks = omega arith };
+    forms = record { slots = refl; values = all_forms; few_values = omega arith; few_blocks = omega arith };
   }

@@ -1,6 +1,7 @@
 -- The forms that have code: of a value by itself, and of a procedure.
-use Rattle.std.specs.Prelude.{◌≡◌, ◌≢◌, ℕ, ◌<◌, ◌≤◌, Bool, true, false, List, [], length}
-use Rattle.b3_ir.specs.Procedure.{Procedure, StandsAt, total}
+use Rattle.std.specs.Prelude.{◌≡◌, ◌≢◌, ◌<◌, ◌≤◌, Bool, true, false, [], length, All}
+use Rattle.b3_ir.specs.Naming.{all_values}
+use Rattle.b3_ir.specs.Procedure.{Procedure, total}
 use Rattle.b3_ir.specs.declared.opcode.Opcode.{Opcode}
 use Rattle.b3_ir.specs.declared.opcode.Opcode.TheVariants.{ArgumentReg, Const64, Add, Sub, Phi, Upsilon, Jump, Branch, Return}
 use Rattle.b3_ir.specs.declared.opcode.Ty.TheVariants.{Int32}
@@ -28,6 +29,6 @@ pub record IsForm (v : Value) : Type 0 where
 -- a procedure without slots, of at most 256 values and 64 blocks, all of whose values have forms
 pub record HasForms (p : Procedure) : Type 0 where
   pub slots : p.slots ≡ []
-  pub values : (b j : ℕ) (v : Value) → StandsAt p b j v → IsForm v
+  pub values : All IsForm (all_values p)
   pub few_values : total p ≤ 256
   pub few_blocks : length p.blocks ≤ 64

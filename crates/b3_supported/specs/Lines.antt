@@ -1,5 +1,5 @@
 -- The same least line as a function that computes. No public clause cites this module.
-use Rattle.std.specs.Prelude.{ℕ, ◌+◌, Bool, true, false, ◌&&◌, not, nat_eq, nat_le, is_some, if◌then◌else◌, List, [], ◌∷◌, length, Option, Some, None}
+use Rattle.std.specs.Prelude.{ℕ, ◌+◌, Bool, true, false, ◌&&◌, not, min, nat_eq, nat_le, if◌then◌else◌, List, [], ◌∷◌, length, Option, Some, None}
 use Rattle.std.specs.List.{list_all}
 use Rattle.b3_ir.specs.Names.{begins_name, may_stand_in_name}
 use Rattle.b3_ir.specs.Procedure.{Block, Procedure}
@@ -15,7 +15,7 @@ use Rattle.b3_supported.specs.Forms.{has_code}
 abbrev pub lesser : Option ℕ → Option ℕ → Option ℕ
 lesser None b = b
 lesser (Some a) None = Some a
-lesser (Some a) (Some b) = if nat_le a b then Some a else Some b
+lesser (Some a) (Some b) = Some (min a b)
 
 -- a line where something is odd there
 abbrev pub unless : Bool → ℕ → Option ℕ

@@ -1,5 +1,5 @@
 -- The lines of the parts of procedures that have no form.
-use Rattle.std.specs.Prelude.{◌≡◌, ℕ, ◌≤◌, ◌⊎◌, List, Option, Some, None, length, slice_get, All}
+use Rattle.std.specs.Prelude.{◌≡◌, ℕ, ◌≤◌, ◌⊎◌, List, Some, length, slice_get, All}
 use Rattle.b3_ir.specs.Names.{IsName}
 use Rattle.b3_ir.specs.Naming.{all_values}
 use Rattle.b3_ir.specs.Procedure.{Block, Procedure}

@@ -1,24 +1,27 @@
 //! The line of the first odd part.
 
-ghost use Rattle.std.specs.Prelude.{◌≡◌};
-ghost use Rattle.b3_supported.specs.Forms as forms;
+ghost use Rattle.std.specs.Prelude.{◌≡◌, ◌↔◌, ℕ, None, Some};
+ghost use Rattle.b3_ir.specs.Procedure.{procedures};
+ghost use Rattle.b3_rules.specs.Valid.{IsValid};
+ghost use Rattle.b3_supported.specs.Odd.{HaveForms, IsFaultLine};
+ghost use Rattle.b3_supported.specs.Supported.{AreSupported};
 
-use b3_ir::Opcode;
+use crate::lines::{lesser, procedure_line};
+use b3_ir::Module;
 
-/// Whether an opcode has code.
-pub fn has_code(opcode: Opcode) -> bool
-    ensures { result ≡ forms.has_code opcode }
+/// The least line on which a part stands that has no code, or None where there is none: a slot, a value of
+/// another form, the 257th procedure or value, the 65th block, or a header without a name. It takes no
+/// memory.
+pub fn fault_line(module_: &Module) -> Option<u32>
+    ensures none { (result ≡ None) ↔ HaveForms (procedures module_.now) }
+    ensures some { (line : ℕ) → (result ≡ Some line) ↔ IsFaultLine (procedures module_.now) line }
+    ensures supported { IsValid (procedures module_.now) → result ≡ None → AreSupported (procedures module_.now) }
 {
-    matches!(
-        opcode,
-        Opcode::ArgumentReg
-            | Opcode::Const64
-            | Opcode::Add
-            | Opcode::Sub
-            | Opcode::Phi
-            | Opcode::Upsilon
-            | Opcode::Jump
-            | Opcode::Branch
-            | Opcode::Return
-    )
+    let mut line = None;
+    for at in 0..module_.procs() {
+        let p = module_.proc(at);
+        p.whole();
+        line = lesser(line, procedure_line(p, at));
+    }
+    line
 }

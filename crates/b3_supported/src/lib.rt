@@ -2,5 +2,7 @@
 #![tactic(auto)]
 
 mod faults;
+mod forms;
+mod lines;
 
-pub use faults::has_code;
+pub use faults::fault_line;
