@@ -1,6 +1,6 @@
 -- The object of a procedure agrees with the procedure.
 use Rattle.std.proofs.Common.{◌≡◌, ◌≢◌, ℕ, zero, suc, ◌+◌, ◌*◌, ◌/◌, ◌<◌, ◌≤◌, Bool, true, false, List, [], ◌∷◌, Some, None, length, refl, sym, ap, ◌∙◌, subst, arith, div-le_self}
-use Rattle.std.specs.Prelude.{slice_get, slice_index, slice_index_or, sum_by, map, ◌||◌, if◌then◌else◌, All}
+use Rattle.std.specs.Prelude.{slice_get, slice_index, slice_index_or, sum_by, map, ◌||◌, if◌then◌else◌}
 use Rattle.std.specs.List.{list_any}
 use Rattle.std.proofs.lemmas.List.{length-map}
 use Rattle.std.proofs.lemmas.List.Sums.{sum_by-cons}

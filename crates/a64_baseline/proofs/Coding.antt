@@ -1,10 +1,9 @@
 -- What is known of the values of a procedure that is supported: their places, and that they have code.
-use Rattle.std.proofs.Common.{◌≡◌, ◌≢◌, ℕ, zero, suc, ◌+◌, ◌^◌, ◌<◌, ◌≤◌, ◌⊎◌, inl, inr, Bool, true, false, List, [], ◌∷◌, Option, Some, None, length, map, refl, sym, ap, ◌∙◌, subst, arith, ⊎_elim}
+use Rattle.std.proofs.Common.{◌≡◌, ◌≢◌, ℕ, suc, ◌+◌, ◌<◌, ◌≤◌, ◌⊎◌, inl, inr, Bool, true, false, List, [], ◌∷◌, Option, Some, None, length, map, refl, sym, ap, ◌∙◌, subst, arith, ⊎_elim}
 use Rattle.std.specs.Prelude.{All, slice_get, slice_index_or}
 use Rattle.std.proofs.lemmas.List.Elements.{All-get_or}
 use Rattle.std.proofs.lemmas.Option.{get_or_from_slice_get, slice_get-get_or, slice_get_within}
-use Rattle.b3_base.specs.declared.word.Width.TheVariants.{W64}
-use Rattle.b3_ir.specs.Fits.{Fits, HasTargets, IsArgument, IsBody, IsConstantBelow, IsTarget, reported_count}
+use Rattle.b3_ir.specs.Fits.{Fits, HasTargets, IsArgument, IsBody, IsTarget, reported_count}
 use Rattle.b3_ir.specs.Naming.{all_values, type_of, type_or_void, value_named}
 use Rattle.b3_ir.specs.Procedure.{Block, Procedure, StandsAt, no_block, total, values_by_block, values_of}
 use Rattle.b3_ir.specs.Table.{is_terminal, row_of}

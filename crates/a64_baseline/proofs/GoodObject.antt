@@ -1,6 +1,6 @@
 -- The object of procedures is good, and is their code.
-use Rattle.std.proofs.Common.{◌≡◌, ◌≢◌, ℕ, Some, subst, zero, suc, ◌+◌, ◌*◌, ◌^◌, ◌<◌, ◌≤◌, List, [], ◌∷◌, length, refl, sym, ap, ◌∙◌, arith, length-append}
-use Rattle.std.specs.Prelude.{All, AllPairs, map, slice_get, slice_index_or, sum_by}
+use Rattle.std.proofs.Common.{◌≡◌, ◌≢◌, ℕ, Some, subst, suc, ◌+◌, ◌*◌, ◌^◌, ◌<◌, ◌≤◌, List, [], ◌∷◌, length, refl, sym, ap, ◌∙◌, arith, length-append}
+use Rattle.std.specs.Prelude.{All, AllPairs, map, slice_get, sum_by}
 use Rattle.std.specs.List.{flat_map}
 use Rattle.std.proofs.lemmas.List.Elements.{All-cons, All-get_or, All-head, All-map, All-nil, All-tail, All-weaker}
 use Rattle.std.proofs.lemmas.List.{length-map}
@@ -25,7 +25,7 @@ use Rattle.a64_baseline.specs.Code.{ids_of, places_of, entry_code, begins_of, bl
 use Rattle.a64_baseline.specs.Object.{frame_of, object_of, symbol_at, symbols_from, words_of}
 use Rattle.a64_baseline.proofs.Agreement.{agrees}
 use Rattle.a64_baseline.proofs.CodeLists.{few_places}
-use Rattle.a64_baseline.proofs.Joined.{StandsInText, each_stands}
+use Rattle.a64_baseline.proofs.Joined.{each_stands}
 use Rattle.a64_baseline.proofs.WellFormedCode.{code_short}
 
 frame_good : (p : Procedure) → IsSupported p → IsGoodFrame (frame_of p)

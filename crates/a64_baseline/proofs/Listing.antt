@@ -1,6 +1,6 @@
 -- The loops that list the ids of all values.
-use Rattle.std.proofs.Common.{◌≡◌, ℕ, ◌+◌, ◌<◌, ◌≤◌, false, List, [], ◌∷◌, ◌++◌, Option, Some, None, length, drop, map, take, refl, sym, ap, ◌∙◌, subst, arith, nat_eq}
-use Rattle.std.specs.Prelude.{slice_get, IfSome, if◌then◌else◌}
+use Rattle.std.proofs.Common.{◌≡◌, ℕ, ◌+◌, false, List, [], ◌∷◌, ◌++◌, Option, Some, None, length, drop, take, refl, sym, ap, ◌∙◌, subst, arith, nat_eq}
+use Rattle.std.specs.Prelude.{slice_get, IfSome}
 use Rattle.std.specs.Option.{option_map}
 use Rattle.std.specs.List.{list_any}
 use Rattle.std.proofs.lemmas.List.{take_all}
@@ -10,7 +10,7 @@ use Rattle.b3_ir.specs.Naming.{all_values}
 use Rattle.b3_ir.specs.Procedure.{IsIn, Kept, Procedure, StandsAt, values_from, values_of}
 use Rattle.b3_ir.specs.declared.value.Value.{Value}
 use Rattle.b3_supported.specs.Supported.{IsSupported}
-use Rattle.a64_baseline.specs.Code.{ids_of, place_of}
+use Rattle.a64_baseline.specs.Code.{ids_of}
 use Rattle.a64_baseline.specs.Coded.{before}
 use Rattle.a64_baseline.proofs.CodeLists.{IsWalked, walk_begins, walk_goes, walk_stands, walk_values}
 use Rattle.a64_baseline.proofs.Coding.{place_is}

@@ -8,7 +8,6 @@ use Rattle.std.proofs.lemmas.List.{length-map}
 use Rattle.std.proofs.lemmas.List.Sums.{sum_by-cons}
 use Rattle.std.proofs.Math.Seq.{take-suc}
 use Rattle.std.proofs.lemmas.Option.{get_or_from_slice_get, slice_get_within}
-use Rattle.b3_ir.specs.Naming.{all_values}
 use Rattle.b3_ir.specs.Procedure.{Block, Procedure, StandsAt, no_block, total, values_by_block, values_of}
 use Rattle.b3_ir.specs.Table.{is_terminal}
 use Rattle.b3_ir.specs.declared.value.Value.{Value}
@@ -108,6 +107,7 @@ before_next blocks b = ap (before blocks) (next b) ∙ more blocks b
   where
     next : (n : ℕ) → n + 1 ≡ suc n
     next n = omega arith
+
     more : (all : List Block) (n : ℕ) → before all (suc n) ≡ before all n + length (slice_index_or all n no_block).values
     more [] n = omega arith
     more (x ∷ all) zero = omega (arith, before_zero all)

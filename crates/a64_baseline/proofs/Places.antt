@@ -1,5 +1,5 @@
 -- The places that ids name.
-use Rattle.std.proofs.Common.{◌≡◌, ◌≢◌, ℕ, zero, suc, ◌+◌, ◌<◌, ◌≤◌, Bool, true, false, List, [], ◌∷◌, Option, Some, None, cond, length, map, take, refl, sym, ap, ◌∙◌, subst, arith, nat_eq, eq-eqb, ⊎_elim}
+use Rattle.std.proofs.Common.{◌≡◌, ◌≢◌, ℕ, zero, suc, ◌+◌, ◌<◌, ◌≤◌, Bool, true, false, List, [], ◌∷◌, Some, None, cond, length, map, take, refl, sym, ap, ◌∙◌, arith, nat_eq, eq-eqb, ⊎_elim}
 use Rattle.std.specs.Prelude.{nat_lt, position, slice_get}
 use Rattle.std.specs.List.{list_any, position_or_len}
 use Rattle.std.proofs.lemmas.Bool.{ltb-false, ne_eqb}
@@ -52,16 +52,16 @@ same_place [] i k e lt = absurd (omega arith)
 same_place (n ∷ ns) i k e lt =
     ⊎_elim
     (λ (yes : (nat_eq n i ≡ true) × (n ≡ i)). ⊎_elim
-      (λ (also : (nat_eq n k ≡ true) × (n ≡ k)). sym yes.1 ∙ also.1)
-      (λ (no : (nat_eq n k ≡ false) × (n ≢ k)). let bad : 0 ≡ suc (place_among ns k) = rw (yes.0, no.0) at e in absurd (omega arith))
-      (eqb_tells n k))
+    (λ (also : (nat_eq n k ≡ true) × (n ≡ k)). sym yes.1 ∙ also.1)
+    (λ (no : (nat_eq n k ≡ false) × (n ≢ k)). let bad : 0 ≡ suc (place_among ns k) = rw (yes.0, no.0) at e in absurd (omega arith))
+    (eqb_tells n k))
     (λ (no : (nat_eq n i ≡ false) × (n ≢ i)). ⊎_elim
-      (λ (yes : (nat_eq n k ≡ true) × (n ≡ k)). let bad : suc (place_among ns i) ≡ 0 = rw (no.0, yes.0) at e in absurd (omega arith))
-      (λ (also : (nat_eq n k ≡ false) × (n ≢ k)).
-      let more : suc (place_among ns i) ≡ suc (place_among ns k) = rw (no.0, also.0) at e in
-      let less : suc (place_among ns i) < suc (length ns) = rw no.0 at lt in
-      same_place ns i k (omega arith) (omega arith))
-      (eqb_tells n k))
+    (λ (yes : (nat_eq n k ≡ true) × (n ≡ k)). let bad : suc (place_among ns i) ≡ 0 = rw (no.0, yes.0) at e in absurd (omega arith))
+    (λ (also : (nat_eq n k ≡ false) × (n ≢ k)).
+    let more : suc (place_among ns i) ≡ suc (place_among ns k) = rw (no.0, also.0) at e in
+    let less : suc (place_among ns i) < suc (length ns) = rw no.0 at lt in
+    same_place ns i k (omega arith) (omega arith))
+    (eqb_tells n k))
     (eqb_tells n i)
 
 -- ---- the places of a procedure

@@ -1,22 +1,21 @@
 -- A procedure that returns 7, as it stands in the tests.
-use Rattle.std.proofs.Common.{◌≡◌, ◌≢◌, ℕ, zero, suc, ◌+◌, ◌<◌, ◌≤◌, inl, inr, false, true, List, [], ◌∷◌, ◌++◌, Some, length, refl, ap, subst, sym, arith, lit<, ⊎_elim}
-use Rattle.std.specs.Prelude.{All, codes, slice_get, slice_set}
+use Rattle.std.proofs.Common.{◌≡◌, ℕ, zero, suc, ◌<◌, inl, false, List, [], ◌∷◌, Some, refl, ap, subst, sym, arith, lit<, ⊎_elim}
+use Rattle.std.specs.Prelude.{All, slice_get}
 use Rattle.std.proofs.lemmas.List.Elements.{All-cons, All-nil}
 use Rattle.b3_ir.specs.Fits.{Fits}
 use Rattle.b3_ir.specs.Names.{IsName}
-use Rattle.b3_ir.specs.Naming.{type_of}
 use Rattle.b3_ir.specs.Procedure.{AllFit, Block, Procedure, StandsAt}
-use Rattle.b3_ir.specs.declared.opcode.Opcode.TheVariants.{ArgumentReg, Const64, CCall, Patchpoint, Return}
+use Rattle.b3_ir.specs.declared.opcode.Opcode.TheVariants.{Const64, Return}
 use Rattle.b3_ir.specs.declared.opcode.Ty.TheVariants.{Void, Int64}
 use Rattle.b3_ir.specs.declared.opcode.Kind.{Kind}
 use Rattle.b3_ir.specs.declared.value.Body.TheVariants.{Plain, Constant}
 use Rattle.b3_ir.specs.declared.value.Value.{Value}
 use Rattle.b3_rules.specs.Paths.{IsCoveredAt}
-use Rattle.b3_rules.specs.Rules.{IsEarlier, IsId, HasNewId, types_of}
-use Rattle.b3_rules.specs.Valid.{HeadingKeeps, Header, HeaderKeeps, HeadingAt, IsPartOf, IsValidProcedure, Keeps, Part, SlotAt, ValueAt, ValueKeeps}
+use Rattle.b3_rules.specs.Rules.{IsId, HasNewId, types_of}
+use Rattle.b3_rules.specs.Valid.{HeadingKeeps, Header, HeaderKeeps, HeadingAt, IsValidProcedure, SlotAt, ValueAt, ValueKeeps}
 use Rattle.b3_rules.specs.declared.rule.Rule.{Rule}
 use Rattle.b3_rules.specs.declared.rule.Rule.TheVariants as rule
-use Rattle.b3_supported.specs.Forms.{HasForms, IsForm}
+use Rattle.b3_supported.specs.Forms.{IsForm}
 use Rattle.b3_supported.specs.Supported.{IsSupported}
 
 -- the values and the procedure that the function makes

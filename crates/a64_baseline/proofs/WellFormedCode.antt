@@ -1,6 +1,6 @@
 -- Each instruction of the code of a procedure has its fields in range, and the code is short.
-use Rattle.std.proofs.Common.{◌≡◌, ℕ, zero, suc, ◌+◌, ◌*◌, ◌^◌, ◌<◌, ◌≤◌, Bool, true, false, List, [], ◌∷◌, ◌++◌, Some, length, refl, sym, ap, subst, arith, rules, length-append}
-use Rattle.std.specs.Prelude.{All, slice_get, slice_index, slice_index_or, sum_by}
+use Rattle.std.proofs.Common.{◌≡◌, ℕ, zero, suc, ◌+◌, ◌*◌, ◌^◌, ◌<◌, ◌≤◌, Bool, true, false, List, [], ◌∷◌, ◌++◌, length, refl, sym, ap, subst, arith, rules, length-append}
+use Rattle.std.specs.Prelude.{All, slice_index, slice_index_or, sum_by}
 use Rattle.std.specs.List.{AllByRecursion}
 use Rattle.std.proofs.lemmas.Int.{ints}
 use Rattle.std.proofs.lemmas.List.Sums.{sum_by-cons}
@@ -18,8 +18,8 @@ use Rattle.a64_inst.specs.declared.inst.MoveOp.{MoveOp}
 use Rattle.a64_inst.specs.declared.inst.MoveOp.TheVariants.{Movz, Movk}
 use Rattle.a64_inst.specs.WellFormed.{IsWellFormed}
 use Rattle.a64_baseline.specs.Code.{ids_of, place_of, places_of, location_of, store_to, load_from, prologue, epilogue, argument_store, argument_stores, entry_code, move_half, put_code, arith_code, copy_code, branch_from, branch_code, size_of, words_of_values, begins_of, code_for, value_code, values_code, blocks_code, code_of}
-use Rattle.a64_baseline.specs.Coded.{AreTwoTargets, IsCoded, IsOneTarget, IsPhiBody}
-use Rattle.a64_baseline.proofs.Coding.{AreBlocksCoded, AreCoded, IsCodedIn, blocks_coded}
+use Rattle.a64_baseline.specs.Coded.{IsCoded, IsPhiBody}
+use Rattle.a64_baseline.proofs.Coding.{AreBlocksCoded, AreCoded, blocks_coded}
 use Rattle.a64_baseline.proofs.Numbering.{total_is, values_are}
 use Rattle.a64_baseline.proofs.Sizes.{blocks_size, blocks_cons, blocks_words_most, stores_most, begin_most}
 

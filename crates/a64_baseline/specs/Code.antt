@@ -132,12 +132,18 @@ begins_of p = begins_from (length (entry_code p)) (values_by_block p)
 -- are those of all values
 abbrev pub code_for : List ℕ → List ℕ → ℕ → ℕ → ℕ → Opcode → List ℕ → Body → List Inst
 code_for begins ids places here id Const64 children (Constant word) = put_code (place_among ids id) word
-code_for begins ids places here id Add (i ∷ j ∷ []) body = arith_code false (place_among ids id) (place_among ids i) (place_among ids j)
-code_for begins ids places here id Sub (i ∷ j ∷ []) body = arith_code true (place_among ids id) (place_among ids i) (place_among ids j)
-code_for begins ids places here id Upsilon (i ∷ []) (Target phi) = copy_code (location_of places (place_among ids phi)) (place_among ids i)
-code_for begins ids places here id Phi children body = copy_code (place_among ids id) (location_of places (place_among ids id))
-code_for begins ids places here id Jump children (Targets (block ∷ [])) = branch_from here (slice_index begins block) ∷ []
-code_for begins ids places here id Branches (i ∷ []) (Targets (then_block ∷ else_block ∷ [])) = branch_code here (place_among ids i) (slice_index begins then_block) (slice_index begins else_block)
+code_for begins ids places here id Add (i ∷ j ∷ []) body =
+    arith_code false (place_among ids id) (place_among ids i) (place_among ids j)
+code_for begins ids places here id Sub (i ∷ j ∷ []) body =
+    arith_code true (place_among ids id) (place_among ids i) (place_among ids j)
+code_for begins ids places here id Upsilon (i ∷ []) (Target phi) =
+    copy_code (location_of places (place_among ids phi)) (place_among ids i)
+code_for begins ids places here id Phi children body =
+    copy_code (place_among ids id) (location_of places (place_among ids id))
+code_for begins ids places here id Jump children (Targets (block ∷ [])) =
+    branch_from here (slice_index begins block) ∷ []
+code_for begins ids places here id Branches (i ∷ []) (Targets (then_block ∷ else_block ∷ [])) =
+    branch_code here (place_among ids i) (slice_index begins then_block) (slice_index begins else_block)
 code_for begins ids places here id Return (i ∷ []) body = load_from (place_among ids i) 0 ∷ epilogue
 code_for begins ids places here id opcode children body = []
 
@@ -147,12 +153,16 @@ value_code begins ids places here v = code_for begins ids places here v.id v.kin
 -- the code of values, and of blocks, from word `here` on
 abbrev pub values_code : List ℕ → List ℕ → ℕ → ℕ → List Value → List Inst
 values_code begins ids places here [] = []
-values_code begins ids places here (v ∷ vs) = value_code begins ids places here v ++ values_code begins ids places (here + size_of v.kind.opcode) vs
+values_code begins ids places here (v ∷ vs) =
+    value_code begins ids places here v ++ values_code begins ids places (here + size_of v.kind.opcode) vs
 
 abbrev pub blocks_code : List ℕ → List ℕ → ℕ → ℕ → List (List Value) → List Inst
 blocks_code begins ids places here [] = []
-blocks_code begins ids places here (vs ∷ blocks) = values_code begins ids places here vs ++ blocks_code begins ids places (here + words_of_values vs) blocks
+blocks_code begins ids places here (vs ∷ blocks) =
+    values_code begins ids places here vs ++ blocks_code begins ids places (here + words_of_values vs) blocks
 
 -- the code of a procedure
 abbrev pub code_of : Procedure → List Inst
-code_of p = entry_code p ++ blocks_code (begins_of p) (ids_of p) (places_of p) (length (entry_code p)) (values_by_block p)
+code_of p =
+    entry_code p
+    ++ blocks_code (begins_of p) (ids_of p) (places_of p) (length (entry_code p)) (values_by_block p)

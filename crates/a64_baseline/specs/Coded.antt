@@ -27,7 +27,8 @@ abbrev pub IsOneChild : List ℕ → ℕ → List ℕ → Type 0
 IsOneChild ids places children = (i : ℕ) × (children ≡ i ∷ []) × HasPlace ids places i
 
 abbrev pub AreTwoChildren : List ℕ → ℕ → List ℕ → Type 0
-AreTwoChildren ids places children = (i : ℕ) × (j : ℕ) × (children ≡ i ∷ j ∷ []) × HasPlace ids places i × HasPlace ids places j
+AreTwoChildren ids places children =
+    (i : ℕ) × (j : ℕ) × (children ≡ i ∷ j ∷ []) × HasPlace ids places i × HasPlace ids places j
 
 -- a register that carries an argument: x0 to x7 (AAPCS64, 6.4.2)
 abbrev pub IsArgumentBody : Body → Type 0

@@ -49,7 +49,8 @@ pub(crate) fn laid_code(alloc: Global, p: &Proc, layout: &Layout) -> Result<Seq<
 fn push_arguments(code: &mut Seq<Inst>, p: &Proc, layout: &Layout) -> Result<(), NoMemory>
     requires built { IsSupported p.now.procedure }
     requires ids { layout.now.ids.keys ≡ ids_of p.now.procedure }
-    ensures { OnOk result (code.new ≡ code.old ++ argument_stores 0 (values_of p.now.procedure 0)) }
+    ensures { OnOk result (code.new ≡ code.old
+        ++ argument_stores 0 (values_of p.now.procedure 0)) }
 {
     let mut at = p.first(0);
     while let Some(node) = at {
@@ -62,7 +63,8 @@ fn push_arguments(code: &mut Seq<Inst>, p: &Proc, layout: &Layout) -> Result<(),
 /// The store of a value, where it is an argument.
 fn push_argument(code: &mut Seq<Inst>, layout: &Layout, value: &Value) -> Result<(), NoMemory>
     requires { length layout.now.ids.keys ≤ 256 }
-    ensures { OnOk result (code.new ≡ code.old ++ argument_store (place_among layout.now.ids.keys value.now.id) value.now.kind.opcode value.now.body) }
+    ensures { OnOk result (code.new ≡ code.old
+        ++ argument_store (place_among layout.now.ids.keys value.now.id) value.now.kind.opcode value.now.body) }
 {
     match (value.kind.opcode, &value.body) {
         (Opcode::ArgumentReg, Body::Argument(reg)) => {
@@ -79,7 +81,8 @@ fn push_blocks(code: &mut Seq<Inst>, p: &Proc, layout: &Layout) -> Result<(), No
     requires begins { layout.now.begins ≡ begins_of p.now.procedure }
     requires ids { layout.now.ids.keys ≡ ids_of p.now.procedure }
     requires here { length code.old ≡ length (entry_code p.now.procedure) }
-    ensures { OnOk result (code.new ≡ code.old ++ blocks_code layout.now.begins layout.now.ids.keys layout.now.places (length code.old) (values_by_block p.now.procedure)) }
+    ensures { OnOk result (code.new ≡ code.old
+        ++ blocks_code layout.now.begins layout.now.ids.keys layout.now.places (length code.old) (values_by_block p.now.procedure)) }
 {
     for block in 0..p.blocks() {
         push_values(code, p, layout, block)?;
@@ -100,7 +103,8 @@ fn push_values(
     requires begins { layout.now.begins ≡ begins_of p.now.procedure }
     requires ids { layout.now.ids.keys ≡ ids_of p.now.procedure }
     requires short { length code.old + words_of_values (values_of p.now.procedure block) < 2 ^ 12 }
-    ensures { OnOk result (code.new ≡ code.old ++ values_code layout.now.begins layout.now.ids.keys layout.now.places (length code.old) (values_of p.now.procedure block)) }
+    ensures { OnOk result (code.new ≡ code.old
+        ++ values_code layout.now.begins layout.now.ids.keys layout.now.places (length code.old) (values_of p.now.procedure block)) }
 {
     let mut at = p.first(block);
     while let Some(node) = at {
@@ -117,17 +121,30 @@ fn push_value(code: &mut Seq<Inst>, layout: &Layout, value: &Value) -> Result<()
     requires ids { length layout.now.ids.keys ≤ 256 }
     requires begins { All (λ word. word < 2 ^ 12) layout.now.begins }
     requires short { length code.old + size_of value.now.kind.opcode < 2 ^ 12 }
-    ensures { OnOk result (code.new ≡ code.old ++ value_code layout.now.begins layout.now.ids.keys layout.now.places (length code.old) value.now) }
+    ensures { OnOk result (code.new ≡ code.old
+        ++ value_code layout.now.begins layout.now.ids.keys layout.now.places (length code.old) value.now) }
 {
     let k = layout.place(value.id);
     match (value.kind.opcode, &value.body) {
         (Opcode::ArgumentReg, _) => Ok(()),
         (Opcode::Const64, Body::Constant(word)) => push_constant(code, k, *word),
         (Opcode::Add, _) => {
-            push_arith(code, false, k, child(layout, value, 0), child(layout, value, 1))
+            push_arith(
+                code,
+                false,
+                k,
+                child(layout, value, 0),
+                child(layout, value, 1),
+            )
         }
         (Opcode::Sub, _) => {
-            push_arith(code, true, k, child(layout, value, 0), child(layout, value, 1))
+            push_arith(
+                code,
+                true,
+                k,
+                child(layout, value, 0),
+                child(layout, value, 1),
+            )
         }
         (Opcode::Upsilon, Body::Target(phi)) => push_copy(
             code,
@@ -151,7 +168,8 @@ fn push_value(code: &mut Seq<Inst>, layout: &Layout, value: &Value) -> Result<()
 fn child(layout: &Layout, value: &Value, at: usize) -> u32
     requires there { at < length value.now.children }
     requires ids { length layout.now.ids.keys ≤ 256 }
-    ensures { (id : ℕ) → slice_get value.now.children at ≡ Some id → result ≡ place_among layout.now.ids.keys id }
+    ensures { (id : ℕ) → slice_get value.now.children at ≡ Some id
+        → result ≡ place_among layout.now.ids.keys id }
 {
     layout.place(*value.children.get(at))
 }

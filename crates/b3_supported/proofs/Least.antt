@@ -1,11 +1,10 @@
 -- The function that computes gives the least line on which a part is odd.
-use Rattle.std.proofs.Common.{◌≡◌, ◌≢◌, ℕ, zero, suc, ◌+◌, ◌-◌, ◌<◌, ◌≤◌, ◌⊎◌, ◌↔◌, inl, inr, Bool, true, false, ◌&&◌, not, List, [], ◌∷◌, ◌++◌, Option, Some, None, length, refl, sym, ap, ◌∙◌, subst, arith, nat_eq, eq-eqb, ⊎_elim}
+use Rattle.std.proofs.Common.{◌≡◌, ◌≢◌, ℕ, zero, suc, ◌+◌, ◌-◌, ◌<◌, ◌≤◌, ◌⊎◌, inl, inr, Bool, true, false, ◌&&◌, not, List, [], ◌∷◌, ◌++◌, Option, Some, None, length, refl, sym, ap, ◌∙◌, subst, arith, nat_eq, eq-eqb, ⊎_elim}
 use Rattle.std.specs.Prelude.{min, nat_le, slice_get}
 use Rattle.std.specs.List.{flat_map, list_all}
-use Rattle.std.proofs.lemmas.Bool.{and_parts, cases_lt, eqb-true, ne_eqb}
+use Rattle.std.proofs.lemmas.Bool.{and_parts, cases_lt, eqb-true}
 use Rattle.std.proofs.lemmas.Bool.Decides.{eqb_tells, nat_tests}
 use Rattle.b3_ir.specs.Names.{IsName, begins_name, may_stand_in_name}
-use Rattle.b3_ir.specs.Naming.{all_values}
 use Rattle.b3_ir.specs.Procedure.{Block, Procedure}
 use Rattle.b3_ir.specs.Types.{same_type}
 use Rattle.b3_ir.specs.declared.opcode.Opcode.{Opcode}
@@ -16,7 +15,7 @@ use Rattle.b3_ir.specs.declared.procedure.SlotLine.{SlotLine}
 use Rattle.b3_ir.specs.declared.value.Value.{Value}
 use Rattle.b3_supported.specs.Forms.{IsForm, has_code}
 use Rattle.b3_supported.specs.Lines.{blocks_line, has_child, header_line, heading_line, is_form, is_name, lesser, module_line, procedure_line, slots_line, unless, value_line, values_line}
-use Rattle.b3_supported.specs.Odd.{IsOdd, IsOddHeader, IsOddHeading, IsOddIn, IsOddSlot, IsOddValue}
+use Rattle.b3_supported.specs.Faults.{IsOdd, IsOddHeader, IsOddHeading, IsOddIn, IsOddSlot, IsOddValue}
 
 -- ---- the least line of which something holds
 
@@ -211,20 +210,20 @@ parts_join b k x blocks line h =
     ⊎_elim
     (λ (here : (x.line ≡ line) × (b ≡ 64)). inl (record { place = 0; block = x; there = refl; on_line = here.0; odd = omega (arith, here.1) }))
     (λ (more : OddAmong k x.values line ⊎ OddBlocks (b + 1) (k + length x.values) blocks line). ⊎_elim
-      (λ (one : OddAmong k x.values line). inr (among_both k x.values (row_of blocks) line (inl one)))
-      (λ (rest : OddBlocks (b + 1) (k + length x.values) blocks line). ⊎_elim
-        (λ (head : OddHeading (b + 1) blocks line). inl (record { place = suc head.place; block = head.block; there = head.there; on_line = head.on_line; odd = omega (arith, head.odd) }))
-        (λ (one : OddAmong (k + length x.values) (row_of blocks) line). inr (among_both k x.values (row_of blocks) line (inr one))) rest) more) h
+    (λ (one : OddAmong k x.values line). inr (among_both k x.values (row_of blocks) line (inl one)))
+    (λ (rest : OddBlocks (b + 1) (k + length x.values) blocks line). ⊎_elim
+    (λ (head : OddHeading (b + 1) blocks line). inl (record { place = suc head.place; block = head.block; there = head.there; on_line = head.on_line; odd = omega (arith, head.odd) }))
+    (λ (one : OddAmong (k + length x.values) (row_of blocks) line). inr (among_both k x.values (row_of blocks) line (inr one))) rest) more) h
 
 parts_split : (b k : ℕ) (x : Block) (blocks : List Block) (line : ℕ) → OddBlocks b k (x ∷ blocks) line → OddParts b k x blocks line
 parts_split b k x blocks line h =
     ⊎_elim
     (λ (head : OddHeading b (x ∷ blocks) line). ⊎_elim
-      (λ (here : (x.line ≡ line) × (b ≡ 64)). inl here) (λ (more : OddHeading (b + 1) blocks line). inr (inr (inl more)))
-      (headings_split b x blocks line head.place head.block head.there head.on_line head.odd))
+    (λ (here : (x.line ≡ line) × (b ≡ 64)). inl here) (λ (more : OddHeading (b + 1) blocks line). inr (inr (inl more)))
+    (headings_split b x blocks line head.place head.block head.there head.on_line head.odd))
     (λ (one : OddAmong k (x.values ++ row_of blocks) line). ⊎_elim
-      (λ (front : OddAmong k x.values line). inr (inl front)) (λ (behind : OddAmong (k + length x.values) (row_of blocks) line). inr (inr (inr behind)))
-      (among_either k x.values (row_of blocks) line one)) h
+    (λ (front : OddAmong k x.values line). inr (inl front)) (λ (behind : OddAmong (k + length x.values) (row_of blocks) line). inr (inr (inr behind)))
+    (among_either k x.values (row_of blocks) line one)) h
 
 blocks_least : (b k : ℕ) (blocks : List Block) → IsLeast (OddBlocks b k blocks) (blocks_line b k blocks)
 unfolding blocks_line
@@ -270,20 +269,20 @@ pieces_join k p line h =
     ⊎_elim
     (λ (here : (p.line ≡ line) × (¬ (IsName p.name) ⊎ (k ≡ 256))). inl (record { on_line = here.0; odd = here.1 }))
     (λ (more : OddSlot p.slots line ⊎ OddBlocks 0 0 p.blocks line). ⊎_elim
-      (λ (s : OddSlot p.slots line). inr (inl (record { place = s.place; slot = s.slot; there = s.there; on_line = s.on_line })))
-      (λ (rest : OddBlocks 0 0 p.blocks line). ⊎_elim
-        (λ (head : OddHeading 0 p.blocks line). let at : head.place ≡ 64 = omega (arith, head.odd) in inr (inr (inl (record { block = head.block; there = ap (slice_get p.blocks) (sym at) ∙ head.there; on_line = head.on_line }))))
-        (λ (one : OddAmong 0 (row_of p.blocks) line). inr (inr (inr (record { place = one.place; value = one.value; there = one.there; on_line = one.on_line; odd = moved (¬ (IsForm one.value)) (0 + one.place) one.place (omega arith) one.odd })))) rest) more) h
+    (λ (s : OddSlot p.slots line). inr (inl (record { place = s.place; slot = s.slot; there = s.there; on_line = s.on_line })))
+    (λ (rest : OddBlocks 0 0 p.blocks line). ⊎_elim
+    (λ (head : OddHeading 0 p.blocks line). let at : head.place ≡ 64 = omega (arith, head.odd) in inr (inr (inl (record { block = head.block; there = ap (slice_get p.blocks) (sym at) ∙ head.there; on_line = head.on_line }))))
+    (λ (one : OddAmong 0 (row_of p.blocks) line). inr (inr (inr (record { place = one.place; value = one.value; there = one.there; on_line = one.on_line; odd = moved (¬ (IsForm one.value)) (0 + one.place) one.place (omega arith) one.odd })))) rest) more) h
 
 pieces_split : (k : ℕ) (p : Procedure) (line : ℕ) → IsOddIn k p line → OddPieces k p line
 pieces_split k p line h =
     ⊎_elim
     (λ (here : IsOddHeader k p line). inl (here.on_line, here.odd))
     (λ (more : IsOddSlot p line ⊎ (IsOddHeading p line ⊎ IsOddValue p line)). ⊎_elim
-      (λ (s : IsOddSlot p line). inr (inl (record { place = s.place; slot = s.slot; there = s.there; on_line = s.on_line })))
-      (λ (rest : IsOddHeading p line ⊎ IsOddValue p line). ⊎_elim
-        (λ (head : IsOddHeading p line). inr (inr (inl (record { place = 64; block = head.block; there = head.there; on_line = head.on_line; odd = omega arith }))))
-        (λ (one : IsOddValue p line). inr (inr (inr (record { place = one.place; value = one.value; there = one.there; on_line = one.on_line; odd = moved (¬ (IsForm one.value)) one.place (0 + one.place) (omega arith) one.odd })))) rest) more) h
+    (λ (s : IsOddSlot p line). inr (inl (record { place = s.place; slot = s.slot; there = s.there; on_line = s.on_line })))
+    (λ (rest : IsOddHeading p line ⊎ IsOddValue p line). ⊎_elim
+    (λ (head : IsOddHeading p line). inr (inr (inl (record { place = 64; block = head.block; there = head.there; on_line = head.on_line; odd = omega arith }))))
+    (λ (one : IsOddValue p line). inr (inr (inr (record { place = one.place; value = one.value; there = one.there; on_line = one.on_line; odd = moved (¬ (IsForm one.value)) one.place (0 + one.place) (omega arith) one.odd })))) rest) more) h
 
 procedure_least : (k : ℕ) (p : Procedure) → IsLeast (IsOddIn k p) (procedure_line k p)
 unfolding procedure_line

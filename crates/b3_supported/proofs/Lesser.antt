@@ -1,6 +1,6 @@
 -- The lesser of lines, and the steps of loops that look for the least.
 use Rattle.std.proofs.Common.{◌≡◌, ℕ, suc, ◌+◌, ◌<◌, List, [], ◌∷◌, length, drop, Option, Some, None, refl, sym, ap, ◌∙◌, arith}
-use Rattle.std.specs.Prelude.{slice_get, slice_index_or}
+use Rattle.std.specs.Prelude.{slice_index_or}
 use Rattle.std.proofs.Math.Seq.{drop-cons}
 use Rattle.b3_ir.specs.Procedure.{Block, Procedure}
 use Rattle.b3_ir.specs.declared.procedure.SlotLine.{SlotLine}

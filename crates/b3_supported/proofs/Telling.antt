@@ -1,11 +1,11 @@
 -- What the least line tells of procedures.
-use Rattle.std.proofs.Common.{◌≡◌, ◌≢◌, ℕ, zero, suc, ◌+◌, ◌<◌, ◌≤◌, ◌⊎◌, ◌↔◌, inl, inr, Bool, true, false, List, [], ◌∷◌, Option, Some, None, length, map, refl, sym, ap, ◌∙◌, subst, arith, ⊎_elim}
-use Rattle.std.specs.Prelude.{All, slice_get, slice_index_or}
+use Rattle.std.proofs.Common.{◌≡◌, ℕ, zero, suc, ◌<◌, ◌≤◌, ◌⊎◌, ◌↔◌, inl, inr, Bool, true, false, List, [], ◌∷◌, Option, Some, None, length, refl, sym, ap, ◌∙◌, subst, arith, ⊎_elim}
+use Rattle.std.specs.Prelude.{All, IfSome, slice_get, slice_index_or}
 use Rattle.std.specs.Option.{option_map}
 use Rattle.std.proofs.lemmas.Bool.{cases_lt}
 use Rattle.std.proofs.lemmas.List.{length-map}
 use Rattle.std.proofs.lemmas.List.Concat.{length-flat_map}
-use Rattle.std.proofs.lemmas.List.Elements.{All-get_or}
+use Rattle.std.proofs.lemmas.List.Elements.{All-get_or, All-weaker}
 use Rattle.std.proofs.lemmas.Option.{get_or_from_slice_get, slice_get-get_or, slice_get-map, slice_get_within}
 use Rattle.b3_ir.specs.Names.{IsName}
 use Rattle.b3_ir.specs.Naming.{all_values}
@@ -15,7 +15,7 @@ use Rattle.b3_ir.specs.declared.value.Value.{Value}
 use Rattle.b3_rules.specs.Valid.{IsValid}
 use Rattle.b3_supported.specs.Forms.{HasForms, IsForm}
 use Rattle.b3_supported.specs.Lines.{is_form, is_name}
-use Rattle.b3_supported.specs.Odd.{HaveForms, IsFaultLine, IsOdd, IsOddHeader, IsOddHeading, IsOddSlot, IsOddValue}
+use Rattle.b3_supported.specs.Faults.{HaveForms, IsFaultLine, IsOdd, IsOddHeader, IsOddHeading, IsOddSlot, IsOddValue}
 use Rattle.b3_supported.specs.Supported.{AreSupported, IsSupported, names_of}
 use Rattle.b3_supported.proofs.Least.{IsLeast, form_passes, form_tested, name_passes, name_tested}
 
@@ -109,15 +109,15 @@ none_odd ps have line odd =
     let forms : HasForms p = all_at HasForms ps odd.place p have.each odd.there in
     ⊎_elim
     (λ (header : IsOddHeader odd.place p line). ⊎_elim
-      (λ (no : ¬ (IsName p.name)). no (all_at (λ (q : Procedure). IsName q.name) ps odd.place p have.names odd.there))
-      (λ (last : odd.place ≡ 256). omega (arith, have.few, slice_get_within ps odd.place p odd.there)) header.odd)
+    (λ (no : ¬ (IsName p.name)). no (all_at (λ (q : Procedure). IsName q.name) ps odd.place p have.names odd.there))
+    (λ (last : odd.place ≡ 256). omega (arith, have.few, slice_get_within ps odd.place p odd.there)) header.odd)
     (λ (more : IsOddSlot p line ⊎ (IsOddHeading p line ⊎ IsOddValue p line)). ⊎_elim
-      (λ (s : IsOddSlot p line). let e : slice_get [] s.place ≡ Some s.slot = subst (λ (l : List SlotLine). slice_get l s.place ≡ Some s.slot) forms.slots s.there in cc)
-      (λ (rest : IsOddHeading p line ⊎ IsOddValue p line). ⊎_elim
-        (λ (head : IsOddHeading p line). omega (arith, forms.few_blocks, slice_get_within p.blocks 64 head.block head.there))
-        (λ (one : IsOddValue p line). ⊎_elim
-          (λ (no : ¬ (IsForm one.value)). no (all_at IsForm (all_values p) one.place one.value forms.values one.there))
-          (λ (last : one.place ≡ 256). omega (arith, forms.few_values, count_is p, slice_get_within (all_values p) one.place one.value one.there)) one.odd) rest) more) odd.part
+    (λ (s : IsOddSlot p line). let e : slice_get [] s.place ≡ Some s.slot = subst (λ (l : List SlotLine). slice_get l s.place ≡ Some s.slot) forms.slots s.there in cc)
+    (λ (rest : IsOddHeading p line ⊎ IsOddValue p line). ⊎_elim
+    (λ (head : IsOddHeading p line). omega (arith, forms.few_blocks, slice_get_within p.blocks 64 head.block head.there))
+    (λ (one : IsOddValue p line). ⊎_elim
+    (λ (no : ¬ (IsForm one.value)). no (all_at IsForm (all_values p) one.place one.value forms.values one.there))
+    (λ (last : one.place ≡ 256). omega (arith, forms.few_values, count_is p, slice_get_within (all_values p) one.place one.value one.there)) one.odd) rest) more) odd.part
 
 -- ---- what the answer tells
 pub none_tells : (ps : List Procedure) (o : Option ℕ) → IsLeast (IsOdd ps) o → (o ≡ None) ↔ HaveForms ps
@@ -153,3 +153,15 @@ supported ps valid fit have = record {
   where
     its_name : (qs : List Procedure) (k : ℕ) (d : List ℕ) (p : Procedure) → slice_get qs k ≡ Some p → slice_index_or (names_of qs) k d ≡ p.name
     its_name qs k d p there = get_or_from_slice_get (names_of qs) k p.name d (slice_get-map (λ (q : Procedure). q.name) qs k ∙ ap (option_map (λ (q : Procedure). q.name)) there)
+
+-- and supported ones have forms
+supported_have : (ps : List Procedure) → AreSupported ps → HaveForms ps
+supported_have ps all = record {
+  few = all.few;
+  names = All-weaker IsSupported (λ (p : Procedure). IsName p.name) (λ p is. is.name) ps all.each;
+  each = All-weaker IsSupported HasForms (λ p is. is.forms) ps all.each;
+}
+
+pub refused : (ps : List Procedure) (o : Option ℕ) → IsLeast (IsOdd ps) o → IfSome o (λ _. ¬ (AreSupported ps))
+refused ps None least = tt
+refused ps (Some line) least = λ all. none_odd ps (supported_have ps all) line least.0

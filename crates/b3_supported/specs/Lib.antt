@@ -1,4 +1,4 @@
 pub mod Forms
 pub mod Supported
-pub mod Odd
+pub mod Faults
 pub mod Lines

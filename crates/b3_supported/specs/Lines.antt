@@ -55,7 +55,8 @@ heading_line b block = unless (not (nat_eq b 64)) block.line
 unfoldable pub blocks_line : ℕ → ℕ → List Block → Option ℕ
 blocks_line b k [] = None
 blocks_line b k (block ∷ blocks) =
-    lesser (heading_line b block) (lesser (values_line k block.values) (blocks_line (b + 1) (k + length block.values) blocks))
+    lesser (heading_line b block)
+    (lesser (values_line k block.values) (blocks_line (b + 1) (k + length block.values) blocks))
 
 unfoldable pub procedure_line : ℕ → Procedure → Option ℕ
 procedure_line k p = lesser (header_line k p) (lesser (slots_line p.slots) (blocks_line 0 0 p.blocks))

@@ -1,9 +1,9 @@
 //! The line of the first odd part.
 
-ghost use Rattle.std.specs.Prelude.{◌≡◌, ◌↔◌, ℕ, None, Some};
+ghost use Rattle.std.specs.Prelude.{◌≡◌, ◌↔◌, ℕ, None, Some, IfSome};
 ghost use Rattle.b3_ir.specs.Procedure.{procedures};
 ghost use Rattle.b3_rules.specs.Valid.{IsValid};
-ghost use Rattle.b3_supported.specs.Odd.{HaveForms, IsFaultLine};
+ghost use Rattle.b3_supported.specs.Faults.{HaveForms, IsFaultLine};
 ghost use Rattle.b3_supported.specs.Supported.{AreSupported};
 
 use crate::lines::{lesser, procedure_line};
@@ -16,6 +16,7 @@ pub fn fault_line(module_: &Module) -> Option<u32>
     ensures none { (result ≡ None) ↔ HaveForms (procedures module_.now) }
     ensures some { (line : ℕ) → (result ≡ Some line) ↔ IsFaultLine (procedures module_.now) line }
     ensures supported { IsValid (procedures module_.now) → result ≡ None → AreSupported (procedures module_.now) }
+    ensures refused { IfSome result (λ _. ¬ (AreSupported (procedures module_.now))) }
 {
     let mut line = None;
     for at in 0..module_.procs() {

@@ -7,8 +7,10 @@ ghost use Rattle.b3_supported.specs.Lines as lines;
 use crate::forms::is_form;
 use b3_ir::{Proc, Value, is_name};
 
-/// How many procedures and values there may be, and how many blocks.
+/// How many procedures there may be, and how many values in each.
 const MOST: u64 = 256;
+
+/// How many blocks a procedure may have.
 const MOST_BLOCKS: usize = 64;
 
 /// The lesser of two lines, where they are there.
@@ -82,7 +84,8 @@ fn with_values(p: &Proc, block: usize, before: Seen) -> Seen
     // No block has more than 2^32 values.
     requires small { before.values ≤ 4294967296 * block }
     ensures values { result.values ≡ before.values + length (values_of p.now.procedure block) }
-    ensures line { result.line ≡ lines.lesser before.line (lines.values_line before.values (values_of p.now.procedure block)) }
+    ensures line { result.line ≡ lines.lesser before.line
+        (lines.values_line before.values (values_of p.now.procedure block)) }
 {
     p.whole();
     let mut values = before.values;

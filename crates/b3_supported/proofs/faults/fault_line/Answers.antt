@@ -1,4 +1,4 @@
-use Rattle.std.proofs.Common.{◌≡◌, ℕ, ◌+◌, ◌<◌, ◌≤◌, List, [], ◌∷◌, None, ◌∙◌, ap, arith, drop, length, subst, sym, take, Some}
+use Rattle.std.proofs.Common.{◌≡◌, ℕ, ◌+◌, ◌≤◌, List, ◌∷◌, ◌∙◌, ap, arith, drop, length, subst, sym, take, Some}
 use Rattle.std.specs.Prelude.{All, slice_get}
 use Rattle.std.specs.Option.{option_map}
 use Rattle.std.proofs.lemmas.List.{drop_all, length-map, take_all}
@@ -6,10 +6,10 @@ use Rattle.std.proofs.lemmas.List.Elements.{All-more}
 use Rattle.std.proofs.lemmas.Option.{get_or_from_slice_get, slice_get-map, slice_get_within}
 use Rattle.b3_ir.specs.Procedure.{AllFit, Kept, Procedure, procedures}
 use Rattle.b3_supported.specs.Lines.{lesser, module_line, procedure_line}
-use Rattle.b3_supported.specs.Odd.{IsOdd}
+use Rattle.b3_supported.specs.Faults.{IsOdd}
 use Rattle.b3_supported.proofs.Least.{IsLeast, module_least}
 use Rattle.b3_supported.proofs.Lesser.{all_seen, dropped, module_end, module_step, one_more}
-use Rattle.b3_supported.proofs.Telling.{none_tells, some_tells, supported}
+use Rattle.b3_supported.proofs.Telling.{none_tells, refused, some_tells, supported}
 use Rattle.b3_supported.proofs.faults.fault_line.Goals as goal
 
 -- the procedure of a node of the module
@@ -57,3 +57,6 @@ returns-clause-supported c =
     let end : length c.args.module_.now ≤ c.loop-at.at = omega (arith, c.procs-at-end.ensures) in
     let fit : All (λ (p : Procedure). AllFit p.blocks) ps = subst (All (λ (p : Procedure). AllFit p.blocks)) (take_all c.loop-at.at ps (past c.args.module_.now c.loop-at.at end)) c.loop-at.invariant.fit in
     λ valid none. supported ps valid fit ((none_tells ps c.loop-at.line (least c)).0 none)
+
+pub returns-clause-refused : goal.returns-clause-refused
+returns-clause-refused c = refused (procedures c.args.module_.now) c.loop-at.line (least c)

@@ -1,4 +1,4 @@
-use Rattle.std.proofs.Common.{◌≡◌, ◌+◌, drop, length, arith, ap, sym, ◌∙◌}
+use Rattle.std.proofs.Common.{◌+◌, drop, length, arith, ap, ◌∙◌}
 use Rattle.std.specs.Prelude.{slice_index_or}
 use Rattle.std.proofs.lemmas.List.{drop_all}
 use Rattle.b3_ir.specs.Procedure.{no_block}

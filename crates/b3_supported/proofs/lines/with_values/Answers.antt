@@ -1,4 +1,4 @@
-use Rattle.std.proofs.Common.{◌≡◌, ℕ, ◌+◌, ◌<◌, ◌∷◌, drop, length, Option, Some, None, arith, sym, ap, subst, ◌∙◌, refl}
+use Rattle.std.proofs.Common.{◌≡◌, ℕ, ◌+◌, ◌<◌, ◌∷◌, length, Option, Some, arith, sym, ap, subst, ◌∙◌}
 use Rattle.b3_ir.specs.Procedure.{values_from, values_of}
 use Rattle.b3_supported.specs.Lines.{lesser, value_line, values_line}
 use Rattle.b3_supported.proofs.Lesser.{all_seen, one_more, values_end, values_step}
