@@ -1,6 +1,6 @@
 -- The object of a procedure agrees with the procedure.
 use Rattle.std.proofs.Common.{◌≡◌, ◌≢◌, ℕ, zero, suc, ◌+◌, ◌*◌, ◌/◌, ◌<◌, ◌≤◌, Bool, true, false, List, [], ◌∷◌, Some, None, length, refl, sym, ap, ◌∙◌, subst, arith, div-le_self}
-use Rattle.std.specs.Prelude.{slice_get, slice_index, slice_index_or, sum_by, map, ◌||◌, if◌then◌else◌, All}
+use Rattle.std.specs.Prelude.{slice_get, slice_index, slice_index_or, sum_by, map, ◌||◌, if◌then◌else◌}
 use Rattle.std.specs.List.{list_any}
 use Rattle.std.proofs.lemmas.List.{length-map}
 use Rattle.std.proofs.lemmas.List.Sums.{sum_by-cons}
@@ -11,9 +11,8 @@ use Rattle.b3_base.proofs.Run.{iterate-zero, iterate-one, iterate-add, iterate-s
 use Rattle.b3_ir.specs.Naming.{type_of}
 use Rattle.b3_ir.specs.Procedure.{Procedure, values_by_block, values_of}
 use Rattle.b3_ir.specs.declared.procedure.SlotLine.{SlotLine}
-use Rattle.b3_supported.specs.Supported.{IsSupported, IsChildAt}
+use Rattle.b3_supported.specs.Supported.{IsSupported}
 use Rattle.b3_ir.specs.Procedure.{StandsAt}
-use Rattle.b3_ir.specs.Shape.{IsFormOf}
 use Rattle.b3_ir.specs.declared.opcode.Opcode.{Opcode}
 use Rattle.b3_ir.specs.declared.opcode.Opcode.TheVariants.{Return}
 use Rattle.b3_ir.specs.declared.opcode.Ty.TheVariants.{Int64}
@@ -31,11 +30,11 @@ use Rattle.a64_run.specs.Agrees.{Agrees, AgreesFrom, ReturnsType, word_count}
 use Rattle.a64_run.specs.Machine.{Entry, State, Config, Runs, Stops, machine_step, machine_run, run_of, observe, first}
 use Rattle.a64_run.specs.Moments.{IsProper}
 use Rattle.a64_run.specs.Placement.{Places}
-use Rattle.b3_ir.proofs.Numbering.{values_are}
 use Rattle.a64_baseline.specs.Code.{places_of, entry_code, code_of, begins_of, words_of_values}
 use Rattle.a64_baseline.specs.Object.{has_return, is_return, words_of, frame_of}
 use Rattle.a64_baseline.proofs.Leaving.{same_visible}
-use Rattle.a64_baseline.proofs.Numbering.{few_values, value_at_place, number_of, stands_in}
+use Rattle.a64_baseline.proofs.Coding.{return_value, some_block}
+use Rattle.a64_baseline.proofs.Numbering.{stands_in, values_are}
 use Rattle.a64_baseline.proofs.Steps as steps
 use Rattle.a64_baseline.proofs.Arguments.{ArgumentsBelow}
 use Rattle.a64_baseline.proofs.Blocks.{Reaches, block_run, entry_run}
@@ -72,7 +71,7 @@ setting p o symbol m built has placed = record {
     ends = omega (arith, placed.code_ends, has.begins, has.within, length-map (code_of p) word);
     short = code_short p built;
   };
-  frame = record { bytes = refl; room = placed.room; small = placed.ranged.sp; few = omega (arith, few_values p built); aligned = placed.aligned };
+  frame = record { bytes = refl; room = placed.room; small = placed.ranged.sp; few = omega (arith, built.forms.few_values); aligned = placed.aligned };
   wide = λ returns. rw returns refl;
   slots = refl;
   ranged = placed.ranged;
@@ -176,7 +175,7 @@ module _ (p : Procedure) (e : Entry) (set : Setting p e) where
       let s = entered.0 in
       let bs : b3.State = record { words = λ _. None; locations = λ _. None; memory = (b3_start e).memory; events = []; answers = answers } in
       let after = b3.run_values (type_of p) (b3_start e) (values_of p 0) bs in
-      let comes = block_run p e set 0 bs s (omega (arith, set.built.shape.some)) entered.2 (first_holds s answers (λ j v there. slice_get_within (values_of p 0) j v there) entered.3) in
+      let comes = block_run p e set 0 bs s (omega (arith, some_block p set.built)) entered.2 (first_holds s answers (λ j v there. slice_get_within (values_of p 0) j v there) entered.3) in
       let joined : iterate (machine_step e) (length (entry_code p) + comes.0) (first e answers) ≡ iterate (machine_step e) comes.0 (Runs s) = iterate-add (machine_step e) (length (entry_code p)) comes.0 (first e answers) ∙ ap (iterate (machine_step e) comes.0) entered.1.0 in (
         length (entry_code p) + comes.0,
         omega (arith, comes.1),
@@ -223,7 +222,7 @@ alike_at p o symbol has m answers zero set defined =
     record {
       choice = tt;
       steps = 0;
-      least = fewer 0 (length p.blocks) 0 set.built.shape.some (omega arith);
+      least = fewer 0 (length p.blocks) 0 (some_block p set.built) (omega arith);
       most = omega arith;
       same = ap (observe e) (iterate-zero (machine_step e) (first e answers)) ∙ sym (ap b3.observe (iterate-zero (b3.block_step p (b3_start e)) (b3.first (b3_start e) answers)));
       proper = λ moment below. absurd (omega arith);
@@ -236,7 +235,7 @@ alike_at p o symbol has m answers (suc n) set defined =
     record {
       choice = tt;
       steps = r.0;
-      least = fewer (suc n) (length p.blocks) r.0 set.built.shape.some r.1;
+      least = fewer (suc n) (length p.blocks) r.0 (some_block p set.built) r.1;
       most = subst (λ d. r.0 ≤ d) (same_count (suc n) (length (code_of p)) (word_count symbol) (words_counted p o symbol has)) r.2;
       same = alike_seen p e set (iterate (b3.block_step p (b3_start e)) (suc n) (b3.first (b3_start e) answers)) (iterate (machine_step e) r.0 (first e answers)) r.4 defined;
       proper = λ moment below.
@@ -288,19 +287,16 @@ returns_wide p built some =
     let v = value.1 in
     let there : StandsAt p b j v = stands_in p b j v (subst (λ vs. slice_get vs j ≡ Some v) (sym (block_at (values_by_block p) b block.1 block.2)) value.2) in
     let op : v.kind.opcode ≡ Return = is_a_return v.kind.opcode value.3 in
-    let is = value_at_place p built.shape b j v there in
-    let form = subst (λ o. IsFormOf o (number_of p b j) v.ty v.children v.body) op is.form in
-    let child = form.1.0 in
-    let named = built.rules b j v there in
-    let one = subst (λ cs. All (IsChildAt p b j) cs) form.1.1 named.children 0 0 (omega arith) in
-    (b, j, v, child, one.0, one.1, one.2, there, op, form.1.1, one.3, one.4, one.5)
+    let child = return_value p built b j v there op in
+    let has = child.2 in
+    (b, j, v, child.0, has.block, has.place, has.value, there, op, child.1, has.there, has.its_id, has.typed)
 
 pub agrees : (p : Procedure) (o : Object) (symbol : Symbol) → IsSupported p → HasCode p o symbol → Agrees p o symbol (frame_of p)
 agrees p o symbol built has = record {
   runs = λ m answers placed ranged. runs_alike p o symbol built has m answers placed;
   returns_32 = λ e. absurd (never_narrow (has_return p) e);
   returns_64 = λ e. returns_wide p built (wide_returns p e);
-  slots = sym (ap (map (λ (slot : SlotLine). slot.bytes)) built.shape.slots);
+  slots = sym (ap (map (λ (slot : SlotLine). slot.bytes)) built.forms.slots);
   words = omega (arith, words_counted p o symbol has, code_length p built);
   bytes = omega arith;
 }

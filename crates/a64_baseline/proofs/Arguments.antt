@@ -2,9 +2,8 @@
 use Rattle.std.proofs.Common.{◌≡◌, ◌≢◌, ℕ, suc, ◌+◌, ◌<◌, ◌≤◌, ◌⊎◌, inl, inr, List, [], ◌∷◌, ◌++◌, Some, length, refl, sym, ap, ◌∙◌, subst, arith, ⊎_elim, length-append}
 use Rattle.std.specs.Prelude.{slice_get}
 use Rattle.b3_base.specs.Memory.{write_word}
-use Rattle.b3_ir.specs.Procedure.{Procedure, values_by_block}
+use Rattle.b3_ir.specs.Procedure.{Procedure}
 use Rattle.b3_ir.specs.Procedure.{StandsAt}
-use Rattle.b3_ir.specs.Shape.{IsFormOf, IsArgumentBody}
 use Rattle.b3_ir.specs.declared.opcode.Opcode.{Opcode}
 use Rattle.b3_ir.specs.declared.opcode.Opcode.TheVariants.{ArgumentReg}
 use Rattle.b3_ir.specs.declared.value.Body.{Body}
@@ -14,15 +13,16 @@ use Rattle.b3_ir.specs.declared.value.Value.{Value}
 use Rattle.b3_base.specs.Observed.{Memory}
 use Rattle.a64_inst.specs.declared.inst.Inst.{Inst}
 use Rattle.a64_run.specs.Machine.{Entry, State, Runs}
-use Rattle.b3_ir.proofs.Numbering.{first_zero}
-use Rattle.a64_baseline.specs.Code.{places_of, code_of, argument_store, argument_stores, store_to}
+use Rattle.a64_baseline.specs.Code.{ids_of, places_of, code_of, argument_store, argument_stores, store_to}
+use Rattle.a64_baseline.specs.Coded.{IsArgumentBody, IsCoded}
 use Rattle.a64_baseline.proofs.Machine.{Stands, Ran, ran_none, ran_more, ran_same}
 use Rattle.a64_baseline.proofs.Frame.{address_of, stored_word, other_word}
 use Rattle.a64_baseline.proofs.Steps as steps
 use Rattle.a64_baseline.proofs.Steps.{store_step}
 use Rattle.a64_baseline.proofs.Pieces.{Spans}
 use Rattle.a64_baseline.proofs.Begins.{spans_front, spans_behind, follows_it}
-use Rattle.a64_baseline.proofs.Numbering.{number_of, value_at_place, has_place}
+use Rattle.a64_baseline.proofs.Coding.{has_place, value_coded}
+use Rattle.a64_baseline.proofs.Numbering.{before_zero}
 use Rattle.a64_baseline.proofs.Related.{Setting, HasWord, either}
 
 -- the arguments among the first values of block 0 stand in their places
@@ -56,10 +56,10 @@ module _ (p : Procedure) (e : Entry) (set : Setting p e) where
   -- an argument's place and register
   argument_place : (j : ℕ) (v : Value) (reg : Reg) → StandsAt p 0 j v → v.kind.opcode ≡ ArgumentReg → v.body ≡ Argument reg → (j < places_of p) × (reg.0 ≤ 7)
   argument_place j v reg there op body =
-      let is = value_at_place p set.built.shape 0 j v there in
-      let lt = has_place p set.built.shape 0 j v there (rw op refl) in
-      let form = subst (λ o. IsFormOf o (number_of p 0 j) v.ty v.children v.body) op is.form in
-      (omega (arith, first_zero (values_by_block p)), argument_below v.body reg body form.2)
+      let is = value_coded p set.built 0 j v there in
+      let lt = has_place p set.built 0 j v there (rw op refl) in
+      let form = subst (λ o. IsCoded (ids_of p) (places_of p) (length p.blocks) o v.ty v.children v.body) op is.form in
+      (omega (arith, before_zero p.blocks), argument_below v.body reg body form)
 
   -- one more argument
   one_more : (memory : Memory) (j : ℕ) (v : Value) (reg : Reg) → StandsAt p 0 j v → v.kind.opcode ≡ ArgumentReg → v.body ≡ Argument reg → ArgumentsBelow p e j memory

@@ -4,7 +4,6 @@ use Rattle.std.specs.Prelude.{slice_get, slice_index, slice_index_or, ◌||◌}
 use Rattle.std.specs.List.{list_any}
 use Rattle.b3_ir.specs.Naming.{type_of}
 use Rattle.b3_ir.specs.Procedure.{Procedure, values_by_block, values_of}
-use Rattle.b3_ir.specs.Shape.{AreValuesFrom, EndsBlock}
 use Rattle.b3_ir.specs.Table.{is_terminal}
 use Rattle.b3_ir.specs.Procedure.{StandsAt}
 use Rattle.b3_ir.specs.declared.opcode.Opcode.TheVariants.{Return}
@@ -12,13 +11,14 @@ use Rattle.b3_ir.specs.declared.value.Value.{Value}
 use Rattle.b3_base.specs.Observed.{Answer}
 use Rattle.b3_meaning.specs.Run as b3
 use Rattle.a64_run.specs.Machine.{Entry, State, Runs, Stops, first}
-use Rattle.a64_baseline.specs.Code.{places_of, prologue, argument_stores, entry_code, code_of, begins_of, size_of, words_of_values, value_code, values_code}
+use Rattle.a64_baseline.specs.Code.{ids_of, places_of, prologue, argument_stores, entry_code, code_of, begins_of, size_of, words_of_values, value_code, values_code}
 use Rattle.a64_baseline.specs.Object.{has_return, is_return}
 use Rattle.a64_baseline.proofs.Machine.{Stands, Ran, ran_both, ran_same}
-use Rattle.b3_ir.proofs.Numbering.{blocks_are, in_blocks, values_are}
+use Rattle.a64_baseline.proofs.Coding.{AreCoded, block_coded, block_ends, some_block}
+use Rattle.a64_baseline.proofs.Numbering.{EndsBlock, blocks_are, in_blocks, values_are}
 use Rattle.a64_baseline.proofs.Pieces.{Spans}
 use Rattle.a64_baseline.proofs.Begins as begins
-use Rattle.a64_baseline.proofs.Begins.{spans_front, spans_behind, first_stands, words_some, values_of_block}
+use Rattle.a64_baseline.proofs.Begins.{spans_front, spans_behind, first_stands, words_some}
 use Rattle.a64_baseline.proofs.Sizes.{value_size, values_size, words_cons}
 use Rattle.a64_baseline.proofs.Steps as steps
 use Rattle.a64_baseline.proofs.Steps.{set_x, set_other}
@@ -77,47 +77,46 @@ comes_on p e s h size most (b3.End (b3.Lost loss)) others some le does more = (m
 
 module _ (p : Procedure) (e : Entry) (set : Setting p e) where
   -- a value with its code, where the code of its block stands
-  here_first : (b j h k : ℕ) (v : Value) (vs : List Value) → StandsAt p b j v → Spans (code_of p) h (values_code (begins_of p) (places_of p) h (v ∷ vs)) → (is_terminal v.kind.opcode ≡ false → Stands (code_of p) (h + size_of v.kind.opcode)) → IsHere p b j h v
-  here_first b j h k v vs there spans next = record {
+  here_first : (b j h : ℕ) (v : Value) (vs : List Value) → StandsAt p b j v → Spans (code_of p) h (values_code (begins_of p) (ids_of p) (places_of p) h (v ∷ vs)) → (is_terminal v.kind.opcode ≡ false → Stands (code_of p) (h + size_of v.kind.opcode)) → IsHere p b j h v
+  here_first b j h v vs there spans next = record {
     there = there;
-    code = spans_front (code_of p) h (value_code (begins_of p) (places_of p) h v) (values_code (begins_of p) (places_of p) (h + size_of v.kind.opcode) vs) spans;
+    code = spans_front (code_of p) h (value_code (begins_of p) (ids_of p) (places_of p) h v) (values_code (begins_of p) (ids_of p) (places_of p) (h + size_of v.kind.opcode) vs) spans;
     next = next;
   }
 
-  values_run : (vs : List Value) (b j h k : ℕ) (bs : b3.State) (s : State) → AreValuesFrom k vs → EndsBlock vs → ((i : ℕ) (v : Value) → slice_get vs i ≡ Some v → StandsAt p b (j + i) v)
-      → Spans (code_of p) h (values_code (begins_of p) (places_of p) h vs) → steps.StandsAt e (places_of p) h s → Holds p e bs s.memory
+  values_run : (vs : List Value) (b j h : ℕ) (bs : b3.State) (s : State) → AreCoded p vs → EndsBlock vs → ((i : ℕ) (v : Value) → slice_get vs i ≡ Some v → StandsAt p b (j + i) v)
+      → Spans (code_of p) h (values_code (begins_of p) (ids_of p) (places_of p) h vs) → steps.StandsAt e (places_of p) h s → Holds p e bs s.memory
       → Comes p e s (words_of_values vs) (b3.run_values (type_of p) (b3_start e) vs bs)
-  values_run [] b j h k bs s are ends there spans at holds = absurd ends
-  values_run (v ∷ []) b j h k bs s are ends there spans at holds =
+  values_run [] b j h bs s are ends there spans at holds = absurd ends
+  values_run (v ∷ []) b j h bs s are ends there spans at holds =
       let here : StandsAt p b j v = subst (λ n. StandsAt p b n v) (omega arith) (there 0 v refl) in
-      let is = here_first b j h k v [] here spans (λ other. let bad : true ≡ false = sym ends ∙ other in cc) in
+      let is = here_first b j h v [] here spans (λ other. let bad : true ≡ false = sym ends ∙ other in cc) in
       let does = value_does p e set (begins.begin_stands p set.built) b j h v is bs s at holds (returns_there p b j v here) in
-      let some = words_some k (v ∷ []) are ends in
+      let some = words_some p (v ∷ []) are ends in
       comes_on p e s h (size_of v.kind.opcode) (words_of_values (v ∷ [])) (b3.effect (type_of p) (b3_start e) bs v) (b3.run_values (type_of p) (b3_start e) []) some (omega (arith, words_cons v [])) does
       (λ bs' follows. (words_of_values (v ∷ []), some, omega arith, tt))
-  values_run (v ∷ w ∷ vs) b j h k bs s are ends there spans at holds =
+  values_run (v ∷ w ∷ vs) b j h bs s are ends there spans at holds =
       let here : StandsAt p b j v = subst (λ n. StandsAt p b n v) (omega arith) (there 0 v refl) in
       let behind : (i : ℕ) (x : Value) → slice_get (w ∷ vs) i ≡ Some x → StandsAt p b (j + 1 + i) x = λ i x e1. subst (λ n. StandsAt p b n x) (omega arith) (there (suc i) x e1) in
-      let size : length (value_code (begins_of p) (places_of p) h v) ≡ size_of v.kind.opcode = value_size (begins_of p) (places_of p) h k v are.0 in
+      let size : length (value_code (begins_of p) (ids_of p) (places_of p) h v) ≡ size_of v.kind.opcode = value_size (begins_of p) (ids_of p) (places_of p) h p v are.0 in
       let h' : ℕ = h + size_of v.kind.opcode in
-      let tail : Spans (code_of p) h' (values_code (begins_of p) (places_of p) h' (w ∷ vs)) =
-      spans_behind (code_of p) h (size_of v.kind.opcode) (value_code (begins_of p) (places_of p) h v) (values_code (begins_of p) (places_of p) h' (w ∷ vs)) spans size in
-      let more_words = words_some (k + 1) (w ∷ vs) are.1 ends.1 in
-      let next : Stands (code_of p) h' = first_stands (code_of p) h' (values_code (begins_of p) (places_of p) h' (w ∷ vs)) tail (omega (arith, more_words, values_size (begins_of p) (places_of p) h' (k + 1) (w ∷ vs) are.1)) in
-      let is = here_first b j h k v (w ∷ vs) here spans (λ other. next) in
+      let tail : Spans (code_of p) h' (values_code (begins_of p) (ids_of p) (places_of p) h' (w ∷ vs)) =
+      spans_behind (code_of p) h (size_of v.kind.opcode) (value_code (begins_of p) (ids_of p) (places_of p) h v) (values_code (begins_of p) (ids_of p) (places_of p) h' (w ∷ vs)) spans size in
+      let more_words = words_some p (w ∷ vs) are.1 ends.1 in
+      let next : Stands (code_of p) h' = first_stands (code_of p) h' (values_code (begins_of p) (ids_of p) (places_of p) h' (w ∷ vs)) tail (omega (arith, more_words, values_size (begins_of p) (ids_of p) (places_of p) h' p (w ∷ vs) are.1)) in
+      let is = here_first b j h v (w ∷ vs) here spans (λ other. next) in
       let does = value_does p e set (begins.begin_stands p set.built) b j h v is bs s at holds (returns_there p b j v here) in
       let total = words_cons v (w ∷ vs) in
       comes_on p e s h (size_of v.kind.opcode) (words_of_values (v ∷ w ∷ vs)) (b3.effect (type_of p) (b3_start e) bs v) (b3.run_values (type_of p) (b3_start e) (w ∷ vs)) (omega (arith, more_words, total)) (omega (arith, total)) does
       (λ bs' follows.
-      let more = values_run (w ∷ vs) b (j + 1) h' (k + 1) bs' follows.after are.1 ends.1 behind tail follows.at follows.holds in
+      let more = values_run (w ∷ vs) b (j + 1) h' bs' follows.after are.1 ends.1 behind tail follows.at follows.holds in
       (size_of v.kind.opcode + more.0, omega (arith, more.1), omega (arith, more.2, total), reaches_after p e s follows.after (size_of v.kind.opcode) more.0 (b3.run_values (type_of p) (b3_start e) (w ∷ vs) bs') follows.ran more.3))
 
   -- a whole block
   pub block_run : (b : ℕ) (bs : b3.State) (s : State) → b < length p.blocks → steps.StandsAt e (places_of p) (slice_index (begins_of p) b) s → Holds p e bs s.memory
       → Comes p e s (words_of_values (values_of p b)) (b3.run_values (type_of p) (b3_start e) (values_of p b) bs)
   block_run b bs s lt at holds =
-      let are = values_of_block p set.built.shape b lt in
-      values_run (values_of p b) b 0 (slice_index (begins_of p) b) are.0 bs s are.1 are.2 (λ i v e1. subst (λ n. StandsAt p b n v) (omega arith) e1) (begins.block_at p set.built b lt) at holds
+      values_run (values_of p b) b 0 (slice_index (begins_of p) b) bs s (block_coded p set.built b) (block_ends p set.built b lt) (λ i v e1. subst (λ n. StandsAt p b n v) (omega arith) e1) (begins.block_at p set.built b lt) at holds
 
   -- the entry: from the start to block 0
   pub entry_run : (answers : List Answer)
@@ -128,7 +127,7 @@ module _ (p : Procedure) (e : Entry) (set : Setting p e) where
       let front : Spans (code_of p) 0 (prologue (places_of p)) = spans_front (code_of p) 0 (prologue (places_of p)) stores whole in
       let behind : Spans (code_of p) 3 stores = subst (λ n. Spans (code_of p) n stores) (omega arith) (spans_behind (code_of p) 0 3 (prologue (places_of p)) stores whole refl) in
       let size : length (entry_code p) ≡ 3 + length stores = length-append (prologue (places_of p)) stores in
-      let block : Stands (code_of p) (3 + length stores) = subst (Stands (code_of p)) (begins.first_begin p set.built ∙ size) (begins.begin_stands p set.built 0 (omega (arith, set.built.shape.some))) in
+      let block : Stands (code_of p) (3 + length stores) = subst (Stands (code_of p)) (begins.first_begin p set.built ∙ size) (begins.begin_stands p set.built 0 (omega (arith, some_block p set.built))) in
       let three : Stands (code_of p) 3 = begins.follows_it (code_of p) 3 stores behind block in
       let a = entering e (code_of p) (places_of p) set.run set.frame set.ranged answers front three in
       let b = stores_run p e set (values_of p 0) 0 3 a.after (λ i v e1. subst (λ n. StandsAt p 0 n v) (omega arith) e1) behind block a.at

@@ -2,21 +2,19 @@
 use Rattle.std.proofs.Common.{◌≡◌, ℕ, zero, suc, ◌+◌, ◌^◌, ◌<◌, ◌≤◌, Bool, true, false, ◌||◌, List, [], ◌∷◌, ◌++◌, Option, Some, length, drop, refl, sym, ap, ◌∙◌, subst, arith, append_assoc, length-append}
 use Rattle.std.specs.Prelude.{slice_get, slice_index, slice_index_or, sum_by, IfSome, All}
 use Rattle.std.specs.List.{list_any}
-use Rattle.std.proofs.lemmas.List.{drop_more}
+use Rattle.std.proofs.lemmas.List.{drop_all, drop_more}
 use Rattle.std.proofs.lemmas.List.Sums.{sum_by-cons}
 use Rattle.b3_ir.specs.Procedure.{IsIn, Kept, Procedure, StandsAt, total, values_by_block, values_from, values_of}
-use Rattle.b3_ir.specs.Shape.{IsFormOf}
-use Rattle.b3_supported.specs.Supported.{NamesBlocks, NamesPhi, IsSupported}
-use Rattle.b3_ir.specs.declared.value.Body.{Body}
-use Rattle.b3_ir.specs.declared.value.Body.TheVariants.{Target, Targets}
+use Rattle.b3_supported.specs.Supported.{IsSupported}
 use Rattle.b3_ir.specs.declared.value.Value.{Value}
 use Rattle.a64_inst.specs.declared.inst.Inst.{Inst}
-use Rattle.b3_ir.proofs.Numbering.{blocks_are, first_zero, id_at, values_are}
-use Rattle.a64_baseline.specs.Code.{prologue, argument_store, argument_stores, size_of, words_of_values, begins_from, begins_of, value_code, values_code, blocks_code, entry_code, places_of, code_of}
+use Rattle.a64_baseline.specs.Code.{prologue, argument_store, argument_stores, size_of, words_of_values, begins_from, begins_of, value_code, values_code, blocks_code, entry_code, ids_of, place_of, places_of, code_of}
 use Rattle.a64_baseline.specs.Object.{is_return, has_return}
 use Rattle.a64_baseline.specs.declared.layout.Count.{Count}
-use Rattle.a64_baseline.proofs.Begins.{values_of_block}
-use Rattle.a64_baseline.proofs.Numbering.{value_at_place, few_values, total_is}
+use Rattle.a64_baseline.specs.Coded.{IsCodedValue}
+use Rattle.a64_baseline.proofs.Places.{ids_count}
+use Rattle.a64_baseline.proofs.Coding.{block_coded, place_is, value_coded}
+use Rattle.a64_baseline.proofs.Numbering.{before_zero, blocks_are, total_is, values_are}
 use Rattle.a64_baseline.proofs.Sizes.{value_size, values_size, values_words_most, stores_most, blocks_cons, begins_length}
 use Rattle.a64_baseline.proofs.WellFormedCode.{begins_short, end_most}
 
@@ -127,7 +125,7 @@ block_within (vs ∷ blocks) zero = omega (arith, sum_by-cons length vs blocks)
 block_within (vs ∷ blocks) (suc b) = omega (arith, sum_by-cons length vs blocks, block_within blocks b)
 
 pub few_in_block : (p : Procedure) → IsSupported p → (block : ℕ) → length (values_of p block) ≤ 256
-few_in_block p built block = omega (arith, few_values p built, block_within (values_by_block p) block, ap length (values_are p block), total_is p)
+few_in_block p built block = omega (arith, built.forms.few_values, block_within (values_by_block p) block, ap length (values_are p block), total_is p)
 
 -- what is counted before the last value
 pub counted_few : (p : Kept) → IsSupported p.procedure → (block : ℕ) (count : Count) (node : ℕ) (v : Value) → IsCounted p block count (Some node) → slice_get (values_from p block (Some node)) 0 ≡ Some v
@@ -138,7 +136,7 @@ counted_few p built block count node v counted e =
     (omega (arith, counted.values), omega (arith, counted.arguments, stores_most 0 (values_of p.procedure block)), omega (arith, counted.words, values_words_most (values_of p.procedure block)))
 
 pub few_places : (p : Procedure) → IsSupported p → places_of p < 256
-few_places p built = omega (arith, few_values p built)
+few_places p built = omega (arith, built.forms.few_values)
 
 -- ---- the layout
 -- the values of a block, and those of the blocks behind it
@@ -165,8 +163,8 @@ laid_few p built begins values here returns block laid lt =
     let count : values + sum_by length (values_of p block ∷ behind) ≡ total p = subst (λ l. values + sum_by length l ≡ total p) step laid.all_values in
     let all = length (entry_code p) + sum_by words_of_values (values_by_block p) in
     let words : here + sum_by words_of_values (values_of p block ∷ behind) ≡ all = subst (λ l. here + sum_by words_of_values l ≡ all) step laid.all_words in (
-      omega (arith, few_values p built, sum_by-cons length (values_of p block) behind),
-      omega (arith, few_values p built, end_most p, blocks_cons (values_of p block) behind),
+      omega (arith, built.forms.few_values, sum_by-cons length (values_of p block) behind),
+      omega (arith, built.forms.few_values, end_most p, blocks_cons (values_of p block) behind),
     )
 
 -- one more block
@@ -188,24 +186,33 @@ laid_next p begins begins' values here returns returns' block count laid lt more
       all_returns = ap (λ b. b || list_any returns_some behind) returns_is ∙ or_assoc returns (returns_some vs) (list_any returns_some behind) ∙ all_returns;
     }
 
+-- past the last block all values are counted
+pub laid_whole : (p : Procedure) (begins : List ℕ) (values here : ℕ) (returns : Bool) (block : ℕ) → IsLaid p begins values here returns block → length p.blocks ≤ block → values ≡ total p
+laid_whole p begins values here returns block laid end =
+    let none : drop block (values_by_block p) ≡ [] = drop_all block (values_by_block p) (omega (arith, blocks_are p)) in
+    no_more values (total p) (subst (λ (l : List (List Value)). values + sum_by length l ≡ total p) none laid.all_values)
+  where
+    no_more : (n m : ℕ) → n + 0 ≡ m → n ≡ m
+    no_more n m e = omega arith
+
 -- ---- the stores of arguments
 -- the stores so far, with those that are left, are the stores of all
 pub record IsStored (p : Kept) (before code : List Inst) (at : Option ℕ) : Type 0 where
   pub walk : IsWalked p 0 at
   pub whole : code ++ argument_stores walk.place (values_from p 0 at) ≡ before ++ argument_stores 0 (values_of p.procedure 0)
 
--- in block 0 a value's id is its place
-id_in_entry : (p : Procedure) → IsSupported p → (j : ℕ) (v : Value) → StandsAt p 0 j v → v.id ≡ j
-id_in_entry p built j v there = omega (arith, id_at p 0 j v built.shape there, first_zero (values_by_block p))
+-- in block 0 the place that a value's id names is its own
+place_in_entry : (p : Procedure) → IsSupported p → (j : ℕ) (v : Value) → StandsAt p 0 j v → place_of p v.id ≡ j
+place_in_entry p built j v there = omega (arith, place_is p built 0 j v there, before_zero p.blocks)
 
 pub stored_next : (p : Kept) → IsSupported p.procedure → (before code code' : List Inst) (node : ℕ) (v : Value) (next : Option ℕ) → IsStored p before code (Some node) → slice_get (values_from p 0 (Some node)) 0 ≡ Some v
-    → code' ≡ code ++ argument_store v.id v.kind.opcode v.body → values_from p 0 next ≡ drop 1 (values_from p 0 (Some node)) → IfSome next (λ n. IsIn p n 0) → IsStored p before code' next
+    → code' ≡ code ++ argument_store (place_of p.procedure v.id) v.kind.opcode v.body → values_from p 0 next ≡ drop 1 (values_from p 0 (Some node)) → IfSome next (λ n. IsIn p n 0) → IsStored p before code' next
 stored_next p built before code code' node v next stored e more rest there =
     let place = stored.walk.place in
     let all = before ++ argument_stores 0 (values_of p.procedure 0) in
     let step : values_from p 0 (Some node) ≡ v ∷ values_from p 0 next = walk_values p 0 node v next e rest in
     let whole : code ++ argument_stores place (v ∷ values_from p 0 next) ≡ all = subst (λ l. code ++ argument_stores place l ≡ all) step stored.whole in
-    let id : v.id ≡ place = id_in_entry p.procedure built place v (walk_stands p 0 node v stored.walk e) in
+    let id : place_of p.procedure v.id ≡ place = place_in_entry p.procedure built place v (walk_stands p 0 node v stored.walk e) in
     record {
       walk = walk_goes p 0 node next stored.walk rest there;
       whole = joined code code' (argument_store place v.kind.opcode v.body) (argument_stores (place + 1) (values_from p 0 next)) all (more ∙ ap (λ k. code ++ argument_store k v.kind.opcode v.body) id) whole;
@@ -213,22 +220,15 @@ stored_next p built before code code' node v next stored e more rest there =
 
 -- ---- the code of the values of a block
 -- what push_value asks of a value
-pub value_form : (p : Procedure) → IsSupported p → (b j : ℕ) (v : Value) → StandsAt p b j v → IsFormOf v.kind.opcode v.id v.ty v.children v.body
-value_form p built b j v there =
-    let is = value_at_place p built.shape b j v there in
-    subst (λ n. IsFormOf v.kind.opcode n v.ty v.children v.body) (sym is.id) is.form
+pub coded_by : (p : Procedure) → IsSupported p → (begins ids : List ℕ) (places : ℕ) → begins ≡ begins_of p → ids ≡ ids_of p → places ≡ places_of p → (b j : ℕ) (v : Value) → StandsAt p b j v → IsCodedValue ids places (length begins) v
+coded_by p built begins ids places e_begins e_ids e_places b j v there =
+    let count : length begins ≡ length p.blocks = omega (arith, ap (λ (l : List ℕ). length l) e_begins, begins_length (length (entry_code p)) (values_by_block p), blocks_are p) in
+    subst (λ n. IsCodedValue ids places n v) (sym count)
+    (subst (λ n. IsCodedValue ids n (length p.blocks) v) (sym e_places)
+    (subst (λ (l : List ℕ). IsCodedValue l (places_of p) (length p.blocks) v) (sym e_ids) (value_coded p built b j v there)))
 
-pub value_phi : (p : Procedure) → IsSupported p → (body : Body) → NamesPhi p body → (phi : ℕ) → body ≡ Target phi → phi < 2 ^ 31
-value_phi p built body names phi is =
-    let these : NamesPhi p (Target phi) = subst (NamesPhi p) is names in
-    let few = (built.rules these.0 these.1 these.2 these.3).number in
-    omega (arith, these.4)
-
-pub value_targets : (p : Procedure) (begins : List ℕ) → begins ≡ begins_of p → (body : Body) → NamesBlocks p body → (blocks : List ℕ) → body ≡ Targets blocks → All (λ b. b < length begins) blocks
-value_targets p begins e body names blocks is k d lt =
-    let these : NamesBlocks p (Targets blocks) = subst (NamesBlocks p) is names in
-    let h = these k d lt in
-    omega (arith, ap (λ (l : List ℕ). length l) e, begins_length (length (entry_code p)) (values_by_block p), blocks_are p)
+pub few_ids : (p : Procedure) → IsSupported p → (ids : List ℕ) → ids ≡ ids_of p → length ids ≤ 256
+few_ids p built ids e = omega (arith, ap (λ (l : List ℕ). length l) e, ids_count p, built.forms.few_values)
 
 -- each item, by its place
 all_from_index : (xs : List ℕ) → ((b : ℕ) → slice_index xs b < 2 ^ 12) → All (λ word. word < 2 ^ 12) xs
@@ -240,76 +240,75 @@ pub begins_all_short : (p : Procedure) → IsSupported p → (begins : List ℕ)
 begins_all_short p built begins e = subst (All (λ word. word < 2 ^ 12)) (sym e) (all_from_index (begins_of p) (begins_short p built))
 
 -- the code so far, with that of the values that are left, is the code of all
-pub record ArePushed (p : Kept) (begins : List ℕ) (places block : ℕ) (before code : List Inst) (at : Option ℕ) : Type 0 where
+pub record ArePushed (p : Kept) (begins ids : List ℕ) (places block : ℕ) (before code : List Inst) (at : Option ℕ) : Type 0 where
   pub walk : IsWalked p block at
-  pub whole : code ++ values_code begins places (length code) (values_from p block at) ≡ before ++ values_code begins places (length before) (values_of p.procedure block)
+  pub whole : code ++ values_code begins ids places (length code) (values_from p block at) ≡ before ++ values_code begins ids places (length before) (values_of p.procedure block)
   pub words : length code + words_of_values (values_from p block at) ≡ length before + words_of_values (values_of p.procedure block)
 
 -- the words with those of one more value
-pub pushed_room : (p : Kept) (begins : List ℕ) (places block : ℕ) (before code : List Inst) (node : ℕ) (v : Value) → ArePushed p begins places block before code (Some node) → slice_get (values_from p block (Some node)) 0 ≡ Some v
+pub pushed_room : (p : Kept) (begins ids : List ℕ) (places block : ℕ) (before code : List Inst) (node : ℕ) (v : Value) → ArePushed p begins ids places block before code (Some node) → slice_get (values_from p block (Some node)) 0 ≡ Some v
     → length code + size_of v.kind.opcode ≤ length before + words_of_values (values_of p.procedure block)
-pushed_room p begins places block before code node v pushed e =
+pushed_room p begins ids places block before code node v pushed e =
     let behind = drop 1 (values_from p block (Some node)) in
     let all = length before + words_of_values (values_of p.procedure block) in
     let words : length code + words_of_values (v ∷ behind) ≡ all = subst (λ l. length code + words_of_values l ≡ all) (from_head (values_from p block (Some node)) v e) pushed.words in
     omega (arith, sum_by-cons (λ (v : Value). size_of v.kind.opcode) v behind)
 
-pub pushed_next : (p : Kept) → IsSupported p.procedure → (begins : List ℕ) (places block : ℕ) (before code code' : List Inst) (node : ℕ) (v : Value) (next : Option ℕ) → ArePushed p begins places block before code (Some node)
-    → slice_get (values_from p block (Some node)) 0 ≡ Some v → code' ≡ code ++ value_code begins places (length code) v
-    → values_from p block next ≡ drop 1 (values_from p block (Some node)) → IfSome next (λ n. IsIn p n block) → ArePushed p begins places block before code' next
-pushed_next p built begins places block before code code' node v next pushed e more rest there =
+pub pushed_next : (p : Kept) → IsSupported p.procedure → (begins ids : List ℕ) (places block : ℕ) (before code code' : List Inst) (node : ℕ) (v : Value) (next : Option ℕ) → ArePushed p begins ids places block before code (Some node)
+    → slice_get (values_from p block (Some node)) 0 ≡ Some v → code' ≡ code ++ value_code begins ids places (length code) v
+    → values_from p block next ≡ drop 1 (values_from p block (Some node)) → IfSome next (λ n. IsIn p n block) → ArePushed p begins ids places block before code' next
+pushed_next p built begins ids places block before code code' node v next pushed e more rest there =
     let behind = values_from p block next in
-    let all_code = before ++ values_code begins places (length before) (values_of p.procedure block) in
+    let all_code = before ++ values_code begins ids places (length before) (values_of p.procedure block) in
     let all_words = length before + words_of_values (values_of p.procedure block) in
     let step : values_from p block (Some node) ≡ v ∷ behind = walk_values p block node v next e rest in
-    let is = value_at_place p.procedure built.shape block pushed.walk.place v (walk_stands p block node v pushed.walk e) in
-    let size : length (value_code begins places (length code) v) ≡ size_of v.kind.opcode = value_size begins places (length code) _ v is in
-    let long : length code' ≡ length code + size_of v.kind.opcode = ap (λ (l : List Inst). length l) more ∙ length-append code (value_code begins places (length code) v) ∙ ap (λ n. length code + n) size in
-    let whole : code ++ values_code begins places (length code) (v ∷ behind) ≡ all_code = subst (λ l. code ++ values_code begins places (length code) l ≡ all_code) step pushed.whole in
+    let is = value_coded p.procedure built block pushed.walk.place v (walk_stands p block node v pushed.walk e) in
+    let size : length (value_code begins ids places (length code) v) ≡ size_of v.kind.opcode = value_size begins ids places (length code) p.procedure v is in
+    let long : length code' ≡ length code + size_of v.kind.opcode = ap (λ (l : List Inst). length l) more ∙ length-append code (value_code begins ids places (length code) v) ∙ ap (λ n. length code + n) size in
+    let whole : code ++ values_code begins ids places (length code) (v ∷ behind) ≡ all_code = subst (λ l. code ++ values_code begins ids places (length code) l ≡ all_code) step pushed.whole in
     let words : length code + words_of_values (v ∷ behind) ≡ all_words = subst (λ l. length code + words_of_values l ≡ all_words) step pushed.words in
     record {
       walk = walk_goes p block node next pushed.walk rest there;
-      whole = joined code code' (value_code begins places (length code) v) (values_code begins places (length code') behind) all_code more
-          (ap (λ w. code ++ (value_code begins places (length code) v ++ values_code begins places w behind)) long ∙ whole);
+      whole = joined code code' (value_code begins ids places (length code) v) (values_code begins ids places (length code') behind) all_code more
+          (ap (λ w. code ++ (value_code begins ids places (length code) v ++ values_code begins ids places w behind)) long ∙ whole);
       words = omega (arith, sum_by-cons (λ (v : Value). size_of v.kind.opcode) v behind);
     }
 
 -- ---- the code of the blocks
-pub record AreLinked (p : Procedure) (begins : List ℕ) (places : ℕ) (before code : List Inst) (block : ℕ) : Type 0 where
-  pub whole : code ++ blocks_code begins places (length code) (drop block (values_by_block p)) ≡ before ++ blocks_code begins places (length before) (values_by_block p)
+pub record AreLinked (p : Procedure) (begins ids : List ℕ) (places : ℕ) (before code : List Inst) (block : ℕ) : Type 0 where
+  pub whole : code ++ blocks_code begins ids places (length code) (drop block (values_by_block p)) ≡ before ++ blocks_code begins ids places (length before) (values_by_block p)
   pub words : length code + sum_by words_of_values (drop block (values_by_block p)) ≡ length before + sum_by words_of_values (values_by_block p)
 
 -- the words with those of one more block
-pub linked_room : (p : Procedure) (begins : List ℕ) (places : ℕ) (before code : List Inst) (block : ℕ) → AreLinked p begins places before code block → block < length p.blocks
+pub linked_room : (p : Procedure) (begins ids : List ℕ) (places : ℕ) (before code : List Inst) (block : ℕ) → AreLinked p begins ids places before code block → block < length p.blocks
     → length code + words_of_values (values_of p block) ≤ length before + sum_by words_of_values (values_by_block p)
-linked_room p begins places before code block linked lt =
+linked_room p begins ids places before code block linked lt =
     let behind = drop (block + 1) (values_by_block p) in
     let all = length before + sum_by words_of_values (values_by_block p) in
     let words : length code + sum_by words_of_values (values_of p block ∷ behind) ≡ all = subst (λ l. length code + sum_by words_of_values l ≡ all) (next_block p block lt) linked.words in
     omega (arith, blocks_cons (values_of p block) behind)
 
-pub linked_next : (p : Procedure) → IsSupported p → (begins : List ℕ) (places : ℕ) (before code code' : List Inst) (block : ℕ) → AreLinked p begins places before code block → block < length p.blocks
-    → code' ≡ code ++ values_code begins places (length code) (values_of p block) → AreLinked p begins places before code' (block + 1)
-linked_next p built begins places before code code' block linked lt more =
+pub linked_next : (p : Procedure) → IsSupported p → (begins ids : List ℕ) (places : ℕ) (before code code' : List Inst) (block : ℕ) → AreLinked p begins ids places before code block → block < length p.blocks
+    → code' ≡ code ++ values_code begins ids places (length code) (values_of p block) → AreLinked p begins ids places before code' (block + 1)
+linked_next p built begins ids places before code code' block linked lt more =
     let vs = values_of p block in
     let behind = drop (block + 1) (values_by_block p) in
-    let all_code = before ++ blocks_code begins places (length before) (values_by_block p) in
+    let all_code = before ++ blocks_code begins ids places (length before) (values_by_block p) in
     let all_words = length before + sum_by words_of_values (values_by_block p) in
     let step : drop block (values_by_block p) ≡ vs ∷ behind = next_block p block lt in
-    let are = values_of_block p built.shape block lt in
-    let size : length (values_code begins places (length code) vs) ≡ words_of_values vs = values_size begins places (length code) are.0 vs are.1 in
-    let long : length code' ≡ length code + words_of_values vs = ap (λ (l : List Inst). length l) more ∙ length-append code (values_code begins places (length code) vs) ∙ ap (λ n. length code + n) size in
-    let whole : code ++ blocks_code begins places (length code) (vs ∷ behind) ≡ all_code = subst (λ l. code ++ blocks_code begins places (length code) l ≡ all_code) step linked.whole in
+    let size : length (values_code begins ids places (length code) vs) ≡ words_of_values vs = values_size begins ids places (length code) p vs (block_coded p built block) in
+    let long : length code' ≡ length code + words_of_values vs = ap (λ (l : List Inst). length l) more ∙ length-append code (values_code begins ids places (length code) vs) ∙ ap (λ n. length code + n) size in
+    let whole : code ++ blocks_code begins ids places (length code) (vs ∷ behind) ≡ all_code = subst (λ l. code ++ blocks_code begins ids places (length code) l ≡ all_code) step linked.whole in
     let words : length code + sum_by words_of_values (vs ∷ behind) ≡ all_words = subst (λ l. length code + sum_by words_of_values l ≡ all_words) step linked.words in
     record {
-      whole = joined code code' (values_code begins places (length code) vs) (blocks_code begins places (length code') behind) all_code more
-          (ap (λ w. code ++ (values_code begins places (length code) vs ++ blocks_code begins places w behind)) long ∙ whole);
+      whole = joined code code' (values_code begins ids places (length code) vs) (blocks_code begins ids places (length code') behind) all_code more
+          (ap (λ w. code ++ (values_code begins ids places (length code) vs ++ blocks_code begins ids places w behind)) long ∙ whole);
       words = omega (arith, blocks_cons vs behind);
     }
 
 -- ---- the code of the procedure
-pub code_is : (p : Procedure) (begins : List ℕ) (places : ℕ) (a b c : List Inst) → begins ≡ begins_of p → places ≡ places_of p → a ≡ [] ++ prologue places → b ≡ a ++ argument_stores 0 (values_of p 0) → c ≡ b ++ blocks_code begins places (length b) (values_by_block p)
+pub code_is : (p : Procedure) (begins ids : List ℕ) (places : ℕ) (a b c : List Inst) → begins ≡ begins_of p → ids ≡ ids_of p → places ≡ places_of p → a ≡ [] ++ prologue places → b ≡ a ++ argument_stores 0 (values_of p 0) → c ≡ b ++ blocks_code begins ids places (length b) (values_by_block p)
     → (length b ≡ length (entry_code p)) × (c ≡ code_of p)
-code_is p begins places a b c e_begins e_places is_a is_b is_c =
+code_is p begins ids places a b c e_begins e_ids e_places is_a is_b is_c =
     let entry : b ≡ entry_code p = is_b ∙ ap (λ l. l ++ argument_stores 0 (values_of p 0)) is_a ∙ ap (λ n. prologue n ++ argument_stores 0 (values_of p 0)) e_places in
-    (ap (λ (l : List Inst). length l) entry, is_c ∙ rw (entry, e_begins, e_places) refl)
+    (ap (λ (l : List Inst). length l) entry, is_c ∙ rw (entry, e_begins, e_ids, e_places) refl)

@@ -1,5 +1,5 @@
 -- The definitions computed on three procedures: one that counts its argument down through a Phi,
--- one that never ends, and one that swaps two Phis through a loop.
+-- one that never ends, and one that swaps two Phis through a loop and uses them in the block after it.
 use Rattle.std.proofs.Common.{◌≡◌, ℕ, false, List, [], ◌∷◌, Some, refl}
 use Rattle.std.specs.Prelude.{codes, nat_eq, if◌then◌else◌}
 use Rattle.b3_base.specs.Memory.{is_mapped, read_word, write_word}
@@ -80,7 +80,7 @@ endless_going : b3_status endless 0 0 0 100 ≡ Going
 unfolding iterate
 endless_going = refl
 
--- ---- two Phis that change places
+-- ---- two Phis that change places; ids have gaps and don't rise
 abbrev swap : Procedure
 swap = record {
   name = codes "f";
@@ -88,11 +88,10 @@ swap = record {
   slots = [];
   blocks =
       block 0 2 (value 0 3 Int64 ArgumentReg [] (Argument (record { 0 = 0 })) ∷ value 1 4 Int64 ArgumentReg [] (Argument (record { 0 = 1 })) ∷ value 2 5 Int64 ArgumentReg [] (Argument (record { 0 = 2 }))
-      ∷ value 3 6 Int64 Const64 [] (Constant 1) ∷ value 4 7 Void Upsilon (0 ∷ []) (Target 8) ∷ value 5 8 Void Upsilon (1 ∷ []) (Target 9) ∷ value 6 9 Void Upsilon (2 ∷ []) (Target 10) ∷ value 7 10 Void Jump [] (Targets (1 ∷ [])) ∷ [])
-      ∷ block 1 12 (value 8 13 Int64 Phi [] Plain ∷ value 9 14 Int64 Phi [] Plain ∷ value 10 15 Int64 Phi [] Plain ∷ value 11 16 Void Upsilon (9 ∷ []) (Target 8) ∷ value 12 17 Int64 Sub (10 ∷ 3 ∷ []) Plain
-      ∷ value 13 18 Void Upsilon (8 ∷ []) (Target 9) ∷ value 14 19 Void Upsilon (12 ∷ []) (Target 10) ∷ value 15 20 Void Upsilon (8 ∷ []) (Target 18) ∷ value 16 21 Void Upsilon (9 ∷ []) (Target 19)
-      ∷ value 17 22 Void Branch (12 ∷ []) (Targets (1 ∷ 2 ∷ [])) ∷ [])
-      ∷ block 2 24 (value 18 25 Int64 Phi [] Plain ∷ value 19 26 Int64 Phi [] Plain ∷ value 20 27 Int64 Sub (18 ∷ 19 ∷ []) Plain ∷ value 21 28 Void Return (20 ∷ []) Plain ∷ [])
+      ∷ value 70 6 Int64 Const64 [] (Constant 1) ∷ value 4 7 Void Upsilon (0 ∷ []) (Target 8) ∷ value 5 8 Void Upsilon (1 ∷ []) (Target 9) ∷ value 6 9 Void Upsilon (2 ∷ []) (Target 3000) ∷ value 7 10 Void Jump [] (Targets (1 ∷ [])) ∷ [])
+      ∷ block 1 12 (value 8 13 Int64 Phi [] Plain ∷ value 9 14 Int64 Phi [] Plain ∷ value 3000 15 Int64 Phi [] Plain ∷ value 11 16 Void Upsilon (9 ∷ []) (Target 8) ∷ value 12 17 Int64 Sub (3000 ∷ 70 ∷ []) Plain
+      ∷ value 13 18 Void Upsilon (8 ∷ []) (Target 9) ∷ value 14 19 Void Upsilon (12 ∷ []) (Target 3000) ∷ value 15 20 Void Branch (12 ∷ []) (Targets (1 ∷ 2 ∷ [])) ∷ [])
+      ∷ block 2 22 (value 50 23 Int64 Sub (8 ∷ 9 ∷ []) Plain ∷ value 40 24 Void Return (50 ∷ []) Plain ∷ [])
       ∷ [];
 }
 
@@ -116,3 +115,12 @@ one_code = refl
 one_code_returned : (machine_status countdown 1 0 0 27 ≡ Returned (Some 1))
 unfolding iterate decode by_row step_of add_sub_imm add_sub_reg move_wide access store_pair load_pair branch_reg branch branch_zero shifted is_mapped read_word write_word
 one_code_returned = refl
+
+-- ---- the code of the last
+swap_code : machine_status swap 7 3 1 44 ≡ Going
+unfolding iterate decode by_row step_of add_sub_imm add_sub_reg move_wide access store_pair load_pair branch_reg branch branch_zero shifted is_mapped read_word write_word
+swap_code = refl
+
+swap_code_returned : machine_status swap 7 3 1 45 ≡ Returned (Some 4)
+unfolding iterate decode by_row step_of add_sub_imm add_sub_reg move_wide access store_pair load_pair branch_reg branch branch_zero shifted is_mapped read_word write_word
+swap_code_returned = refl

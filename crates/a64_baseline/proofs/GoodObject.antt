@@ -1,6 +1,6 @@
 -- The object of procedures is good, and is their code.
-use Rattle.std.proofs.Common.{◌≡◌, ◌≢◌, ℕ, Some, subst, zero, suc, ◌+◌, ◌*◌, ◌^◌, ◌<◌, ◌≤◌, List, [], ◌∷◌, length, refl, sym, ap, ◌∙◌, arith, length-append}
-use Rattle.std.specs.Prelude.{All, AllPairs, map, slice_get, slice_index_or, sum_by}
+use Rattle.std.proofs.Common.{◌≡◌, ◌≢◌, ℕ, Some, subst, suc, ◌+◌, ◌*◌, ◌^◌, ◌<◌, ◌≤◌, List, [], ◌∷◌, length, refl, sym, ap, ◌∙◌, arith, length-append}
+use Rattle.std.specs.Prelude.{All, AllPairs, map, slice_get, sum_by}
 use Rattle.std.specs.List.{flat_map}
 use Rattle.std.proofs.lemmas.List.Elements.{All-cons, All-get_or, All-head, All-map, All-nil, All-tail, All-weaker}
 use Rattle.std.proofs.lemmas.List.{length-map}
@@ -21,11 +21,11 @@ use Rattle.elf_obj.specs.declared.object.Symbol.{Symbol}
 use Rattle.a64_word.specs.Word.{word}
 use Rattle.a64_run.specs.Agrees.{Agrees}
 use Rattle.a64_run.specs.CodeOf.{IsCodeOf, IsCodeOfOne}
-use Rattle.a64_baseline.specs.Code.{places_of, entry_code, begins_of, blocks_code, code_of}
+use Rattle.a64_baseline.specs.Code.{ids_of, places_of, entry_code, begins_of, blocks_code, code_of}
 use Rattle.a64_baseline.specs.Object.{frame_of, object_of, symbol_at, symbols_from, words_of}
 use Rattle.a64_baseline.proofs.Agreement.{agrees}
 use Rattle.a64_baseline.proofs.CodeLists.{few_places}
-use Rattle.a64_baseline.proofs.Joined.{StandsInText, each_stands}
+use Rattle.a64_baseline.proofs.Joined.{each_stands}
 use Rattle.a64_baseline.proofs.WellFormedCode.{code_short}
 
 frame_good : (p : Procedure) → IsSupported p → IsGoodFrame (frame_of p)
@@ -43,7 +43,7 @@ frame_good p built =
 
 -- the prologue stands before all else
 code_some : (p : Procedure) → 3 ≤ length (code_of p)
-code_some p = omega (arith, length-append (entry_code p) (blocks_code (begins_of p) (places_of p) (length (entry_code p)) (values_by_block p)))
+code_some p = omega (arith, length-append (entry_code p) (blocks_code (begins_of p) (ids_of p) (places_of p) (length (entry_code p)) (values_by_block p)))
 
 words_some : (p : Procedure) → 3 ≤ length (words_of p)
 words_some p = omega (arith, length-map (code_of p) word, code_some p)
@@ -79,7 +79,7 @@ object_good ps all narrow = record {
   few_words = omega (arith, text_short ps all.each, all.few);
   narrow = narrow;
   fills = all_fill ps 0 (4 * length (flat_map words_of ps)) (omega arith);
-  names = subst (All IsName) (sym (their_names 0 ps)) (All-map IsName (λ (p : Procedure). p.name) ps (All-weaker IsSupported (λ (p : Procedure). IsName p.name) (λ p built. built.shape.name) ps all.each));
+  names = subst (All IsName) (sym (their_names 0 ps)) (All-map IsName (λ (p : Procedure). p.name) ps (All-weaker IsSupported (λ (p : Procedure). IsName p.name) (λ p built. built.name) ps all.each));
   distinct = subst (AllPairs (λ a b. a ≢ b)) (sym (their_names 0 ps)) all.distinct;
   tables = record {
     count = length-map ps frame_of ∙ sym (as_many 0 ps);
@@ -105,7 +105,7 @@ frames_small ps =
 symbols_small : (offset : ℕ) (ps : List Procedure) → All IsSupported ps → sum_by (λ (symbol : Symbol). 25 + length symbol.name) (symbols_from offset ps) ≤ length ps * 280
 symbols_small offset [] built = omega arith
 symbols_small offset (p ∷ ps) built =
-    let name = (All-head IsSupported p ps built).shape.name.short in
+    let name = (All-head IsSupported p ps built).name.short in
     let first = sum_by-cons (λ (symbol : Symbol). 25 + length symbol.name) (symbol_at offset p) (symbols_from (offset + 4 * length (words_of p)) ps) in
     omega (arith, name, first, symbols_small (offset + 4 * length (words_of p)) ps (All-tail IsSupported p ps built))
 

@@ -1,9 +1,8 @@
 -- Where the code and the symbol of each procedure stand among those of several.
-use Rattle.std.proofs.Common.{◌≡◌, ℕ, zero, suc, ◌+◌, ◌*◌, ◌^◌, ◌<◌, ◌≤◌, List, [], ◌∷◌, ◌++◌, Some, length, refl, sym, ap, ◌∙◌, subst, arith, length-append}
+use Rattle.std.proofs.Common.{◌≡◌, ℕ, zero, suc, ◌+◌, ◌*◌, ◌≤◌, List, [], ◌∷◌, ◌++◌, Some, length, refl, sym, ap, ◌∙◌, subst, arith, length-append}
 use Rattle.std.specs.Prelude.{map, take, slice_get}
 use Rattle.std.specs.Option.{option_map}
-use Rattle.std.proofs.Math.Seq.{take-suc}
-use Rattle.std.proofs.lemmas.Option.{get_or_from_slice_get, slice_get-map, slice_get_within}
+use Rattle.std.proofs.lemmas.Option.{slice_get-map, slice_get_within}
 use Rattle.std.proofs.lemmas.List.Folds.{length-flat_map-take}
 use Rattle.std.specs.List.{flat_map}
 use Rattle.std.proofs.lemmas.List.{append-nil, map-append}
@@ -12,7 +11,7 @@ use Rattle.std.proofs.lemmas.Grind.{flat_map-append}
 use Rattle.b3_ir.specs.Procedure.{Kept, Procedure, procedures}
 use Rattle.elf_obj.specs.declared.object.Symbol.{Symbol}
 use Rattle.a64_baseline.specs.Object.{frame_of, object_of, symbol_at, symbols_from, with_procedure, words_of}
-use Rattle.a64_baseline.proofs.Begins.{get_front, get_behind}
+use Rattle.a64_baseline.proofs.Numbering.{get_behind, get_front, take_more}
 
 -- the code of procedure k stands in a text that has `first` words before those of ps, where its symbol says
 pub record StandsInText (ps : List Procedure) (first : ℕ) (p : Procedure) (symbol : Symbol) : Type 0 where
@@ -84,13 +83,6 @@ object_more ps p =
 
 pub its_procedure : (ms : List Kept) (at : ℕ) (k : Kept) → slice_get ms at ≡ Some k → slice_get (procedures ms) at ≡ Some k.procedure
 its_procedure ms at k there = slice_get-map (λ (m : Kept). m.procedure) ms at ∙ ap (option_map (λ (m : Kept). m.procedure)) there
-
-take_more : {X : Type 0} (xs : List X) (at : ℕ) (x : X) → slice_get xs at ≡ Some x → take (at + 1) xs ≡ take at xs ++ x ∷ []
-take_more xs at x there =
-    ap (λ n. take n xs) (next at) ∙ take-suc xs at x (slice_get_within xs at x there) ∙ ap (λ y. take at xs ++ y ∷ []) (get_or_from_slice_get xs at x x there)
-  where
-    next : (n : ℕ) → n + 1 ≡ suc n
-    next n = omega arith
 
 pub module_more : (ms : List Kept) (at : ℕ) (k : Kept) → slice_get ms at ≡ Some k → with_procedure (object_of (take at (procedures ms))) k.procedure ≡ object_of (take (at + 1) (procedures ms))
 module_more ms at k there =

@@ -3,6 +3,7 @@ pub mod Arguments
 pub mod Begins
 pub mod Blocks
 pub mod CodeLists
+pub mod Coding
 pub mod Entering
 mod Examples
 pub mod Sample
@@ -10,9 +11,11 @@ pub mod Frame
 pub mod Joined
 pub mod GoodObject
 pub mod Leaving
+pub mod Listing
 pub mod Machine
 pub mod Numbering
 pub mod Pieces
+pub mod Places
 pub mod Related
 pub mod Sizes
 pub mod Steps

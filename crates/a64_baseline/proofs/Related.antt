@@ -18,10 +18,11 @@ use Rattle.b3_meaning.specs.Run as b3
 use Rattle.stackmap.specs.declared.site.Returns.TheVariants.{W64}
 use Rattle.a64_run.specs.Placement.{in_frame, start_of}
 use Rattle.a64_run.specs.Machine.{Entry, State, Runs}
-use Rattle.a64_baseline.specs.Code.{places_of, code_of}
+use Rattle.a64_baseline.specs.Code.{place_of, places_of, code_of}
 use Rattle.a64_baseline.specs.Object.{has_return}
 use Rattle.a64_baseline.proofs.Machine.{RunsCode, Ran}
 use Rattle.a64_baseline.proofs.Frame.{HasFrame, address_of, stored_word, other_word}
+use Rattle.a64_baseline.proofs.Places.{other_place}
 use Rattle.a64_baseline.proofs.Steps as steps
 use Rattle.a64_baseline.proofs.Pieces.{Writes, Goes}
 
@@ -49,10 +50,10 @@ abbrev pub HasArguments : Procedure → Entry → Memory → Type 0
 HasArguments p e memory = (j : ℕ) (v : Value) (reg : Reg) → StandsAt p 0 j v → v.kind.opcode ≡ ArgumentReg → v.body ≡ Argument reg
     → (j < places_of p) × HasWord e (places_of p) memory j (e.start.registers reg.0)
 
--- each word that the B3 run has given stands in its place, and that of each location in its own
+-- each word that the B3 run has given an id stands in the place of its value, and that of each location in its own
 pub record Holds (p : Procedure) (e : Entry) (bs : b3.State) (memory : Memory) : Type 0 where
-  pub words : (i w : ℕ) → i < places_of p → bs.words i ≡ Some w → HasWord e (places_of p) memory i w
-  pub locations : (i w : ℕ) → i < places_of p → bs.locations i ≡ Some w → HasWord e (places_of p) memory (places_of p + i) w
+  pub words : (i w : ℕ) → place_of p i < places_of p → bs.words i ≡ Some w → HasWord e (places_of p) memory (place_of p i) w
+  pub locations : (i w : ℕ) → place_of p i < places_of p → bs.locations i ≡ Some w → HasWord e (places_of p) memory (places_of p + place_of p i) w
   pub arguments : HasArguments p e memory
   pub seen : bs.memory ≡ (b3_start e).memory
   pub no_events : bs.events ≡ []
@@ -86,10 +87,11 @@ module _ (p : Procedure) (e : Entry) (set : Setting p e) where
   new_word memory u word small = record { small = small; stands = stored_word memory (address_of e (places_of p) u) word small }
 
   -- an argument has its word already
-  pub argument_holds : (bs : b3.State) (memory : Memory) (id word : ℕ) → Holds p e bs memory → HasWord e (places_of p) memory id word → Holds p e (b3.with_word bs id word) memory
+  pub argument_holds : (bs : b3.State) (memory : Memory) (id word : ℕ) → Holds p e bs memory → HasWord e (places_of p) memory (place_of p id) word → Holds p e (b3.with_word bs id word) memory
   argument_holds bs memory id word holds has = record {
-    words = λ i w lt given. either i id (HasWord e (places_of p) memory i w)
-        (λ same. let e1 : w ≡ word = same_given w word (sym given ∙ ap (b3.with_word bs id word).words same ∙ given_same bs.words id word) in subst (λ n. HasWord e (places_of p) memory n w) (sym same) (subst (HasWord e (places_of p) memory id) (sym e1) has))
+    words = λ i w lt given. either i id (HasWord e (places_of p) memory (place_of p i) w)
+        (λ same. let e1 : w ≡ word = same_given w word (sym given ∙ ap (b3.with_word bs id word).words same ∙ given_same bs.words id word) in
+        subst (λ n. HasWord e (places_of p) memory (place_of p n) w) (sym same) (subst (HasWord e (places_of p) memory (place_of p id)) (sym e1) has))
         (λ differ. holds.words i w lt (sym (given_other bs.words id i word differ) ∙ given));
     locations = holds.locations;
     arguments = holds.arguments;
@@ -98,40 +100,42 @@ module _ (p : Procedure) (e : Entry) (set : Setting p e) where
   }
 
   -- a value that is no argument puts its word in its place
-  pub word_holds : (bs : b3.State) (memory : Memory) (id word : ℕ) → Holds p e bs memory → id < places_of p → word < 2 ^ 64
-      → ((j : ℕ) (v : Value) → StandsAt p 0 j v → v.kind.opcode ≡ ArgumentReg → j ≢ id)
-      → Holds p e (b3.with_word bs id word) (write_word memory (address_of e (places_of p) id) 8 word)
+  pub word_holds : (bs : b3.State) (memory : Memory) (id word : ℕ) → Holds p e bs memory → place_of p id < places_of p → word < 2 ^ 64
+      → ((j : ℕ) (v : Value) → StandsAt p 0 j v → v.kind.opcode ≡ ArgumentReg → j ≢ place_of p id)
+      → Holds p e (b3.with_word bs id word) (write_word memory (address_of e (places_of p) (place_of p id)) 8 word)
   word_holds bs memory id word holds lt small alone =
-      let memory' = write_word memory (address_of e (places_of p) id) 8 word in
+      let memory' = write_word memory (address_of e (places_of p) (place_of p id)) 8 word in
       record {
-        words = λ i w lt_i given. either i id (HasWord e (places_of p) memory' i w)
-            (λ same. let e1 : w ≡ word = same_given w word (sym given ∙ ap (b3.with_word bs id word).words same ∙ given_same bs.words id word) in subst (λ n. HasWord e (places_of p) memory' n w) (sym same) (subst (HasWord e (places_of p) memory' id) (sym e1) (new_word memory id word small)))
-            (λ differ. kept_word memory i id word w differ (omega arith) (omega arith) (holds.words i w lt_i (sym (given_other bs.words id i word differ) ∙ given)));
-        locations = λ i w lt_i given. kept_word memory (places_of p + i) id word w (λ same. omega arith) (omega arith) (omega arith) (holds.locations i w lt_i given);
-        arguments = λ j v reg there op body. let has = holds.arguments j v reg there op body in (has.0, kept_word memory j id word (e.start.registers reg.0) (alone j v there op) (omega (arith, has.0)) (omega arith) has.1);
+        words = λ i w lt_i given. either i id (HasWord e (places_of p) memory' (place_of p i) w)
+            (λ same. let e1 : w ≡ word = same_given w word (sym given ∙ ap (b3.with_word bs id word).words same ∙ given_same bs.words id word) in
+            subst (λ n. HasWord e (places_of p) memory' (place_of p n) w) (sym same) (subst (HasWord e (places_of p) memory' (place_of p id)) (sym e1) (new_word memory (place_of p id) word small)))
+            (λ differ. kept_word memory (place_of p i) (place_of p id) word w (other_place p i id differ lt_i) (omega arith) (omega arith) (holds.words i w lt_i (sym (given_other bs.words id i word differ) ∙ given)));
+        locations = λ i w lt_i given. kept_word memory (places_of p + place_of p i) (place_of p id) word w (λ same. omega arith) (omega arith) (omega arith) (holds.locations i w lt_i given);
+        arguments = λ j v reg there op body. let has = holds.arguments j v reg there op body in (has.0, kept_word memory j (place_of p id) word (e.start.registers reg.0) (alone j v there op) (omega (arith, has.0)) (omega arith) has.1);
         seen = holds.seen;
         no_events = holds.no_events;
       }
 
   -- an Upsilon puts a word in the location of a Phi
-  pub location_holds : (bs : b3.State) (memory : Memory) (phi word : ℕ) → Holds p e bs memory → phi < places_of p → word < 2 ^ 64
-      → Holds p e (b3.with_location bs phi word) (write_word memory (address_of e (places_of p) (places_of p + phi)) 8 word)
+  pub location_holds : (bs : b3.State) (memory : Memory) (phi word : ℕ) → Holds p e bs memory → place_of p phi < places_of p → word < 2 ^ 64
+      → Holds p e (b3.with_location bs phi word) (write_word memory (address_of e (places_of p) (places_of p + place_of p phi)) 8 word)
   location_holds bs memory phi word holds lt small =
-      let memory' = write_word memory (address_of e (places_of p) (places_of p + phi)) 8 word in
+      let memory' = write_word memory (address_of e (places_of p) (places_of p + place_of p phi)) 8 word in
       record {
-        words = λ i w lt_i given. kept_word memory i (places_of p + phi) word w (λ same. omega arith) (omega arith) (omega arith) (holds.words i w lt_i given);
-        locations = λ i w lt_i given. either i phi (HasWord e (places_of p) memory' (places_of p + i) w)
+        words = λ i w lt_i given. kept_word memory (place_of p i) (places_of p + place_of p phi) word w (λ same. omega arith) (omega arith) (omega arith) (holds.words i w lt_i given);
+        locations = λ i w lt_i given. either i phi (HasWord e (places_of p) memory' (places_of p + place_of p i) w)
             (λ same. let e1 : w ≡ word = same_given w word (sym given ∙ ap (b3.with_location bs phi word).locations same ∙ given_same bs.locations phi word) in
-            subst (λ n. HasWord e (places_of p) memory' (places_of p + n) w) (sym same) (subst (HasWord e (places_of p) memory' (places_of p + phi)) (sym e1) (new_word memory (places_of p + phi) word small)))
-            (λ differ. kept_word memory (places_of p + i) (places_of p + phi) word w (λ same. omega (arith, differ (omega arith))) (omega arith) (omega arith) (holds.locations i w lt_i (sym (given_other bs.locations phi i word differ) ∙ given)));
-        arguments = λ j v reg there op body. let has = holds.arguments j v reg there op body in (has.0, kept_word memory j (places_of p + phi) word (e.start.registers reg.0) (λ same. omega (arith, has.0)) (omega (arith, has.0)) (omega arith) has.1);
+            subst (λ n. HasWord e (places_of p) memory' (places_of p + place_of p n) w) (sym same) (subst (HasWord e (places_of p) memory' (places_of p + place_of p phi)) (sym e1) (new_word memory (places_of p + place_of p phi) word small)))
+            (λ differ. kept_word memory (places_of p + place_of p i) (places_of p + place_of p phi) word w (λ same. let apart : place_of p i ≢ place_of p phi = other_place p i phi differ lt_i in apart (omega arith)) (omega arith) (omega arith)
+            (holds.locations i w lt_i (sym (given_other bs.locations phi i word differ) ∙ given)));
+        arguments = λ j v reg there op body. let has = holds.arguments j v reg there op body in (has.0, kept_word memory j (places_of p + place_of p phi) word (e.start.registers reg.0) (λ same. omega (arith, has.0)) (omega (arith, has.0)) (omega arith) has.1);
         seen = holds.seen;
         no_events = holds.no_events;
       }
 
   -- the same of the steps that write the word
-  pub writes_word : (s : State) (n k id word : ℕ) (bs : b3.State) → Writes e (places_of p) s n k id word → Holds p e bs s.memory → id < places_of p → word < 2 ^ 64
-      → ((j : ℕ) (v : Value) → StandsAt p 0 j v → v.kind.opcode ≡ ArgumentReg → j ≢ id) → Follows p e s n k (b3.with_word bs id word)
+  pub writes_word : (s : State) (n k id word : ℕ) (bs : b3.State) → Writes e (places_of p) s n k (place_of p id) word → Holds p e bs s.memory → place_of p id < places_of p → word < 2 ^ 64
+      → ((j : ℕ) (v : Value) → StandsAt p 0 j v → v.kind.opcode ≡ ArgumentReg → j ≢ place_of p id) → Follows p e s n k (b3.with_word bs id word)
   writes_word s n k id word bs writes holds lt small alone = record {
     after = writes.after;
     ran = writes.ran;
@@ -139,7 +143,7 @@ module _ (p : Procedure) (e : Entry) (set : Setting p e) where
     holds = subst (Holds p e (b3.with_word bs id word)) (sym writes.memory_is) (word_holds bs s.memory id word holds lt small alone);
   }
 
-  pub writes_location : (s : State) (n k phi word : ℕ) (bs : b3.State) → Writes e (places_of p) s n k (places_of p + phi) word → Holds p e bs s.memory → phi < places_of p → word < 2 ^ 64
+  pub writes_location : (s : State) (n k phi word : ℕ) (bs : b3.State) → Writes e (places_of p) s n k (places_of p + place_of p phi) word → Holds p e bs s.memory → place_of p phi < places_of p → word < 2 ^ 64
       → Follows p e s n k (b3.with_location bs phi word)
   writes_location s n k phi word bs writes holds lt small = record {
     after = writes.after;

@@ -1,9 +1,11 @@
 -- The baseline code of a procedure: each value has a frame place of 8 bytes, each Phi a second one
--- for its location, and words go through x15 to x17. Blocks stand one after the other.
-use Rattle.std.specs.Prelude.{ℕ, pos, negsuc, ◌+◌, ◌-◌, ◌*◌, ◌/◌, ◌%◌, ◌^◌, Bool, true, false, List, [], ◌∷◌, ◌++◌, length, sum_by, slice_index}
+-- for its location, and words go through x15 to x17. Blocks stand one after the other. Places are
+-- counted over the blocks; ids may be any.
+use Rattle.std.specs.Prelude.{ℕ, pos, negsuc, ◌+◌, ◌-◌, ◌*◌, ◌/◌, ◌%◌, ◌^◌, Bool, true, false, List, [], ◌∷◌, ◌++◌, length, sum_by, slice_index, map}
 use Rattle.std.proofs.Math.IntN.{◌-ℤ◌}
 use Rattle.b3_base.specs.declared.word.Width.TheVariants.{W64}
-use Rattle.b3_ir.specs.Procedure.{Procedure, total, values_by_block, values_of}
+use Rattle.b3_ir.specs.Naming.{all_values}
+use Rattle.b3_ir.specs.Procedure.{Procedure, place_among, total, values_by_block, values_of}
 use Rattle.b3_ir.specs.declared.opcode.Opcode.{Opcode}
 use Rattle.b3_ir.specs.declared.opcode.Opcode.TheVariants.{Const64, ArgumentReg, Add, Sub, Upsilon, Phi, Jump, Branch as Branches, Return}
 use Rattle.b3_ir.specs.declared.value.Body.{Body}
@@ -16,16 +18,24 @@ use Rattle.a64_inst.specs.declared.inst.MoveOp.{MoveOp}
 use Rattle.a64_inst.specs.declared.inst.MoveOp.TheVariants.{Movz, Movk}
 use Rattle.a64_inst.specs.declared.inst.BranchKind.TheVariants.{Ret}
 
+-- the ids of all values, in order
+abbrev pub ids_of : Procedure → List ℕ
+ids_of p = map (λ (v : Value). v.id) (all_values p)
+
+-- the place of the value that an id names: how many values stand before the first that has the id
+abbrev pub place_of : Procedure → ℕ → ℕ
+place_of p id = place_among (ids_of p) id
+
 -- how many values have a place: all but the last, which is a terminal
 abbrev pub places_of : Procedure → ℕ
 places_of p = total p - 1
 
--- the frame of so many places: the places, by the ids of values, as many locations, by the ids of
--- Phis, and the saved x29 and x30
+-- the frame of so many places: the places, as many locations, by the places of Phis, and the saved
+-- x29 and x30
 abbrev pub frame_bytes : ℕ → ℕ
 frame_bytes places = 16 * places + 16
 
--- the location of a Phi, counted in words from SP as places are
+-- the location of the Phi of a place, counted in words from SP as places are
 abbrev pub location_of : ℕ → ℕ → ℕ
 location_of places phi = places + phi
 
@@ -53,7 +63,7 @@ abbrev pub argument_store : ℕ → Opcode → Body → List Inst
 argument_store k ArgumentReg (Argument reg) = store_to k reg.0 ∷ []
 argument_store k opcode body = []
 
--- the stores of the arguments among some values, the first of which is value k
+-- the stores of the arguments among some values, the first of which has place k
 abbrev pub argument_stores : ℕ → List Value → List Inst
 argument_stores k [] = []
 argument_stores k (v ∷ vs) = argument_store k v.kind.opcode v.body ++ argument_stores (k + 1) vs
@@ -78,7 +88,7 @@ constant_code word = move_half Movz word 0 ∷ move_half Movk word 1 ∷ move_ha
 abbrev pub put_code : ℕ → ℕ → List Inst
 put_code k word = constant_code word ++ store_to k 15 ∷ []
 
--- the sum or difference of values i and j put into the place of value k
+-- the sum or difference of the words of places i and j put into place k
 abbrev pub arith_code : Bool → ℕ → ℕ → ℕ → List Inst
 arith_code sub k i j = load_from i 15 ∷ load_from j 16 ∷ AddSubReg W64 sub false 17 15 16 0 0 ∷ store_to k 17 ∷ []
 
@@ -90,8 +100,8 @@ copy_code k i = load_from i 15 ∷ store_to k 15 ∷ []
 abbrev pub branch_from : ℕ → ℕ → Inst
 branch_from here target = Branch (pos target -ℤ pos here)
 
--- a conditional branch, written over an unconditional one: to one word where value i isn't 0, and
--- else to another
+-- a conditional branch, written over an unconditional one: to one word where that of place i isn't 0,
+-- and else to another
 abbrev pub branch_code : ℕ → ℕ → ℕ → ℕ → List Inst
 branch_code here i then_word else_word = load_from i 15 ∷ BranchZero W64 false 15 (pos 2) ∷ branch_from (here + 2) then_word ∷ branch_from (here + 3) else_word ∷ []
 
@@ -118,30 +128,41 @@ begins_from here (vs ∷ blocks) = here ∷ begins_from (here + words_of_values 
 abbrev pub begins_of : Procedure → List ℕ
 begins_of p = begins_from (length (entry_code p)) (values_by_block p)
 
--- the code of value k, which begins at word `here`, by its opcode, children and body
-abbrev pub code_for : List ℕ → ℕ → ℕ → ℕ → Opcode → List ℕ → Body → List Inst
-code_for begins places here k Const64 children (Constant word) = put_code k word
-code_for begins places here k Add (i ∷ j ∷ []) body = arith_code false k i j
-code_for begins places here k Sub (i ∷ j ∷ []) body = arith_code true k i j
-code_for begins places here k Upsilon (i ∷ []) (Target phi) = copy_code (location_of places phi) i
-code_for begins places here k Phi children body = copy_code k (location_of places k)
-code_for begins places here k Jump children (Targets (block ∷ [])) = branch_from here (slice_index begins block) ∷ []
-code_for begins places here k Branches (i ∷ []) (Targets (then_block ∷ else_block ∷ [])) = branch_code here i (slice_index begins then_block) (slice_index begins else_block)
-code_for begins places here k Return (i ∷ []) body = load_from i 0 ∷ epilogue
-code_for begins places here k opcode children body = []
+-- the code of the value of an id, which begins at word `here`, by its opcode, children and body; `ids`
+-- are those of all values
+abbrev pub code_for : List ℕ → List ℕ → ℕ → ℕ → ℕ → Opcode → List ℕ → Body → List Inst
+code_for begins ids places here id Const64 children (Constant word) = put_code (place_among ids id) word
+code_for begins ids places here id Add (i ∷ j ∷ []) body =
+    arith_code false (place_among ids id) (place_among ids i) (place_among ids j)
+code_for begins ids places here id Sub (i ∷ j ∷ []) body =
+    arith_code true (place_among ids id) (place_among ids i) (place_among ids j)
+code_for begins ids places here id Upsilon (i ∷ []) (Target phi) =
+    copy_code (location_of places (place_among ids phi)) (place_among ids i)
+code_for begins ids places here id Phi children body =
+    copy_code (place_among ids id) (location_of places (place_among ids id))
+code_for begins ids places here id Jump children (Targets (block ∷ [])) =
+    branch_from here (slice_index begins block) ∷ []
+code_for begins ids places here id Branches (i ∷ []) (Targets (then_block ∷ else_block ∷ [])) =
+    branch_code here (place_among ids i) (slice_index begins then_block) (slice_index begins else_block)
+code_for begins ids places here id Return (i ∷ []) body = load_from (place_among ids i) 0 ∷ epilogue
+code_for begins ids places here id opcode children body = []
 
-abbrev pub value_code : List ℕ → ℕ → ℕ → Value → List Inst
-value_code begins places here v = code_for begins places here v.id v.kind.opcode v.children v.body
+abbrev pub value_code : List ℕ → List ℕ → ℕ → ℕ → Value → List Inst
+value_code begins ids places here v = code_for begins ids places here v.id v.kind.opcode v.children v.body
 
 -- the code of values, and of blocks, from word `here` on
-abbrev pub values_code : List ℕ → ℕ → ℕ → List Value → List Inst
-values_code begins places here [] = []
-values_code begins places here (v ∷ vs) = value_code begins places here v ++ values_code begins places (here + size_of v.kind.opcode) vs
+abbrev pub values_code : List ℕ → List ℕ → ℕ → ℕ → List Value → List Inst
+values_code begins ids places here [] = []
+values_code begins ids places here (v ∷ vs) =
+    value_code begins ids places here v ++ values_code begins ids places (here + size_of v.kind.opcode) vs
 
-abbrev pub blocks_code : List ℕ → ℕ → ℕ → List (List Value) → List Inst
-blocks_code begins places here [] = []
-blocks_code begins places here (vs ∷ blocks) = values_code begins places here vs ++ blocks_code begins places (here + words_of_values vs) blocks
+abbrev pub blocks_code : List ℕ → List ℕ → ℕ → ℕ → List (List Value) → List Inst
+blocks_code begins ids places here [] = []
+blocks_code begins ids places here (vs ∷ blocks) =
+    values_code begins ids places here vs ++ blocks_code begins ids places (here + words_of_values vs) blocks
 
 -- the code of a procedure
 abbrev pub code_of : Procedure → List Inst
-code_of p = entry_code p ++ blocks_code (begins_of p) (places_of p) (length (entry_code p)) (values_by_block p)
+code_of p =
+    entry_code p
+    ++ blocks_code (begins_of p) (ids_of p) (places_of p) (length (entry_code p)) (values_by_block p)

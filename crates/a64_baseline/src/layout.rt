@@ -1,15 +1,17 @@
-//! Where a procedure's words go: how many places its frame has, and at which word of the code
-//! each block begins.
+//! Where a procedure's words go: which place each value has, how many places the frame has, and at
+//! which word of the code each block begins.
 
-ghost use Rattle.std.specs.Prelude.{◌≡◌, ℕ, ◌+◌, ◌^◌, ◌<◌, ◌≤◌, ◌||◌, length, slice_index, IfOk};
+ghost use Rattle.std.specs.Prelude.{◌≡◌, ℕ, ◌+◌, ◌^◌, ◌<◌, ◌≤◌, ◌||◌, length, slice_index, take, IfOk, OnOk};
 ghost use Rattle.std.specs.List.{list_any};
 ghost use Rattle.b3_supported.specs.Supported.{IsSupported};
-ghost use Rattle.b3_ir.specs.Procedure.{values_of};
-ghost use Rattle.a64_baseline.specs.Code.{argument_store, argument_stores, begins_of, location_of, places_of, size_of, words_of_values};
+ghost use Rattle.b3_ir.specs.Procedure.{place_among, values_of};
+ghost use Rattle.a64_baseline.specs.Code.{argument_store, argument_stores, begins_of, ids_of, location_of, places_of, size_of, words_of_values};
+ghost use Rattle.a64_baseline.specs.Coded.{before};
 ghost use Rattle.a64_baseline.specs.Object.{has_return, is_return};
 
 use b3_base::{Ids, NoMemory};
 use b3_ir::{Body, Opcode, Proc, Value};
+use indexmap::IndexSet;
 use std::alloc::Global;
 
 /// How a procedure's code and frame are laid out.
@@ -21,16 +23,29 @@ pub(crate) struct Layout {
     pub(crate) returns: bool,
     /// At which word of the code each block begins.
     pub(crate) begins: Ids,
+    /// The ids of all values, in order.
+    pub(crate) ids: IndexSet<u32>,
 }
 
 impl Layout {
+    /// The place of the value that an id names, and past all places where it names none.
+    pub(crate) fn place(&self, id: u32) -> u32
+        requires { length self.now.ids.keys ≤ 256 }
+        ensures { result ≡ place_among self.now.ids.keys id }
+    {
+        match self.ids.get_index_of(&id) {
+            Some(place) => place as u32,
+            None => self.ids.len() as u32,
+        }
+    }
+
     /// The location of a Phi, counted in words from SP as places are.
     pub(crate) fn location(&self, phi: u32) -> u32
         requires places { self.now.places < 256 }
-        requires phi { phi < 2 ^ 31 }
-        ensures { result ≡ location_of self.now.places phi }
+        requires ids { length self.now.ids.keys ≤ 256 }
+        ensures { result ≡ location_of self.now.places (place_among self.now.ids.keys phi) }
     {
-        self.places + phi
+        self.places + self.place(phi)
     }
 
     /// At which word of the code a block begins.
@@ -123,13 +138,42 @@ fn count_values(p: &Proc, block: usize) -> Count
     count
 }
 
+/// Adds the ids of a block's values to those of the blocks before.
+fn push_ids(ids: &mut IndexSet<u32>, p: &Proc, block: usize) -> Result<(), NoMemory>
+    requires built { IsSupported p.now.procedure }
+    requires there { block < length p.now.procedure.blocks }
+    requires before { ids.old.keys ≡ take (before p.now.procedure.blocks block) (ids_of p.now.procedure) }
+    ensures { OnOk result (ids.new.keys ≡ take (before p.now.procedure.blocks (block + 1)) (ids_of p.now.procedure)) }
+{
+    let mut at = p.first(block);
+    while let Some(node) = at {
+        ids.insert_full(p.value(node).id)?;
+        at = p.next(node);
+    }
+    Ok(())
+}
+
+/// The ids of all values, in order. It is refused for want of memory alone.
+fn all_ids(alloc: Global, p: &Proc) -> Result<IndexSet<u32>, NoMemory>
+    requires { IsSupported p.now.procedure }
+    ensures { IfOk result (λ ids. ids.keys ≡ ids_of p.now.procedure) }
+{
+    let mut ids = IndexSet::new(alloc);
+    for block in 0..p.blocks() {
+        push_ids(&mut ids, p, block)?;
+    }
+    Ok(ids)
+}
+
 /// The layout of a procedure. It is refused for want of memory alone.
 pub(crate) fn lay_out(alloc: Global, p: &Proc) -> Result<Layout, NoMemory>
     requires { IsSupported p.now.procedure }
     ensures places { IfOk result (λ layout. layout.places ≡ places_of p.now.procedure) }
     ensures returns { IfOk result (λ layout. layout.returns ≡ has_return p.now.procedure) }
     ensures begins { IfOk result (λ layout. layout.begins ≡ begins_of p.now.procedure) }
+    ensures ids { IfOk result (λ layout. layout.ids.keys ≡ ids_of p.now.procedure) }
 {
+    let ids = all_ids(alloc, p)?;
     let mut values = 0;
     let mut returns = false;
     let mut here = 3 + count_values(p, 0).arguments;
@@ -145,5 +189,6 @@ pub(crate) fn lay_out(alloc: Global, p: &Proc) -> Result<Layout, NoMemory>
         places: values - 1,
         returns,
         begins,
+        ids,
     })
 }

@@ -39,7 +39,7 @@ pub(crate) fn push_constant(code: &mut Seq<Inst>, k: u32, word: u64) -> Result<(
     ])
 }
 
-/// The sum or difference of values `i` and `j` put into place `k`.
+/// The sum or difference of the words of places `i` and `j` put into place `k`.
 pub(crate) fn push_arith(
     code: &mut Seq<Inst>,
     sub: bool,
@@ -74,7 +74,7 @@ pub(crate) fn push_jump(code: &mut Seq<Inst>, target: u32) -> Result<(), NoMemor
     code.push(branch_inst(here, target))
 }
 
-/// A branch to one word of the code where value `i` isn't 0, and else to another.
+/// A branch to one word of the code where the word of place `i` isn't 0, and else to another.
 pub(crate) fn push_branch(
     code: &mut Seq<Inst>,
     i: u32,
@@ -95,7 +95,7 @@ pub(crate) fn push_branch(
     ])
 }
 
-/// The return of value `i`.
+/// The return of the word of place `i`.
 pub(crate) fn push_return(code: &mut Seq<Inst>, i: u32) -> Result<(), NoMemory>
     ensures { OnOk result (code.new ≡ code.old ++ load_from i 0 ∷ epilogue) }
 {

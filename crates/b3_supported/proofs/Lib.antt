@@ -1,12 +1,4 @@
-pub mod Below
-pub mod Walk
+pub mod Lesser
 pub mod Walks
-pub mod Entries
-pub mod Children
-pub mod Loops
-pub mod Keeping
-pub mod Names
-pub mod Modules
-pub mod Forms
-pub mod Shaping
-pub mod Refusals
+pub mod Least
+pub mod Telling

@@ -1,32 +1,56 @@
--- The line at which procedures are refused.
-use Rattle.std.specs.Prelude.{◌≡◌, ℕ, ◌<◌, ◌⊎◌, List, [], Some, None, slice_get}
-use Rattle.b3_supported.specs.Supported.{IsSupported, KeepsRules}
-use Rattle.b3_supported.specs.Shapes.{module_fault}
-use Rattle.b3_ir.specs.Procedure.{Procedure, StandsAt}
+-- The lines of the parts of procedures that have no form.
+use Rattle.std.specs.Prelude.{◌≡◌, ℕ, ◌≤◌, ◌⊎◌, List, Some, length, slice_get, All}
+use Rattle.b3_ir.specs.Names.{IsName}
+use Rattle.b3_ir.specs.Naming.{all_values}
+use Rattle.b3_ir.specs.Procedure.{Block, Procedure}
+use Rattle.b3_ir.specs.declared.procedure.SlotLine.{SlotLine}
 use Rattle.b3_ir.specs.declared.value.Value.{Value}
+use Rattle.b3_supported.specs.Forms.{HasForms, IsForm}
 
--- on this line stands the first value that breaks a rule, by the ids: they rise from value to value and from block to
--- block, and so do the lines of a text
-pub record IsRuleFault (p : Procedure) (line : ℕ) : Type 0 where
-  pub block : ℕ
+-- on this line stands the header of procedure k, which has no name or is the 257th
+pub record IsOddHeader (k : ℕ) (p : Procedure) (line : ℕ) : Type 0 where
+  pub on_line : p.line ≡ line
+  pub odd : ¬ (IsName p.name) ⊎ (k ≡ 256)
+
+-- on this line stands a slot
+pub record IsOddSlot (p : Procedure) (line : ℕ) : Type 0 where
+  pub place : ℕ
+  pub slot : SlotLine
+  pub there : slice_get p.slots place ≡ Some slot
+  pub on_line : slot.line ≡ line
+
+-- on this line stands the heading of the 65th block
+pub record IsOddHeading (p : Procedure) (line : ℕ) : Type 0 where
+  pub block : Block
+  pub there : slice_get p.blocks 64 ≡ Some block
+  pub on_line : block.line ≡ line
+
+-- on this line stands a value, counted over the blocks, that has no form or is the 257th
+pub record IsOddValue (p : Procedure) (line : ℕ) : Type 0 where
   pub place : ℕ
   pub value : Value
-  pub there : StandsAt p block place value
+  pub there : slice_get (all_values p) place ≡ Some value
   pub on_line : value.line ≡ line
-  pub breaks : ¬ (KeepsRules p block place value)
-  pub first : (b j : ℕ) (v : Value) → StandsAt p b j v → v.id < value.id → KeepsRules p b j v
+  pub odd : ¬ (IsForm value) ⊎ (place ≡ 256)
 
--- all procedures have the shape, those before this one keep the rules, and it has on this line the first
--- value that breaks one
-pub record IsFirstRuleFault (procedures : List Procedure) (line : ℕ) : Type 0 where
-  pub shaped : module_fault [] procedures ≡ None
+-- on this line stands an odd part of procedure k
+abbrev pub IsOddIn : ℕ → Procedure → ℕ → Type 0
+IsOddIn k p line = IsOddHeader k p line ⊎ IsOddSlot p line ⊎ IsOddHeading p line ⊎ IsOddValue p line
+
+-- on this line stands an odd part of one of the procedures
+pub record IsOdd (ps : List Procedure) (line : ℕ) : Type 0 where
   pub place : ℕ
   pub procedure : Procedure
-  pub there : slice_get procedures place ≡ Some procedure
-  pub before : (k : ℕ) (p : Procedure) → slice_get procedures k ≡ Some p → k < place → IsSupported p
-  pub breaks : IsRuleFault procedure line
+  pub there : slice_get ps place ≡ Some procedure
+  pub part : IsOddIn place procedure line
 
--- on this line stands the first header, slot, heading or value that has another shape or, where there is none,
--- the first value that breaks a rule
-abbrev pub IsFaultLine : List Procedure → ℕ → Type 0
-IsFaultLine procedures line = (module_fault [] procedures ≡ Some line) ⊎ IsFirstRuleFault procedures line
+-- the least line on which an odd part stands
+pub record IsFaultLine (ps : List Procedure) (line : ℕ) : Type 0 where
+  pub odd : IsOdd ps line
+  pub first : (other : ℕ) → IsOdd ps other → line ≤ other
+
+-- no part is odd: at most 256 procedures, each with a name and the forms
+pub record HaveForms (ps : List Procedure) : Type 0 where
+  pub few : length ps ≤ 256
+  pub names : All (λ (p : Procedure). IsName p.name) ps
+  pub each : All HasForms ps

@@ -1,4 +1,4 @@
+pub mod Forms
 pub mod Supported
-pub mod Shapes
 pub mod Faults
-pub mod Table
+pub mod Lines

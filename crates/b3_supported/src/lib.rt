@@ -1,12 +1,8 @@
-//! Which procedures are supported: their shape, what each value may name, and the numbers of values and
-//! of blocks.
+//! Which procedures are supported: those whose values, blocks and slots are of the forms that have code.
 #![tactic(auto)]
 
 mod faults;
-mod rules;
-mod shape;
-mod table;
-#[cfg(test)]
-mod tests;
+mod forms;
+mod lines;
 
 pub use faults::fault_line;

@@ -14,7 +14,7 @@ pub returns-clause-well_formed : goal.returns-clause-well_formed
 returns-clause-well_formed c =
     let P : List Inst → Type 0 = All IsWellFormed in
     let e : c.push_blocks.new.code ≡ code_of c.args.p.now.procedure =
-    (code_is c.args.p.now.procedure c.args.layout.now.begins c.args.layout.now.places c.push_prologue.new.code c.push_arguments.new.code c.push_blocks.new.code c.requires.begins c.requires.places
+    (code_is c.args.p.now.procedure c.args.layout.now.begins c.args.layout.now.ids.keys c.args.layout.now.places c.push_prologue.new.code c.push_arguments.new.code c.push_blocks.new.code c.requires.begins c.requires.ids c.requires.places
     (rw (c.in_ok-push_prologue.ensures, c.new-code.ensures) refl) c.in_ok-push_arguments.ensures c.in_ok-push_blocks.ensures).1 in
     subst P (sym e) (code_well_formed c.args.p.now.procedure c.requires.built)
 
@@ -22,6 +22,6 @@ pub returns-clause-short : goal.returns-clause-short
 returns-clause-short c =
     let P : List Inst → Type 0 = λ code. length code < 2 ^ 12 in
     let e : c.push_blocks.new.code ≡ code_of c.args.p.now.procedure =
-    (code_is c.args.p.now.procedure c.args.layout.now.begins c.args.layout.now.places c.push_prologue.new.code c.push_arguments.new.code c.push_blocks.new.code c.requires.begins c.requires.places
+    (code_is c.args.p.now.procedure c.args.layout.now.begins c.args.layout.now.ids.keys c.args.layout.now.places c.push_prologue.new.code c.push_arguments.new.code c.push_blocks.new.code c.requires.begins c.requires.ids c.requires.places
     (rw (c.in_ok-push_prologue.ensures, c.new-code.ensures) refl) c.in_ok-push_arguments.ensures c.in_ok-push_blocks.ensures).1 in
     subst P (sym e) (code_short c.args.p.now.procedure c.requires.built)

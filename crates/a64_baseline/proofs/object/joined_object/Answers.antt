@@ -1,4 +1,4 @@
-use Rattle.std.proofs.Common.{◌≡◌, ◌∙◌, ap, arith, length, subst, take}
+use Rattle.std.proofs.Common.{◌≡◌, ◌∙◌, ap, arith, length, take}
 use Rattle.std.specs.List.{flat_map}
 use Rattle.elf_obj.specs.declared.object.Object.{Object}
 use Rattle.a64_baseline.specs.Object.{with_procedure, words_of}

@@ -1,9 +1,11 @@
-use Rattle.std.proofs.Common.{◌≡◌, ℕ, ◌<◌, [], None, Some}
-use Rattle.std.specs.Prelude.{slice_get}
-use Rattle.b3_ir.specs.Procedure.{Procedure, procedures}
-use Rattle.b3_supported.specs.Shapes.{module_fault}
-use Rattle.b3_supported.specs.Supported.{IsSupported}
+use Rattle.std.proofs.Common.{◌≡◌, drop, take}
+use Rattle.std.specs.Prelude.{All}
+use Rattle.b3_ir.specs.Procedure.{AllFit, procedures}
+use Rattle.b3_supported.specs.Lines.{lesser, module_line}
 use Rattle.b3_supported.proofs.faults.fault_line.Given as goal
 
 abbrev pub invariant-loop-at : goal.invariant-loop-at
-invariant-loop-at l = (k : ℕ) (q : Procedure) → slice_get (procedures l.module_) k ≡ Some q → k < l.at → IsSupported q
+invariant-loop-at l = record {
+  same : lesser l.line (module_line l.at (drop l.at (procedures l.module_))) ≡ module_line 0 (procedures l.module_);
+  fit : All (λ p. AllFit p.blocks) (take l.at (procedures l.module_));
+}
