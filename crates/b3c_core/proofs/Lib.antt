@@ -1,1 +1,4 @@
 pub mod Endings
+pub mod Beginning
+pub mod Evaluating
+pub mod Completeness

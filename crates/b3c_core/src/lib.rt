@@ -7,8 +7,10 @@ mod ending;
 #[cfg(test)]
 mod tests;
 mod tool;
+mod trying;
 
-pub use command::Command;
+pub use command::{Command, command_of};
 pub use compiler::{Fault, compile, print};
 pub use ending::Ending;
-pub use tool::{TEXT_LIMIT, run_tool};
+pub use tool::{OBJECT_LIMIT, TEXT_LIMIT, run_tool};
+pub use trying::{EvalFault, Evaluated, RunFault, eval_text, run_file};
