@@ -1,6 +1,6 @@
 -- What the refusals of `place` and `run` say of a trial, and the procedure of a name.
 use Rattle.std.proofs.Common.{◌≡◌, ◌≢◌, ℕ, ◌+◌, ◌<◌, ◌≤◌, List, Option, Some, None, refl, sym, ap, subst, ◌∙◌, arith, length, inl, inr}
-use Rattle.std.specs.Prelude.{slice_get, option_map, map}
+use Rattle.std.specs.Prelude.{slice_get, option_map}
 use Rattle.std.specs.List.{Contains}
 use Rattle.std.proofs.Math.ListN.{length-map}
 use Rattle.std.proofs.lemmas.Bool.{cases_lt}
@@ -29,8 +29,8 @@ no_symbol_begins o t none b =
 pub misplaced_begins : (o : Object) (t : Trial) → IsGood o → IsMisplaced o t.name t.start → ¬ (Begins o t)
 misplaced_begins o t good m b =
     let at : b.may.procedure.place ≡ m.procedure.place =
-        one_place o.symbols b.may.procedure.place m.procedure.place b.symbol m.symbol good.distinct b.may.procedure.symbol_there m.procedure.symbol_there
-        (b.may.procedure.named ∙ sym m.procedure.named) in
+    one_place o.symbols b.may.procedure.place m.procedure.place b.symbol m.symbol good.distinct b.may.procedure.symbol_there m.procedure.symbol_there
+    (b.may.procedure.named ∙ sym m.procedure.named) in
     let symbol : b.symbol ≡ m.symbol = same_some b.symbol m.symbol (sym b.may.procedure.symbol_there ∙ ap (slice_get o.symbols) at ∙ m.procedure.symbol_there) in
     let frame : b.frame ≡ m.frame = same_some b.frame m.frame (sym b.may.procedure.frame_there ∙ ap (slice_get o.tables.frames) at ∙ m.procedure.frame_there) in
     m.misplaced (subst (λ (s : Symbol). Places o s m.frame t.start) symbol (subst (λ (f : FrameRow). Places o b.symbol f t.start) frame b.may.places))
@@ -49,9 +49,9 @@ pub no_procedure_begins : (ps reduced : List Procedure) (o : Object) (t : Trial)
 no_procedure_begins ps reduced o t code none b =
     let k = b.may.procedure.place in
     let listed : option_map (λ (s : Symbol). s.name) (slice_get o.symbols k) ≡ Some t.name =
-        ap (option_map (λ (s : Symbol). s.name)) b.may.procedure.symbol_there ∙ ap Some b.may.procedure.named in
+    ap (option_map (λ (s : Symbol). s.name)) b.may.procedure.symbol_there ∙ ap Some b.may.procedure.named in
     let found = named_at (slice_get ps k) t.name
-        (sym (slice_get-map (λ (p : Procedure). p.name) ps k) ∙ ap (λ names. slice_get names k) (sym code.names) ∙ slice_get-map (λ (s : Symbol). s.name) o.symbols k ∙ listed) in
+    (sym (slice_get-map (λ (p : Procedure). p.name) ps k) ∙ ap (λ names. slice_get names k) (sym code.names) ∙ slice_get-map (λ (s : Symbol). s.name) o.symbols k ∙ listed) in
     none k found.0 found.1 found.2
 
 pub procedure_at : (ms : List Kept) (at : ℕ) (k : Kept) → slice_get ms at ≡ Some k → slice_get (procedures ms) at ≡ Some k.procedure

@@ -18,7 +18,7 @@ use Rattle.b3c_core.specs.declared.ending.Ending.{Ending}
 use Rattle.b3c_core.specs.declared.ending.Ending.TheVariants.{Written, Usage, ReadFault, TrialReadFault, WriteFault, TooLong, TrialTooLong, Syntax, Limit, Invalid, BadObject, BadTrial, Misplaced, NotBuilt, NoMemory}
 use Rattle.b3c_core.specs.Compiled.{IsCompiled, IsTextOf, ReadsWhole}
 use Rattle.b3c_core.specs.Tried.{Begins}
-use Rattle.b3c_core.specs.Tool.{Call, FailsTrial, HasAnswered, HasEnded, HasRead, HasReadTrial, PassesInput, PassesTrial, cause_of, command_of, limit_of, output_of, status_of, takes_trial, text_limit}
+use Rattle.b3c_core.specs.Tool.{Call, HasAnswered, HasEnded, HasRead, HasReadTrial, PassesInput, cause_of, command_of, limit_of, output_of, status_of, takes_trial, text_limit}
 
 same_some : {X : Type 0} (x y : X) → Some x ≡ Some y → x ≡ y
 same_some x y e = cc
@@ -61,7 +61,7 @@ answered_as call ending c input named is r =
       trial = r.trial;
       tried = subst (λ d. HasReadTrial (takes_trial d) call r.trial) same r.tried;
       answered = subst (λ d. HasAnswered (output_of d input r.trial) (cause_of d input r.trial) call ending) same
-        (subst (λ read. HasAnswered (output_of r.command read r.trial) (cause_of r.command read r.trial) call ending) whole r.answered);
+          (subst (λ read. HasAnswered (output_of r.command read r.trial) (cause_of r.command read r.trial) call ending) whole r.answered);
     }
 
 -- ---- endings that come before

@@ -1,5 +1,5 @@
 -- What has come about at an ending, put together; and that bytes spell one module alone.
-use Rattle.std.proofs.Common.{◌≡◌, ◌≤◌, ℕ, List, length, Some, refl, sym, subst, ◌∙◌}
+use Rattle.std.proofs.Common.{◌≡◌, ◌≤◌, ℕ, List, length, Some, sym, subst, ◌∙◌}
 use Rattle.b3_ir.specs.Procedure.{Procedure}
 use Rattle.b3_module.specs.Limits.{IsFirstLimit, KeepsLimits}
 use Rattle.b3_module.specs.Texts.{BadLine, Spells}

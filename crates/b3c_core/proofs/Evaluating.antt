@@ -1,8 +1,8 @@
 -- What `eval_text` and `run_file` know of a text, a trial and an object, put together.
-use Rattle.std.proofs.Common.{◌≡◌, ℕ, List, Result, Ok, Err, Some, ap, sym, subst, ◌∙◌}
-use Rattle.std.specs.Prelude.{slice_get}
+use Rattle.std.proofs.Common.{◌≡◌, ℕ, List, Ok, Err, Some}
+use Rattle.std.specs.Prelude.{All, slice_get}
+use Rattle.b3_base.specs.Ranged.{IsRangedAnswer}
 use Rattle.b3_ir.specs.Procedure.{Procedure}
-use Rattle.b3_base.specs.Observed.{Observation, Start}
 use Rattle.b3_meaning.specs.Run.{b3_run}
 use Rattle.b3_rules.specs.Valid.{IsValid}
 use Rattle.b3_supported.specs.Supported.{AreSupported}
@@ -38,9 +38,9 @@ misplaced_over text file trial ps o t is valid supported made spells none =
 pub evaluated_over : (text file trial output : List ℕ) (ps : List Procedure) (o : Object) (t : Trial) → IsTextOf text ps → IsValid ps → AreSupported ps → IsFileWith ps o file
     → Spells trial t → (symbol : Symbol) (frame : FrameRow) → MayBegin o t.name t.start symbol frame
     → (place : ℕ) (p : Procedure) → slice_get ps place ≡ Some p → p.name ≡ t.name
-    → output ≡ shown (b3_run p (start_of o frame t.start) t.answers t.blocks) → IsEvaluatedOver text trial file output
+    → All IsRangedAnswer t.answers → output ≡ shown (b3_run p (start_of o frame t.start) t.answers t.blocks) → IsEvaluatedOver text trial file output
 unfolding compiled_by
-evaluated_over text file trial output ps o t is valid supported made spells symbol frame may place p there named e =
+evaluated_over text file trial output ps o t is valid supported made spells symbol frame may place p there named ranged e =
     record {
       compiled = compiled_by text file ps o is valid supported made;
       tried = t;
@@ -50,5 +50,6 @@ evaluated_over text file trial output ps o t is valid supported made spells symb
       procedure = p;
       there = there;
       named = named;
+      ranged = ranged;
       is = e;
     }

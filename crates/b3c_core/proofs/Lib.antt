@@ -2,3 +2,4 @@ pub mod Endings
 pub mod Beginning
 pub mod Evaluating
 pub mod Completeness
+pub mod Agreement

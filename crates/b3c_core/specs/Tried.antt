@@ -1,9 +1,10 @@
 -- What the commands promise that run a trial: of the procedures of a text, and of an object.
-use Rattle.std.specs.Prelude.{◌≡◌, ℕ, List, Err, Some, slice_get}
+use Rattle.std.specs.Prelude.{◌≡◌, ◌≢◌, ℕ, ◌*◌, ◌≤◌, List, All, Err, Some, slice_get}
+use Rattle.b3_base.specs.Observed.{Observation}
+use Rattle.b3_base.specs.Ranged.{IsRangedAnswer}
+use Rattle.b3_base.specs.declared.observation.Status.TheVariants.{Going, Undefined}
 use Rattle.b3_ir.specs.Procedure.{Procedure}
 use Rattle.b3_meaning.specs.Run.{b3_run}
-use Rattle.b3_rules.specs.Valid.{IsValid}
-use Rattle.b3_supported.specs.Supported.{AreSupported}
 use Rattle.b3_trial.specs.Shown.{shown}
 use Rattle.b3_trial.specs.Trials.{BadLine, Spells, Trial}
 use Rattle.elf_obj.specs.Read.{IsFileOf as IsObjectOf}
@@ -12,13 +13,11 @@ use Rattle.elf_obj.specs.declared.fault.ObjectFault.TheVariants.{Bad}
 use Rattle.elf_obj.specs.declared.object.Object.{Object}
 use Rattle.elf_obj.specs.declared.object.Symbol.{Symbol}
 use Rattle.exit_table.specs.declared.tables.FrameRow.{FrameRow}
-use Rattle.a64_run.specs.Agrees.{entry_of}
+use Rattle.a64_run.specs.Agrees.{entry_of, word_count}
 use Rattle.a64_run.specs.Finding.{MayBegin}
 use Rattle.a64_run.specs.Machine.{machine_run}
 use Rattle.a64_run.specs.Placement.{start_of}
 use Rattle.b3c_core.specs.Compiled.{IsCause, IsCompiled}
-use Rattle.b3c_core.specs.declared.compiler.Fault.{Fault}
-use Rattle.b3c_core.specs.declared.compiler.Fault.TheVariants as fault
 use Rattle.b3c_core.specs.declared.trying.EvalFault.{EvalFault}
 use Rattle.b3c_core.specs.declared.trying.EvalFault.TheVariants as eval
 use Rattle.b3c_core.specs.declared.trying.RunFault.{RunFault}
@@ -43,6 +42,7 @@ pub record IsEvaluatedOver (text trial file output : List ℕ) : Type 0 where
   pub procedure : Procedure
   pub there : slice_get compiled.procedures place ≡ Some procedure
   pub named : procedure.name ≡ tried.name
+  pub ranged : All IsRangedAnswer tried.answers
   pub is : output ≡ shown (b3_run procedure (start_of compiled.file_of.object begins.frame tried.start) tried.answers tried.blocks)
 
 abbrev pub IsEvaluated : List ℕ → List ℕ → List ℕ → Type 0
@@ -63,6 +63,19 @@ pub record IsRun (file trial output : List ℕ) : Type 0 where
   pub tried : Trial
   pub spells : Spells trial tried
   pub run : IsRunOf object tried output
+
+-- ---- both runs
+
+-- what was seen of an evaluated run
+abbrev pub seen_of : {text trial file output : List ℕ} → IsEvaluatedOver text trial file output → Observation
+seen_of e = b3_run e.procedure (start_of e.compiled.file_of.object e.begins.frame e.tried.start) e.tried.answers e.tried.blocks
+
+-- where an evaluated run has ended, or waits, and isn't undefined, and the trial has 2 steps for each of its blocks
+-- and each word of the procedure's code, the same is printed of the machine's run of the file
+abbrev pub EvaluatedRunsAgree : Type 0
+EvaluatedRunsAgree = (text trial file output : List ℕ) (e : IsEvaluatedOver text trial file output)
+    → (seen_of e).status ≢ Going → (seen_of e).status ≢ Undefined
+    → e.tried.blocks * (2 * word_count e.begins.symbol) ≤ e.tried.steps → IsRun file trial output
 
 -- ---- refusals
 

@@ -95,7 +95,13 @@ impl Ending {
             Ending::Limit { which, line } => report_line(err, line, b"limit ", limit_name(which)),
             Ending::BadObject { code, byte } => {
                 let mut buffer = Buffer::new();
-                report_place(err, b"b3c: byte ", byte, b"bad object ", buffer.format(code).as_bytes())
+                report_place(
+                    err,
+                    b"b3c: byte ",
+                    byte,
+                    b"bad object ",
+                    buffer.format(code).as_bytes(),
+                )
             }
             Ending::BadTrial { line } => {
                 report_place(err, b"b3c: trial line ", u64::from(line), b"syntax", b"")

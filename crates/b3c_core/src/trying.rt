@@ -1,6 +1,8 @@
 //! Trials: the run of B3 of a text, and the run of the machine of an object.
 
-ghost use Rattle.std.specs.Prelude.{◌≡◌, ◌≢◌, ℕ, ◌-◌, ◌<◌, ◌^◌, length, IfOk, IfErr, IfSome, IfNone, Some, slice_get};
+ghost use Rattle.std.specs.Prelude.{◌≡◌, ◌≢◌, ℕ, ◌-◌, ◌<◌, ◌^◌, length, map, All, IfOk, IfErr, IfSome, IfNone, Some, slice_get};
+ghost use Rattle.b3_base.specs.Observed.{answer_of};
+ghost use Rattle.b3_base.specs.Ranged.{IsRangedAnswer};
 ghost use Rattle.b3_ir.specs.Procedure.{procedures, Procedure};
 ghost use Rattle.b3c_core.specs.Compiled.{IsFileOf};
 ghost use Rattle.b3_trial.specs.Trials.{trial_of};
@@ -9,7 +11,7 @@ ghost use Rattle.b3c_core.specs.Tried.{IsEvalCause, IsEvaluatedOver, IsRun, IsRu
 
 use crate::compiler::{Fault, module_file, supported_module};
 use a64_run::{PlaceFault, place, run};
-use b3_base::{Bytes, NoMemory};
+use b3_base::{Answer, Bytes, NoMemory};
 use b3_eval::eval;
 use b3_ir::Module;
 use b3_trial::{Trial, TrialFault, read_trial, show};
@@ -98,12 +100,23 @@ pub fn eval_text(alloc: Global, bytes: &[u8], trial: &[u8]) -> Result<Evaluated,
         Err(PlaceFault::NoProcedure) => return Err(EvalFault::Placement { object: made.file }),
         Err(PlaceFault::Placement) => return Err(EvalFault::Placement { object: made.file }),
     };
-    let seen = eval(alloc, p, &start, trial.answers.as_slice(), trial.blocks)?;
+    let answers = trial.answers.as_slice();
+    ranged_answers(answers);
+    let seen = eval(alloc, p, &start, answers, trial.blocks)?;
     let shown = show(alloc, &seen)?;
     Ok(Evaluated {
         object: made.file,
         shown,
     })
+}
+
+/// Tells that the numbers of answers lie in the ranges of their fields. It takes no memory.
+fn ranged_answers(answers: &[Answer])
+    ensures { All IsRangedAnswer (map answer_of answers.now) }
+{
+    for answer in answers {
+        answer.ranged();
+    }
 }
 
 /// The place of the first procedure of a name.

@@ -22,14 +22,7 @@ fn an_object_is_written(rt: HostRuntime) -> Result<(), Fail> {
 
 #[test]
 fn words_that_name_no_command_are_refused(rt: HostRuntime) -> Result<(), Fail> {
-    for line in [
-        "",
-        "frob",
-        "compile x",
-        "eval",
-        "run x y",
-        "gen 0",
-    ] {
+    for line in ["", "frob", "compile x", "eval", "run x y", "gen 0"] {
         let mut words = Seq::new(rt.alloc());
         for word in line.split_whitespace() {
             words.push(word)?;
@@ -52,7 +45,8 @@ const UNCOVERED: &str =
 #[test]
 fn texts_are_refused_by_line(rt: HostRuntime) -> Result<(), Fail> {
     let slots = "procedure f\nstack0: byteSize = 65537\nBB#0:\n";
-    let broken = "procedure f\nBB#0:\n    Int64 b@0 = ArgumentReg(%x0)\n    Int64 b@1 = Const64(1)\n    Int64 b@2 = Ad";
+    let broken =
+        "procedure f\nBB#0:\n    Int64 b@0 = ArgumentReg(%x0)\n    Int64 b@1 = Const64(1)\n    Int64 b@2 = Ad";
     for (word, text, status, line) in [
         ("compile", "", 5, "b3c: line 1: syntax\n"),
         ("print", "", 5, "b3c: line 1: syntax\n"),

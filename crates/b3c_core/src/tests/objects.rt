@@ -55,8 +55,7 @@ fn bytes_of(alloc: Global, lines: &[&str]) -> Result<Vec<u8>, NoMemory> {
     Ok(bytes)
 }
 
-const CALLS: &str =
-    "procedure calls\nx0 1\nx1 0x500000002\nx2 3\nx9 0x5000\nbytes 0x2000 00\n";
+const CALLS: &str = "procedure calls\nx0 1\nx1 0x500000002\nx2 3\nx9 0x5000\nbytes 0x2000 00\n";
 
 /// Junk for the call, of which x2 takes 34, and for the patchpoint, whose result takes its upper half from x0's.
 const JUNK: &str =
@@ -84,12 +83,7 @@ fn each_status_is_shown(rt: HostRuntime) -> Result<(), Fail> {
             "give 7\nleave\n",
             "status left\nevent call 0x5000: 1 2\nevent patch b@4: 0 5\nmemory 0x2000 00\n",
         ),
-        (
-            CALLS,
-            "steps 2\n",
-            "",
-            "status going\nmemory 0x2000 00\n",
-        ),
+        (CALLS, "steps 2\n", "", "status going\nmemory 0x2000 00\n"),
         ("procedure exits\nx0 9\n", "", "", "status exited b@5 9 5\n"),
         (
             "procedure traps\nx1 0x9000\n",

@@ -73,11 +73,7 @@ fn both_runs_show_the_same(rt: HostRuntime) -> Result<(), Fail> {
             "procedure f\nx0 7\nx1 3\nx2 3\n",
             "status returned 4\n",
         ),
-        (
-            AGAIN,
-            "procedure f\nx0 5\nx1 1\n",
-            "status returned 7\n",
-        ),
+        (AGAIN, "procedure f\nx0 5\nx1 1\n", "status returned 7\n"),
         (
             ENDLESS,
             "procedure f\nblocks 1000\nsteps 1000\n",
@@ -147,9 +143,18 @@ fn trials_are_refused(rt: HostRuntime) -> Result<(), Fail> {
         ("procedure g\n", "b3c: trial: placement\n"),
         ("procedure f\ncode 2\n", "b3c: trial: placement\n"),
         ("procedure f\nx30 0x40000000\n", "b3c: trial: placement\n"),
-        ("procedure f\nbytes 0x7fffffff 00\n", "b3c: trial: placement\n"),
-        ("procedure f\nbytes 0x40000004 00\n", "b3c: trial: placement\n"),
-        ("procedure f\ncode 0x80000000\nsp 0x80000020\n", "b3c: trial: placement\n"),
+        (
+            "procedure f\nbytes 0x7fffffff 00\n",
+            "b3c: trial: placement\n",
+        ),
+        (
+            "procedure f\nbytes 0x40000004 00\n",
+            "b3c: trial: placement\n",
+        ),
+        (
+            "procedure f\ncode 0x80000000\nsp 0x80000020\n",
+            "b3c: trial: placement\n",
+        ),
     ] {
         let shown = call(rt.alloc(), &["eval", "t"], ADD_ONE.as_bytes(), trial)?;
         assert_eq!(rt; (shown.status, shown.out.bytes().len()), (8, 0));

@@ -1,5 +1,6 @@
-use Rattle.std.proofs.Common.{◌≡◌, ◌≢◌, ◌<◌, ℕ, List, Err, Some, ap, sym, subst, ◌∙◌, arith, length, rules}
-use Rattle.std.specs.Prelude.{map, slice_get}
+use Rattle.std.proofs.Common.{◌≡◌, ◌≢◌, ◌<◌, ℕ, Err, Some, ap, sym, subst, ◌∙◌, arith, length}
+use Rattle.std.specs.Prelude.{All, map, slice_get}
+use Rattle.b3_base.specs.Ranged.{IsRangedAnswer}
 use Rattle.std.specs.List.{Contains}
 use Rattle.std.proofs.Math.ListN.{length-map}
 use Rattle.std.proofs.lemmas.Option.{slice_get_within}
@@ -19,10 +20,11 @@ use Rattle.b3c_core.proofs.trying.eval_text.Goals as goal
 pub returns-in-Err-Bad-clause-cause : goal.returns-in-Err-Bad-clause-cause
 returns-in-Err-Bad-clause-cause c =
     let text = c.in_ok-module.ensures in
-    let made = c.in_ok-made.made in
-    ((made.file, compiled_by c.args.bytes.now made.file (procedures c.in_ok-module.module) made.object text.text text.valid text.supported c.in_ok-made.ensures),
-    subst (IsNoTrial c.args.trial.now) (sym c.in-Err-Bad.line-is)
-    (no_trial c.args.trial.now _ (rw c.in-Err-Bad.field-0-is at c.in-Err-Bad.ensures.bad) (rw c.in-Err-Bad.field-0-is at c.in-Err-Bad.ensures.spelled)))
+    let made = c.in_ok-made.made in (
+      (made.file, compiled_by c.args.bytes.now made.file (procedures c.in_ok-module.module) made.object text.text text.valid text.supported c.in_ok-made.ensures),
+      subst (IsNoTrial c.args.trial.now) (sym c.in-Err-Bad.line-is)
+          (no_trial c.args.trial.now _ (rw c.in-Err-Bad.field-0-is at c.in-Err-Bad.ensures.bad) (rw c.in-Err-Bad.field-0-is at c.in-Err-Bad.ensures.spelled)),
+    )
 
 pub returns-in_default-clause-cause : goal.returns-in_default-clause-cause
 returns-in_default-clause-cause c =
@@ -74,6 +76,7 @@ returns-clause-evaluated c =
     text.text text.valid text.supported c.in_ok-made.ensures c.in-Ok.ensures.ok placed.0 placed.1
     (subst (λ name. MayBegin made.object name (machine_start_of c.in-Ok.trial.start) placed.0 placed.1) (c.name.ensures ∙ named) placed.2)
     c.in-Some.at p (procedure_at c.in_ok-module.module c.in-Some.at c.proc-p.result.now c.proc-p.ensures) named
+    (subst (λ answers. All IsRangedAnswer (map answer_of answers)) c.as_slice-answers.ensures c.ranged_answers.ensures)
     (c.in_ok-shown.ensures ∙ ap shown (c.in_ok-seen.ensures
-        ∙ ap (λ start. b3_run p start (map answer_of c.as_slice-2.result.now) c.in-Ok.trial.blocks) placed.3
-        ∙ ap (λ answers. b3_run p (start_of made.object placed.1 (machine_start_of c.in-Ok.trial.start)) (map answer_of answers) c.in-Ok.trial.blocks) c.as_slice-2.ensures))
+    ∙ ap (λ start. b3_run p start (map answer_of c.as_slice-answers.result.now) c.in-Ok.trial.blocks) placed.3
+    ∙ ap (λ answers. b3_run p (start_of made.object placed.1 (machine_start_of c.in-Ok.trial.start)) (map answer_of answers) c.in-Ok.trial.blocks) c.as_slice-answers.ensures))

@@ -1,7 +1,4 @@
-use Rattle.std.proofs.Common.{◌≡◌, ℕ, ◌+◌, ◌<◌, Some, sym, ap, subst, ◌∙◌, arith, rules}
-use Rattle.std.specs.Prelude.{slice_get}
-use Rattle.std.proofs.lemmas.Bool.{cases_lt}
-use Rattle.b3_ir.specs.Procedure.{Procedure, procedures}
+use Rattle.std.proofs.Common.{arith, rules}
 use Rattle.b3c_core.proofs.Beginning.{no_name_more, no_procedure_past, procedure_at}
 use Rattle.b3c_core.proofs.trying.procedure_named.Goals as goal
 

@@ -1,4 +1,4 @@
-use Rattle.std.proofs.Common.{◌≡◌, ℕ, List, Err, ap, sym, subst, ◌∙◌}
+use Rattle.std.proofs.Common.{Err, ap, subst, ◌∙◌}
 use Rattle.std.specs.Prelude.{map}
 use Rattle.b3_base.specs.Observed.{answer_of, machine_start_of}
 use Rattle.a64_run.specs.Agrees.{entry_of}
@@ -36,5 +36,5 @@ returns-in-Ok-show-clause-run c =
         may = subst (λ name. MayBegin c.args.object.now name (machine_start_of c.args.trial.now.start) ok.0 ok.1) (c.in-Ok.ensures.cases.0 ∙ c.as_slice.ensures) ok.2;
       };
       is = c.in-Ok-show.ensures ∙ ap shown (ok.3
-        ∙ ap (λ answers. machine_run (entry_of c.args.object.now ok.0 ok.1 (machine_start_of c.args.trial.now.start)) (map answer_of answers) c.args.trial.now.steps) c.as_slice-answers.ensures);
+          ∙ ap (λ answers. machine_run (entry_of c.args.object.now ok.0 ok.1 (machine_start_of c.args.trial.now.start)) (map answer_of answers) c.args.trial.now.steps) c.as_slice-answers.ensures);
     }
