@@ -2,17 +2,16 @@
 -- definition, an exit, a trap and a Switch.
 use Rattle.std.proofs.Common.{◌≡◌, ◌+◌, ◌-◌, ◌^◌, ℕ, Bool, true, false, List, [], ◌∷◌, ◌++◌, map, Some, None, refl}
 use Rattle.std.specs.Prelude.{nat_eq, if◌then◌else◌, pos}
-use Rattle.b3_base.specs.Memory.{is_mapped, read_word, write_word}
-use Rattle.b3_base.specs.Observed.{Answer, Give, Leave, Event, Observation, Start, no_memory, undefined}
+use Rattle.b3_base.specs.Memory.{is_mapped, read_word}
+use Rattle.b3_base.specs.Observed.{Answer, Give, Leave, Event, Start, no_memory, undefined}
 use Rattle.b3_base.specs.Run.{iterate}
 use Rattle.b3_base.specs.declared.event.EventKind.TheVariants as event
 use Rattle.b3_base.specs.declared.observation.Status.{Status}
-use Rattle.b3_base.specs.declared.observation.Status.TheVariants.{Going, Waiting, Left, Returned, Trapped, Exited}
+use Rattle.b3_base.specs.declared.observation.Status.TheVariants.{Going, Waiting, Returned, Trapped, Exited}
 use Rattle.b3_base.specs.declared.word.Width.{Width}
 use Rattle.b3_base.specs.declared.word.Width.TheVariants.{W32, W64}
 use Rattle.a64_inst.specs.declared.inst.Cond.TheVariants.{Lt, Hi}
 use Rattle.a64_inst.specs.Values.{flags_of_sum}
-use Rattle.stackmap.specs.declared.site.Returns.{Returns}
 use Rattle.stackmap.specs.declared.site.Returns.TheVariants as returns
 use Rattle.air_ir.specs.Blocks.{block_step, run_step}
 use Rattle.air_ir.specs.Forms.{call_clobbers, operand_in}

@@ -1,2 +1,9 @@
 pub mod Same
+pub mod HomeLaws
+pub mod Reading
+pub mod Writing
+pub mod Stepping
+pub mod Copying
+pub mod CopySteps
+pub mod Junk
 mod Examples

@@ -1,7 +1,7 @@
 -- Having the same blocks is reflexive and transitive.
-use Rattle.std.proofs.Common.{◌≡◌, ℕ, ◌*◌, ◌/◌, ◌≤◌, refl, sym, ap, ◌∙◌, subst, arith}
+use Rattle.std.proofs.Common.{◌≡◌, ℕ, ◌*◌, ◌/◌, ◌≤◌, refl, sym, ap, ◌∙◌, arith}
 use Rattle.b3_base.specs.Observed.{Observation}
-use Rattle.b3_base.specs.Run.{Follows, RunsAlike}
+use Rattle.b3_base.specs.Run.{Follows}
 use Rattle.air_ir.specs.Run.{IsUndefined, SameAtEach}
 
 at_least : (n : ℕ) → n / 1 ≤ n

@@ -1,8 +1,8 @@
 -- The blocks of a procedure, and the step of a block.
-use Rattle.std.specs.Prelude.{ℕ, zero, Bool, true, false, List, [], ◌∷◌, Option, Some, None, get_or, slice_get, suc, length}
+use Rattle.std.specs.Prelude.{ℕ, zero, Bool, true, false, List, [], Option, Some, None, get_or, slice_get, suc, length}
 use Rattle.b3_base.specs.Observed.{Observation}
 use Rattle.b3_base.specs.declared.observation.Status.{Status}
-use Rattle.air_ir.specs.Meaning.{Exit, To, Over, World}
+use Rattle.air_ir.specs.Meaning.{To, Over, World}
 use Rattle.air_ir.specs.Steps.{Meaning, Outcome, Undefined, Goes, State, steps}
 use Rattle.air_ir.specs.declared.op.AirOp.{AirOp}
 use Rattle.air_ir.specs.declared.op.AirOp.TheVariants.{BranchIf, Jump, Switch, Return, Oops}

@@ -4,7 +4,6 @@ use Rattle.b3_base.specs.BitMask.{bit_mask}
 use Rattle.b3_base.specs.Word.{bits}
 use Rattle.b3_base.specs.declared.word.Width.{Width}
 use Rattle.b3_base.specs.declared.word.Width.TheVariants.{W32, W64}
-use Rattle.b3_ir.specs.declared.value.Reg.{Reg as Register}
 use Rattle.stackmap.specs.declared.site.Returns.{Returns}
 use Rattle.stackmap.specs.declared.site.Returns.TheVariants as returns
 use Rattle.air_ir.specs.Operands.{Target, targets}
@@ -12,8 +11,7 @@ use Rattle.air_ir.specs.declared.op.AirOp.{AirOp}
 use Rattle.air_ir.specs.declared.op.AirOp.TheVariants as op
 use Rattle.air_ir.specs.declared.op.Test.{Test}
 use Rattle.air_ir.specs.declared.op.Test.TheVariants.{Compare, NonZero, Bit}
-use Rattle.air_ir.specs.declared.operand.Home.{Home}
-use Rattle.air_ir.specs.declared.operand.Home.TheVariants.{Tmp, Reg, Spill}
+use Rattle.air_ir.specs.declared.operand.Home.TheVariants.{Reg}
 use Rattle.air_ir.specs.declared.operand.Arg.{Arg}
 use Rattle.air_ir.specs.declared.operand.Arg.TheVariants.{At, Imm, Addr, Index, FrameSlot}
 use Rattle.air_ir.specs.declared.operand.Role.{Role}

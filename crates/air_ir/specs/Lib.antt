@@ -8,3 +8,5 @@ pub mod Forms
 pub mod WellFormed
 pub mod Weight
 pub mod Expressed
+pub mod Renaming
+pub mod Related

@@ -1,5 +1,5 @@
 -- What an op makes of the words that it reads.
-use Rattle.std.specs.Prelude.{ℕ, ℤ, suc, ◌*◌, ◌/◌, Bool, true, false, nat_eq, if◌then◌else◌, List, [], ◌∷◌, ◌++◌, length, map, Option, Some, None, slice_get}
+use Rattle.std.specs.Prelude.{ℕ, ℤ, suc, ◌/◌, Bool, true, false, nat_eq, if◌then◌else◌, List, [], ◌∷◌, ◌++◌, map, Option, Some, None, slice_get}
 use Rattle.b3_base.specs.Arithmetic.{low}
 use Rattle.b3_base.specs.Memory.{read_word, write_word}
 use Rattle.b3_base.specs.Observed.{Answer, Give, Leave, Event, Memory, Start}

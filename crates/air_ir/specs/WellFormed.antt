@@ -1,5 +1,5 @@
 -- When a procedure is well formed.
-use Rattle.std.specs.Prelude.{◌≡◌, ◌≢◌, ℕ, suc, ◌<◌, ◌≤◌, Bool, true, false, nat_eq, if◌then◌else◌, List, [], ◌∷◌, length, Option, Some, None, All, slice_get}
+use Rattle.std.specs.Prelude.{◌≡◌, ◌≢◌, ℕ, suc, ◌<◌, ◌≤◌, Bool, true, false, nat_eq, if◌then◌else◌, length, Some, None, All, slice_get}
 use Rattle.stackmap.specs.Rules.{IsAllocatable}
 use Rattle.air_ir.specs.Blocks.{target_count}
 use Rattle.air_ir.specs.Forms.{HasOperands}

@@ -1,4 +1,3 @@
-use Rattle.std.proofs.Common.{◌≡◌}
 use Rattle.air_ir.proofs.Same.{same_itself, same_through}
 use Rattle.air_ir.proofs.laws.same_blocks_laws.Goals as goal
 use Rattle.air_ir.specs.Run.{air_run}

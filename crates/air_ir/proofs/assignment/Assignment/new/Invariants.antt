@@ -1,4 +1,4 @@
-use Rattle.std.proofs.Common.{◌≡◌, ◌<◌, ◌++◌, ◌∷◌, [], Some, None, IfOk, OnOk, OnErr, length, replicate, slice_get, slice_set, ℕ, ◌+◌, ◌-◌, ◌*◌, ◌≤◌}
+use Rattle.std.proofs.Common.{◌≡◌, None, replicate}
 use Rattle.air_ir.proofs.assignment.Assignment.new.Given as goal
 
 abbrev pub invariant-loop : goal.invariant-loop
