@@ -34,28 +34,28 @@ use Rattle.air_ir.specs.declared.procedure.AirProc.{AirProc}
 
 -- ---- how procedures are written here
 
-abbrev x : ℕ → Home
+abbrev pub x : ℕ → Home
 x r = Reg (record { 0 = r })
 
-abbrev use_at : Width → Arg → Operand
+abbrev pub use_at : Width → Arg → Operand
 use_at width arg = record { role = Use; width = width; arg = arg }
 
-abbrev def_at : Width → Home → Operand
+abbrev pub def_at : Width → Home → Operand
 def_at width home = record { role = Def; width = width; arg = At home }
 
-abbrev inst : AirOp → List Operand → AirInst
+abbrev pub inst : AirOp → List Operand → AirInst
 inst op operands = record { op = op; operands = operands; value = 9; traps = false }
 
-abbrev move : Width → Arg → Home → AirInst
+abbrev pub move : Width → Arg → Home → AirInst
 move width from to = inst op.Move (use_at width from ∷ def_at width to ∷ [])
 
-abbrev block : List AirInst → List ℕ → AirBlock
+abbrev pub block : List AirInst → List ℕ → AirBlock
 block insts targets = record { insts = insts; targets = targets }
 
-abbrev procedure : List AirBlock → AirProc
+abbrev pub procedure : List AirBlock → AirProc
 procedure blocks = record { blocks = blocks; tmps = 4; slots = []; returns = returns.W64 }
 
-abbrev return_x0 : Width → AirInst
+abbrev pub return_x0 : Width → AirInst
 return_x0 width = inst op.Return (operand_in Use width 0 ∷ [])
 
 -- a start with these words in x0 and x1, and no bytes
@@ -77,7 +77,7 @@ events_of p x0 x1 answers junk n = (air_run p (start_with x0 x1) answers junk n)
 
 -- ---- a loop: the sum of x0, x0 less 1 and so on to 1
 
-abbrev loop : AirProc
+abbrev pub loop : AirProc
 loop = procedure (
     block (
     inst op.Shuffle (use_at W64 (At (x 0)) ∷ def_at W64 (Tmp 0) ∷ use_at W64 (Imm 0) ∷ def_at W64 (Tmp 1) ∷ [])

@@ -7,3 +7,5 @@ pub mod Copying
 pub mod CopySteps
 pub mod Junk
 mod Examples
+mod FormExamples
+mod ExpressedExample

@@ -1,5 +1,5 @@
 -- When a procedure is well formed.
-use Rattle.std.specs.Prelude.{◌≡◌, ◌≢◌, ℕ, suc, ◌<◌, ◌≤◌, Bool, true, false, nat_eq, if◌then◌else◌, length, Some, None, All, slice_get}
+use Rattle.std.specs.Prelude.{◌≡◌, ◌≢◌, ℕ, ◌<◌, ◌≤◌, Bool, true, false, List, [], ◌∷◌, ◌++◌, length, Some, None, All, slice_get}
 use Rattle.stackmap.specs.Rules.{IsAllocatable}
 use Rattle.air_ir.specs.Blocks.{target_count}
 use Rattle.air_ir.specs.Forms.{HasOperands}
@@ -37,12 +37,14 @@ pub record IsGoodInst (p : AirProc) (i : AirInst) : Type 0 where
   pub operands : HasOperands p.returns i.op i.operands
   pub names : All (λ (o : Operand). NamesOwn p o.role o.arg) i.operands
 
--- a terminal is the last instruction of its block, and the last one is a terminal, which takes the block's
--- targets; these are blocks other than the entry
+-- instructions that are no terminals, and a terminal that takes the block's targets, which are blocks other than
+-- the entry
 pub record IsGoodBlock (p : AirProc) (b : AirBlock) : Type 0 where
-  pub some : 0 < length b.insts
-  pub terminal : (k : ℕ) (i : AirInst) → slice_get b.insts k ≡ Some i
-      → target_count i.op ≡ (if nat_eq (suc k) (length b.insts) then Some (length b.targets) else None)
+  pub body : List AirInst
+  pub last : AirInst
+  pub parts : b.insts ≡ body ++ last ∷ []
+  pub inner : All (λ (i : AirInst). target_count i.op ≡ None) body
+  pub ends : target_count last.op ≡ Some (length b.targets)
   pub targets : All (λ target. (0 < target) × (target < length p.blocks)) b.targets
   pub insts : All (IsGoodInst p) b.insts
 

@@ -1,0 +1,141 @@
+-- No public clause cites this module. An instruction that is expressed for a patchpoint.
+use Rattle.std.proofs.Common.{◌≡◌, ◌+◌, ℕ, zero, suc, inl, inr, true, false, List, [], ◌∷◌, length, Option, Some, None, refl, ap, subst, arith, lit<, slice_get, codes, Contains}
+use Rattle.std.proofs.lemmas.Bool.{false≢true}
+use Rattle.std.proofs.lemmas.Nat.Bits.{bit_at-zero}
+use Rattle.b3_base.specs.declared.word.Width.TheVariants.{W64}
+use Rattle.b3_ir.specs.Procedure.{Procedure}
+use Rattle.b3_ir.specs.Table.{row_of}
+use Rattle.b3_ir.specs.declared.opcode.Opcode.{Opcode}
+use Rattle.b3_ir.specs.declared.opcode.Opcode.TheVariants as opcode
+use Rattle.b3_ir.specs.declared.opcode.Ty.TheVariants.{Int64}
+use Rattle.b3_ir.specs.declared.value.Body.{Body}
+use Rattle.b3_ir.specs.declared.value.Body.TheVariants.{Constant, Map}
+use Rattle.b3_ir.specs.declared.value.Constraint.{Constraint}
+use Rattle.b3_ir.specs.declared.value.Constraint.TheVariants.{LateColdAny, SomeRegister, SomeRegisterWithClobber}
+use Rattle.b3_ir.specs.declared.value.Reg.{Reg as Register}
+use Rattle.b3_ir.specs.declared.value.Stackmap.{Stackmap}
+use Rattle.b3_ir.specs.declared.value.Value.{Value}
+use Rattle.stackmap.specs.Registers.{allocatable, has}
+use Rattle.air_ir.specs.Expressed.{ClobbersIt, IsChild, IsExpressed}
+use Rattle.air_ir.specs.Forms.{operand_in}
+use Rattle.air_ir.specs.declared.op.AirOp.TheVariants as op
+use Rattle.air_ir.specs.declared.operand.Home.TheVariants.{Reg}
+use Rattle.air_ir.specs.declared.operand.Arg.{Arg}
+use Rattle.air_ir.specs.declared.operand.Arg.TheVariants.{At, Imm}
+use Rattle.air_ir.specs.declared.operand.Role.TheVariants.{Use, LateUse, EarlyDef, Def, Clobber}
+use Rattle.air_ir.specs.declared.operand.Operand.{Operand}
+use Rattle.air_ir.specs.declared.procedure.AirInst.{AirInst}
+
+abbrev value_of : ℕ → Opcode → List ℕ → Body → Value
+value_of id opcode children body = record {
+  id = id;
+  ty = Int64;
+  kind = record { opcode = opcode; chill = false; traps = false };
+  children = children;
+  body = body;
+  line = 0;
+}
+
+-- a patchpoint of two children, one in some register that it changes, and one late anywhere
+abbrev asked : Stackmap
+asked = record { constraints = SomeRegisterWithClobber ∷ LateColdAny ∷ []; result = SomeRegister; early = 0; late = 0; size = 4 }
+
+abbrev patchpoint : Value
+patchpoint = value_of 3 opcode.Patchpoint (1 ∷ 2 ∷ []) (Map asked)
+
+abbrev procedure : Procedure
+procedure = record {
+  name = codes "f";
+  line = 0;
+  slots = [];
+  blocks = record { number = 0; line = 0; values = value_of 1 opcode.Const64 [] (Constant 77) ∷ value_of 2 opcode.Const64 [] (Constant 5) ∷ patchpoint ∷ [] } ∷ [];
+}
+
+-- the first child stands in x0, the second nowhere, since it is a constant, and the result in x1
+abbrev constant : Operand
+constant = record { role = LateUse; width = W64; arg = Imm 5 }
+
+abbrev patch : AirInst
+patch = record {
+  op = op.Patch 4 true;
+  operands = operand_in Use W64 0 ∷ constant ∷ operand_in EarlyDef W64 0 ∷ operand_in Def W64 1 ∷ [];
+  value = 3;
+  traps = false;
+}
+
+abbrev reported : List Operand
+reported = operand_in Use W64 0 ∷ constant ∷ []
+
+abbrev changed : List Operand
+changed = operand_in EarlyDef W64 0 ∷ []
+
+children : (k id : ℕ) (c : Constraint) (o : Operand) → slice_get (1 ∷ 2 ∷ []) (length (row_of opcode.Patchpoint).takes + k) ≡ Some id
+    → slice_get asked.constraints k ≡ Some c → slice_get reported k ≡ Some o → IsChild procedure patchpoint k id c o
+unfolding allocatable
+children zero id c o e f g =
+    let i : 1 ≡ id = cc in
+    let d : SomeRegisterWithClobber ≡ c = cc in
+    let p : operand_in Use W64 0 ≡ o = cc in
+    subst (λ (n : ℕ). IsChild procedure patchpoint 0 n c o) i
+    (subst (λ (b : Constraint). IsChild procedure patchpoint 0 1 b o) d
+      (subst (λ (q : Operand). IsChild procedure patchpoint 0 1 SomeRegisterWithClobber q) p (record { role = refl; width = refl; stands = refl })))
+children (suc zero) id c o e f g =
+    let i : 2 ≡ id = cc in
+    let d : LateColdAny ≡ c = cc in
+    let p : constant ≡ o = cc in
+    subst (λ (n : ℕ). IsChild procedure patchpoint 1 n c o) i
+    (subst (λ (b : Constraint). IsChild procedure patchpoint 1 2 b o) d
+      (subst (λ (q : Operand). IsChild procedure patchpoint 1 2 LateColdAny q) p
+        (record { role = refl; width = refl; stands = (value_of 2 opcode.Const64 [] (Constant 5), refl, (inr refl, refl)) })))
+children (suc (suc k)) id c o e f g = absurd (cc)
+
+has_none : (r : ℕ) → has 0 r ≡ true → ⊥
+has_none r e = false≢true (rw (bit_at-zero r) at e)
+
+abbrev register : ℕ → Register
+register r = record { 0 = r }
+
+abbrev number_in : Arg → ℕ
+number_in (At (Reg reg)) = reg.0
+number_in _ = 0
+
+abbrev number_of : Option Register → ℕ
+number_of (Some reg) = reg.0
+number_of None = 0
+
+clobbered : (r : ℕ) → Contains changed (operand_in EarlyDef W64 r) → ClobbersIt asked patchpoint r
+unfolding allocatable
+clobbered r (zero, less, e) = let same : 0 ≡ r = ap (λ (o : Operand). number_in o.arg) e in subst (λ (q : ℕ). ClobbersIt asked patchpoint q) same (0, refl, refl)
+clobbered r (suc k, less, e) = absurd (omega (arith, less))
+
+changed_there : (r : ℕ) → ClobbersIt asked patchpoint r → Contains changed (operand_in EarlyDef W64 r)
+unfolding allocatable
+changed_there r (zero, e, f) =
+    let same : 0 ≡ r = ap number_of f in
+    subst (λ (q : ℕ). Contains changed (operand_in EarlyDef W64 q)) same (0, lit< tt, refl)
+changed_there r (suc zero, e, f) = absurd (cc)
+changed_there r (suc (suc k), e, f) = absurd (cc)
+
+not_clobbered : (r : ℕ) → Contains changed (operand_in Clobber W64 r) → ⊥
+not_clobbered r (zero, less, e) = let roles : EarlyDef ≡ Clobber = ap (λ (o : Operand). o.role) e in absurd (cc)
+not_clobbered r (suc k, less, e) = omega (arith, less)
+
+patch_is_expressed : IsExpressed procedure patchpoint patch
+unfolding allocatable
+patch_is_expressed = record {
+  value = refl;
+  stackmap = asked;
+  carries = refl;
+  op = (refl, refl, refl);
+  inputs = [];
+  reported = reported;
+  changed = changed;
+  results = operand_in Def W64 1 ∷ [];
+  parts = refl;
+  count = refl;
+  children = children;
+  early = λ r. (λ c. inr (clobbered r c), λ either. elim either [ inl e ↦ absurd (has_none r e) | inr c ↦ changed_there r c ]);
+  late = λ r. (λ c. absurd (not_clobbered r c), λ e. absurd (has_none r e));
+  no_input = λ e. refl;
+  result = λ e. refl;
+}
