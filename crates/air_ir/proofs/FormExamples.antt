@@ -6,7 +6,7 @@ use Rattle.std.specs.List.{AllByRecursion}
 use Rattle.std.proofs.lemmas.List.Elements.{All-from_recursion}
 use Rattle.std.proofs.lemmas.List.Kept.{AllPairs-cons}
 use Rattle.b3_base.specs.declared.word.Width.TheVariants.{W64}
-use Rattle.air_ir.specs.Blocks.{target_count}
+use Rattle.air_ir.specs.Kinds.{target_count}
 use Rattle.air_ir.specs.Forms.{AllFit, ArePairs}
 use Rattle.air_ir.specs.Operands.{Target, targets}
 use Rattle.air_ir.specs.WellFormed.{IsGoodBlock, IsGoodInst, IsWellFormed, NamesOwn}

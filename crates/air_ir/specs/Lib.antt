@@ -1,4 +1,5 @@
 pub mod Operands
+pub mod Kinds
 pub mod Words
 pub mod Meaning
 pub mod Steps

@@ -1,10 +1,9 @@
 -- What an op makes of the words that it reads.
-use Rattle.std.specs.Prelude.{ℕ, ℤ, suc, ◌/◌, Bool, true, false, nat_eq, if◌then◌else◌, List, [], ◌∷◌, ◌++◌, map, Option, Some, None, slice_get}
+use Rattle.std.specs.Prelude.{ℕ, ℤ, suc, Bool, nat_eq, if◌then◌else◌, List, [], ◌∷◌, ◌++◌, map, Option, Some, None, slice_get}
 use Rattle.b3_base.specs.Arithmetic.{low}
 use Rattle.b3_base.specs.Memory.{read_word, write_word}
 use Rattle.b3_base.specs.Observed.{Answer, Give, Leave, Event, Memory, Start}
 use Rattle.b3_base.specs.Signed.{is_signed, signed, unsigned}
-use Rattle.b3_base.specs.Word.{bits}
 use Rattle.b3_base.specs.declared.event.EventKind.{EventKind}
 use Rattle.b3_base.specs.declared.event.EventKind.TheVariants as event
 use Rattle.b3_base.specs.declared.observation.Status.{Status}
@@ -14,11 +13,10 @@ use Rattle.b3_base.specs.declared.word.Width.TheVariants.{W64}
 use Rattle.b3_meaning.specs.Access.{Accessed, Done, Trap, Refused, access}
 use Rattle.b3_meaning.specs.Run.{checked_result, extended, with_writes}
 use Rattle.b3_meaning.specs.declared.role.Checked.{Checked}
-use Rattle.b3_meaning.specs.declared.role.Checked.TheVariants.{Sum, Difference, Product}
+use Rattle.air_ir.specs.Kinds.{Kind, Copies, Computes, Loads, Stores, Checks, ChecksResult, Calls, Patches, SlotAddresses, FramePointers, Branches, Jumps, Switches, Returns, Fails, extent_bytes, kind_of}
 use Rattle.air_ir.specs.Operands.{Read}
 use Rattle.air_ir.specs.Words.{Tested, computed, test}
 use Rattle.air_ir.specs.declared.op.AirOp.{AirOp}
-use Rattle.air_ir.specs.declared.op.AirOp.TheVariants as op
 use Rattle.air_ir.specs.declared.procedure.AirInst.{AirInst}
 
 -- what an instruction acts on beside homes: the memory, the events so far and the answers that are left
@@ -155,34 +153,25 @@ abbrev pub slot_address : Start → List ℕ → Option ℕ
 slot_address start (number ∷ []) = slice_get start.slots number
 slot_address start _ = None
 
--- ---- ops
+-- ---- kinds
 
--- what an op makes of words, the first of which has this width
-abbrev pub effect_of : Start → Operation → AirOp → Width → List Read → List ℕ → World → Option Effect
-effect_of start o op.Move width typed words w = gives w words
-effect_of start o op.Shuffle width typed words w = gives w words
-effect_of start o op.Load8Z width typed words w = loads start o 1 false words w
-effect_of start o op.Load8S width typed words w = loads start o 1 true words w
-effect_of start o op.Load16Z width typed words w = loads start o 2 false words w
-effect_of start o op.Load16S width typed words w = loads start o 2 true words w
-effect_of start o op.Load width typed words w = loads start o (bits width / 8) false words w
-effect_of start o op.Store8 width typed words w = stores start o 1 words w
-effect_of start o op.Store16 width typed words w = stores start o 2 words w
-effect_of start o op.Store width typed words w = stores start o (bits width / 8) words w
-effect_of start o (op.CheckIf t) width typed words w = checks o.value (test t width words) w
-effect_of start o op.CheckAdd width typed words w = checks_result o.value Sum width words w
-effect_of start o op.CheckSub width typed words w = checks_result o.value Difference width words w
-effect_of start o op.CheckMul width typed words w = checks_result o.value Product width words w
-effect_of start o (op.BranchIf t) width typed words w = branches (test t width words) w
-effect_of start o op.Jump width typed words w = leaves w (To 0)
-effect_of start o (op.Switch cases) width typed words w = switches width cases words w
-effect_of start o (op.Call has_result) width typed words w = calls start has_result typed w
-effect_of start o (op.Patch size has_result) width typed words w = asks (event.Patch o.value) has_result typed w
-effect_of start o op.Return width typed words w = returns words w
-effect_of start o op.Oops width typed words w = None
-effect_of start o op.SlotAddress width typed words w = gives_word w (slot_address start words)
-effect_of start o op.FramePointer width typed words w = gives_word w (Some start.frame_pointer)
-effect_of start o other width typed words w = gives_word w (computed other width words)
+-- what an operation of a kind makes of words, the first of which has this width
+abbrev pub effect_of : Kind → Start → Operation → Width → List Read → List ℕ → World → Option Effect
+effect_of Copies start o width typed words w = gives w words
+effect_of Computes start o width typed words w = gives_word w (computed o.op width words)
+effect_of (Loads extent extends) start o width typed words w = loads start o (extent_bytes extent width) extends words w
+effect_of (Stores extent) start o width typed words w = stores start o (extent_bytes extent width) words w
+effect_of (Checks t) start o width typed words w = checks o.value (test t width words) w
+effect_of (ChecksResult checked) start o width typed words w = checks_result o.value checked width words w
+effect_of (Calls has_result) start o width typed words w = calls start has_result typed w
+effect_of (Patches has_result) start o width typed words w = asks (event.Patch o.value) has_result typed w
+effect_of SlotAddresses start o width typed words w = gives_word w (slot_address start words)
+effect_of FramePointers start o width typed words w = gives_word w (Some start.frame_pointer)
+effect_of (Branches t) start o width typed words w = branches (test t width words) w
+effect_of Jumps start o width typed words w = leaves w (To 0)
+effect_of (Switches cases) start o width typed words w = switches width cases words w
+effect_of Returns start o width typed words w = returns words w
+effect_of Fails start o width typed words w = None
 
 -- the width of the first word
 abbrev pub width_of : List Read → Width
@@ -191,4 +180,4 @@ width_of (r ∷ rest) = r.0
 
 -- the meaning of an operation; none where it is undefined
 unfoldable pub meaning : Start → Operation → List Read → World → Option Effect
-meaning start o words w = effect_of start o o.op (width_of words) words (map (λ (r : Read). r.1) words) w
+meaning start o words w = effect_of (kind_of o.op) start o (width_of words) words (map (λ (r : Read). r.1) words) w

@@ -1,10 +1,8 @@
 -- When a procedure is well formed.
-use Rattle.std.specs.Prelude.{◌≡◌, ◌≢◌, ℕ, ◌<◌, ◌≤◌, Bool, true, false, List, [], ◌∷◌, ◌++◌, length, Some, None, All, slice_get}
+use Rattle.std.specs.Prelude.{◌≡◌, ◌≢◌, ℕ, ◌<◌, ◌≤◌, true, List, [], ◌∷◌, ◌++◌, length, Some, None, All, slice_get}
 use Rattle.stackmap.specs.Rules.{IsAllocatable}
-use Rattle.air_ir.specs.Blocks.{target_count}
+use Rattle.air_ir.specs.Kinds.{kind_of, makes_site, target_count}
 use Rattle.air_ir.specs.Forms.{HasOperands}
-use Rattle.air_ir.specs.declared.op.AirOp.{AirOp}
-use Rattle.air_ir.specs.declared.op.AirOp.TheVariants as op
 use Rattle.air_ir.specs.declared.operand.Home.{Home}
 use Rattle.air_ir.specs.declared.operand.Home.TheVariants.{Tmp, Reg, Spill}
 use Rattle.air_ir.specs.declared.operand.Arg.{Arg}
@@ -55,24 +53,6 @@ pub record IsWellFormed (p : AirProc) : Type 0 where
 
 -- ---- sites
 
--- whether an instruction makes a site: a call, a patchpoint, a check, and an access that traps
-abbrev pub makes_site : AirOp → Bool → Bool
-makes_site (op.Call typed) traps = true
-makes_site (op.Patch size typed) traps = true
-makes_site (op.CheckIf test) traps = true
-makes_site op.CheckAdd traps = true
-makes_site op.CheckSub traps = true
-makes_site op.CheckMul traps = true
-makes_site op.Load8Z traps = traps
-makes_site op.Load8S traps = traps
-makes_site op.Load16Z traps = traps
-makes_site op.Load16S traps = traps
-makes_site op.Load traps = traps
-makes_site op.Store8 traps = traps
-makes_site op.Store16 traps = traps
-makes_site op.Store traps = traps
-makes_site _ traps = false
-
 -- an instruction stands at a place of a block
 pub record StandsAt (p : AirProc) (block place : ℕ) (i : AirInst) : Type 0 where
   pub of : AirBlock
@@ -82,4 +62,4 @@ pub record StandsAt (p : AirProc) (block place : ℕ) (i : AirInst) : Type 0 whe
 -- at most one instruction makes a site for a value
 abbrev pub HasOneSiteEach : AirProc → Type 0
 HasOneSiteEach p = (b c k l : ℕ) (i j : AirInst) → StandsAt p b k i → StandsAt p c l j
-    → makes_site i.op i.traps ≡ true → makes_site j.op j.traps ≡ true → i.value ≡ j.value → (b ≡ c) × (k ≡ l)
+    → makes_site (kind_of i.op) i.traps ≡ true → makes_site (kind_of j.op) j.traps ≡ true → i.value ≡ j.value → (b ≡ c) × (k ≡ l)

@@ -1,7 +1,7 @@
 //! What instructions of Air do.
 
 ghost use Rattle.std.specs.Prelude.{◌≡◌, IfOk};
-ghost use Rattle.air_ir.specs.Blocks.{is_terminal};
+ghost use Rattle.air_ir.specs.Kinds.{is_terminal};
 
 use a64_inst::Cond;
 use b3_base::{NoMemory, Words};
