@@ -78,15 +78,15 @@ children zero id c o e f g =
     let p : operand_in Use W64 0 ≡ o = cc in
     subst (λ (n : ℕ). IsChild procedure patchpoint 0 n c o) i
     (subst (λ (b : Constraint). IsChild procedure patchpoint 0 1 b o) d
-      (subst (λ (q : Operand). IsChild procedure patchpoint 0 1 SomeRegisterWithClobber q) p (record { role = refl; width = refl; stands = refl })))
+    (subst (λ (q : Operand). IsChild procedure patchpoint 0 1 SomeRegisterWithClobber q) p (record { role = refl; width = refl; stands = refl })))
 children (suc zero) id c o e f g =
     let i : 2 ≡ id = cc in
     let d : LateColdAny ≡ c = cc in
     let p : constant ≡ o = cc in
     subst (λ (n : ℕ). IsChild procedure patchpoint 1 n c o) i
     (subst (λ (b : Constraint). IsChild procedure patchpoint 1 2 b o) d
-      (subst (λ (q : Operand). IsChild procedure patchpoint 1 2 LateColdAny q) p
-        (record { role = refl; width = refl; stands = (value_of 2 opcode.Const64 [] (Constant 5), refl, (inr refl, refl)) })))
+    (subst (λ (q : Operand). IsChild procedure patchpoint 1 2 LateColdAny q) p
+    (record { role = refl; width = refl; stands = (value_of 2 opcode.Const64 [] (Constant 5), refl, (inr refl, refl)) })))
 children (suc (suc k)) id c o e f g = absurd (cc)
 
 has_none : (r : ℕ) → has 0 r ≡ true → ⊥

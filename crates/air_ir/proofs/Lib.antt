@@ -6,6 +6,7 @@ pub mod Stepping
 pub mod Copying
 pub mod CopySteps
 pub mod Junk
+pub mod Meanings
 mod Examples
 mod FormExamples
 mod ExpressedExample
