@@ -4,6 +4,7 @@ use Rattle.b3_base.specs.BitMask.{bit_mask}
 use Rattle.b3_base.specs.Word.{bits}
 use Rattle.b3_base.specs.declared.word.Width.{Width}
 use Rattle.b3_base.specs.declared.word.Width.TheVariants.{W32, W64}
+use Rattle.stackmap.specs.Rules.{IsAllocatable}
 use Rattle.stackmap.specs.declared.site.Returns.{Returns}
 use Rattle.stackmap.specs.declared.site.Returns.TheVariants as returns
 use Rattle.air_ir.specs.Operands.{Target, targets}
@@ -189,9 +190,10 @@ IsReported o = ((o.role ≡ Use) ⊎ (o.role ≡ LateUse)) × IsWord AnyWord o.w
 abbrev pub IsChanged : Operand → Type 0
 IsChanged o = (r : ℕ) × ((o ≡ operand_in EarlyDef W64 r) ⊎ (o ≡ operand_in Clobber W64 r))
 
--- a result in a register, early or not
+-- a result in a register that values may stand in, early or not
 abbrev pub IsPlacedResult : Width → Operand → Type 0
-IsPlacedResult width o = (r : ℕ) × ((o ≡ operand_in EarlyDef width r) ⊎ (o ≡ operand_in Def width r))
+IsPlacedResult width o =
+    (r : ℕ) × IsAllocatable (record { 0 = r }) × ((o ≡ operand_in EarlyDef width r) ⊎ (o ≡ operand_in Def width r))
 
 abbrev pub OneIs : Bool → (Operand → Type 0) → List Operand → Type 0
 OneIs true Is (o ∷ []) = Is o
