@@ -1,6 +1,7 @@
 -- No public clause cites this module. An instruction that is expressed for a patchpoint.
-use Rattle.std.proofs.Common.{◌≡◌, ◌+◌, ℕ, zero, suc, inl, inr, true, false, List, [], ◌∷◌, length, Option, Some, None, refl, ap, subst, arith, lit<, slice_get, codes, Contains}
+use Rattle.std.proofs.Common.{◌≡◌, ◌+◌, ℕ, zero, suc, inl, inr, true, false, List, [], ◌∷◌, length, Option, Some, None, refl, ap, subst, arith, lit<, lit≤, slice_get, codes, Contains}
 use Rattle.std.proofs.lemmas.Bool.{false≢true}
+use Rattle.std.proofs.lemmas.List.Elements.{All-from_recursion}
 use Rattle.std.proofs.lemmas.Nat.Bits.{bit_at-zero}
 use Rattle.b3_base.specs.declared.word.Width.TheVariants.{W64}
 use Rattle.b3_ir.specs.Procedure.{Procedure}
@@ -16,9 +17,10 @@ use Rattle.b3_ir.specs.declared.value.Reg.{Reg as Register}
 use Rattle.b3_ir.specs.declared.value.Stackmap.{Stackmap}
 use Rattle.b3_ir.specs.declared.value.Value.{Value}
 use Rattle.stackmap.specs.Registers.{allocatable, has}
-use Rattle.air_ir.specs.Expressed.{ClobbersIt, IsChild, IsExpressed}
-use Rattle.air_ir.specs.Forms.{operand_in}
+use Rattle.air_ir.specs.Expressed.{ClobbersIt, IsChild, IsExpressed, IsExpressedIn, IsExpressedInPlaces, IsPlace, IsTemporary}
+use Rattle.air_ir.specs.Forms.{AllFit, IsChanged, IsReported, SiteFits, SiteOperands, operand_in}
 use Rattle.air_ir.specs.declared.op.AirOp.TheVariants as op
+use Rattle.air_ir.specs.declared.operand.Home.{Home}
 use Rattle.air_ir.specs.declared.operand.Home.TheVariants.{Reg}
 use Rattle.air_ir.specs.declared.operand.Arg.{Arg}
 use Rattle.air_ir.specs.declared.operand.Arg.TheVariants.{At, Imm}
@@ -69,25 +71,25 @@ reported = operand_in Use W64 0 ∷ constant ∷ []
 abbrev changed : List Operand
 changed = operand_in EarlyDef W64 0 ∷ []
 
-children : (k id : ℕ) (c : Constraint) (o : Operand) → slice_get (1 ∷ 2 ∷ []) (length (row_of opcode.Patchpoint).takes + k) ≡ Some id
-    → slice_get asked.constraints k ≡ Some c → slice_get reported k ≡ Some o → IsChild procedure patchpoint k id c o
+children : (Free : Home → Type 0) (k id : ℕ) (c : Constraint) (o : Operand) → slice_get (1 ∷ 2 ∷ []) (length (row_of opcode.Patchpoint).takes + k) ≡ Some id
+    → slice_get asked.constraints k ≡ Some c → slice_get reported k ≡ Some o → IsChild Free procedure patchpoint k id c o
 unfolding allocatable
-children zero id c o e f g =
+children Free zero id c o e f g =
     let i : 1 ≡ id = cc in
     let d : SomeRegisterWithClobber ≡ c = cc in
     let p : operand_in Use W64 0 ≡ o = cc in
-    subst (λ (n : ℕ). IsChild procedure patchpoint 0 n c o) i
-    (subst (λ (b : Constraint). IsChild procedure patchpoint 0 1 b o) d
-    (subst (λ (q : Operand). IsChild procedure patchpoint 0 1 SomeRegisterWithClobber q) p (record { role = refl; width = refl; stands = refl })))
-children (suc zero) id c o e f g =
+    subst (λ (n : ℕ). IsChild Free procedure patchpoint 0 n c o) i
+    (subst (λ (b : Constraint). IsChild Free procedure patchpoint 0 1 b o) d
+    (subst (λ (q : Operand). IsChild Free procedure patchpoint 0 1 SomeRegisterWithClobber q) p (record { role = refl; width = refl; stands = refl })))
+children Free (suc zero) id c o e f g =
     let i : 2 ≡ id = cc in
     let d : LateColdAny ≡ c = cc in
     let p : constant ≡ o = cc in
-    subst (λ (n : ℕ). IsChild procedure patchpoint 1 n c o) i
-    (subst (λ (b : Constraint). IsChild procedure patchpoint 1 2 b o) d
-    (subst (λ (q : Operand). IsChild procedure patchpoint 1 2 LateColdAny q) p
+    subst (λ (n : ℕ). IsChild Free procedure patchpoint 1 n c o) i
+    (subst (λ (b : Constraint). IsChild Free procedure patchpoint 1 2 b o) d
+    (subst (λ (q : Operand). IsChild Free procedure patchpoint 1 2 LateColdAny q) p
     (record { role = refl; width = refl; stands = (value_of 2 opcode.Const64 [] (Constant 5), refl, (inr refl, refl)) })))
-children (suc (suc k)) id c o e f g = absurd (cc)
+children Free (suc (suc k)) id c o e f g = absurd (cc)
 
 has_none : (r : ℕ) → has 0 r ≡ true → ⊥
 has_none r e = false≢true (rw (bit_at-zero r) at e)
@@ -120,22 +122,39 @@ not_clobbered : (r : ℕ) → Contains changed (operand_in Clobber W64 r) → �
 not_clobbered r (zero, less, e) = let roles : EarlyDef ≡ Clobber = ap (λ (o : Operand). o.role) e in absurd (cc)
 not_clobbered r (suc k, less, e) = omega (arith, less)
 
-patch_is_expressed : IsExpressed procedure patchpoint patch
+abbrev site : SiteOperands
+site = record { inputs = []; reported = reported; changed = changed; results = operand_in Def W64 1 ∷ [] }
+
+site_fits : SiteFits patch.op site
+unfolding AllFit
+site_fits = record {
+  width = W64;
+  fits = tt;
+  reports = All-from_recursion IsReported reported ((inl refl, tt), ((inr refl, (lit< tt, tt)), tt));
+  changes = All-from_recursion IsChanged changed ((0, inl refl), tt);
+  result = (1, inl (lit≤ tt), inr refl);
+}
+
+-- the same at any homes of children that may stand anywhere, since here none has one
+expressed_in : (Free : Home → Type 0) → IsExpressedIn Free procedure patchpoint patch
 unfolding allocatable
-patch_is_expressed = record {
+expressed_in Free = record {
   value = refl;
   stackmap = asked;
   carries = refl;
   op = (refl, refl, refl);
-  inputs = [];
-  reported = reported;
-  changed = changed;
-  results = operand_in Def W64 1 ∷ [];
+  site = site;
   parts = refl;
+  fits = site_fits;
   count = refl;
-  children = children;
+  children = children Free;
   early = λ r. (λ c. inr (clobbered r c), λ either. elim either [ inl e ↦ absurd (has_none r e) | inr c ↦ changed_there r c ]);
   late = λ r. (λ c. absurd (not_clobbered r c), λ e. absurd (has_none r e));
-  no_input = λ e. refl;
   result = λ e. refl;
 }
+
+patch_is_expressed : IsExpressed procedure patchpoint patch
+patch_is_expressed = expressed_in IsTemporary
+
+patch_is_placed : IsExpressedInPlaces procedure patchpoint patch
+patch_is_placed = expressed_in IsPlace

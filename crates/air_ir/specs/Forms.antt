@@ -1,5 +1,6 @@
 -- The operands that each op takes.
-use Rattle.std.specs.Prelude.{◌≡◌, ◌≢◌, ℕ, ℤ, pos, negsuc, ◌+◌, ◌-◌, ◌*◌, ◌%◌, ◌^◌, ◌<◌, ◌⊎◌, Bool, true, false, ◌&&◌, ◌||◌, nat_eq, nat_le, if◌then◌else◌, List, [], ◌∷◌, ◌++◌, map, Option, Some, None, All, AllPairs, length, ◌≤◌}
+use Rattle.std.specs.Prelude.{◌≡◌, ◌≢◌, ℕ, ℤ, pos, negsuc, ◌+◌, ◌-◌, ◌*◌, ◌%◌, ◌^◌, ◌<◌, ◌⊎◌, Bool, true, false, ◌&&◌, ◌||◌, nat_eq, nat_lt, nat_le, if◌then◌else◌, List, [], ◌∷◌, ◌++◌, map, drop, Option, Some, None, All, AllPairs, length, ◌≤◌}
+use Rattle.b3_base.specs.Arithmetic.{low}
 use Rattle.b3_base.specs.BitMask.{bit_mask}
 use Rattle.b3_base.specs.Word.{bits}
 use Rattle.b3_base.specs.declared.word.Width.{Width}
@@ -12,7 +13,8 @@ use Rattle.air_ir.specs.declared.op.AirOp.{AirOp}
 use Rattle.air_ir.specs.declared.op.AirOp.TheVariants as op
 use Rattle.air_ir.specs.declared.op.Test.{Test}
 use Rattle.air_ir.specs.declared.op.Test.TheVariants.{Compare, NonZero, Bit}
-use Rattle.air_ir.specs.declared.operand.Home.TheVariants.{Reg}
+use Rattle.air_ir.specs.declared.operand.Home.{Home}
+use Rattle.air_ir.specs.declared.operand.Home.TheVariants.{Reg, Spill}
 use Rattle.air_ir.specs.declared.operand.Arg.{Arg}
 use Rattle.air_ir.specs.declared.operand.Arg.TheVariants.{At, Imm, Addr, Index, FrameSlot}
 use Rattle.air_ir.specs.declared.operand.Role.{Role}
@@ -119,7 +121,7 @@ abbrev pub store : Width → ℕ → List Takes
 store width bytes = Word width OnlyZero ∷ Address width bytes ∷ []
 
 -- what the operands of an op stand for, at a width, and at another one for what a test selects; none where
--- their number isn't fixed
+-- it has a form of its own, below
 abbrev pub takes : AirOp → Width → Width → Option (List Takes)
 takes op.Move width other = Some (Word width AnyWord ∷ Result width ∷ [])
 takes op.Add width other = Some (two width OfSum)
@@ -157,7 +159,6 @@ takes (op.SetIf test) width other = Some (test_takes test width ++ Result W32 �
 takes (op.SelectIf test) width other = Some (test_takes test width ++ home other ∷ home other ∷ Result other ∷ [])
 takes (op.BranchIf test) width other = Some (test_takes test width)
 takes op.Jump width other = Some []
-takes (op.Switch cases) width other = Some (home width ∷ [])
 takes op.Oops width other = Some []
 takes op.SlotAddress width other = Some (Slot ∷ Result W64 ∷ [])
 takes op.FramePointer width other = Some (Result W64 ∷ [])
@@ -202,38 +203,73 @@ OneIs there Is _ = ⊥
 
 -- the operands at a site, in order: those that are computed with, those that are reported, the registers that
 -- are changed, and the result
-pub record AtSite (computed : Width → List Takes) (typed : Bool) (IsResult : Width → Operand → Type 0)
-    (os : List Operand) : Type 0 where
-  pub width : Width
+pub record SiteOperands : Type 0 where
   pub inputs : List Operand
   pub reported : List Operand
   pub changed : List Operand
   pub results : List Operand
-  pub parts : os ≡ inputs ++ reported ++ changed ++ results
-  pub fits : AllFit (computed width) inputs
-  pub reports : All IsReported reported
-  pub changes : All IsChanged changed
-  pub result : OneIs typed (IsResult width) results
+
+abbrev pub listed : SiteOperands → List Operand
+listed s = s.inputs ++ s.reported ++ s.changed ++ s.results
+
+-- the parts of a site that computes with this, and has a result where it is typed
+pub record AtSite (computed : Width → List Takes) (typed : Bool) (IsResult : Width → Operand → Type 0)
+    (s : SiteOperands) : Type 0 where
+  pub width : Width
+  pub fits : AllFit (computed width) s.inputs
+  pub reports : All IsReported s.reported
+  pub changes : All IsChanged s.changed
+  pub result : OneIs typed (IsResult width) s.results
+
+abbrev pub two_homes : Width → List Takes
+two_homes width = home width ∷ home width ∷ []
+
+-- the parts are those of a check or a patchpoint of this op, whose number of inputs and results it settles
+abbrev pub SiteFits : AirOp → SiteOperands → Type 0
+SiteFits (op.CheckIf test) s = AtSite (test_takes test) false (λ width o. ⊥) s
+SiteFits op.CheckAdd s = AtSite two_homes true (λ width. Fits (Result width)) s
+SiteFits op.CheckSub s = AtSite two_homes true (λ width. Fits (Result width)) s
+SiteFits op.CheckMul s = AtSite two_homes true (λ width. Fits (Result width)) s
+SiteFits (op.Patch size typed) s = AtSite (λ width. []) typed IsPlacedResult s
+SiteFits _ s = ⊥
+
+abbrev pub HasSite : AirOp → List Operand → Type 0
+HasSite op os = (s : SiteOperands) × (os ≡ listed s) × SiteFits op s
 
 -- the registers that a call doesn't keep: x0 to x18 and x30 (AAPCS64, 6.1.1)
 unfoldable pub call_clobbers : List ℕ
 call_clobbers =
     0 ∷ 1 ∷ 2 ∷ 3 ∷ 4 ∷ 5 ∷ 6 ∷ 7 ∷ 8 ∷ 9 ∷ 10 ∷ 11 ∷ 12 ∷ 13 ∷ 14 ∷ 15 ∷ 16 ∷ 17 ∷ 18 ∷ 30 ∷ []
 
--- words in registers from x r on, each of a width of its own
-abbrev pub arguments_from : ℕ → List Width → List Operand
-arguments_from r [] = []
-arguments_from r (width ∷ widths) = operand_in Use width r ∷ arguments_from (r + 1) widths
+-- the greatest number of arguments of a call
+abbrev pub most_arguments : ℕ
+most_arguments = 8
 
--- a call: the address of the function, the arguments in x0, x1 and so on, the registers that it doesn't keep,
--- and the result in x0
+-- argument i of a call stands in x i, and from the ninth on in spill place i - 8 (AAPCS64, 6.8.2)
+abbrev pub argument_home : ℕ → Home
+argument_home i = if nat_lt i 8 then Reg (record { 0 = i }) else Spill (i - 8)
+
+-- arguments from argument i on, each of a width of its own
+abbrev pub arguments_from : ℕ → List Width → List Operand
+arguments_from i [] = []
+arguments_from i (width ∷ widths) =
+    record { role = Use; width = width; arg = At (argument_home i) } ∷ arguments_from (i + 1) widths
+
+-- a call keeps no spill place in which an argument stands: one for each of these, from this number on
+abbrev pub spills_changed : ℕ → List Width → List Operand
+spills_changed number [] = []
+spills_changed number (width ∷ widths) =
+    record { role = Clobber; width = W64; arg = At (Spill number) } ∷ spills_changed (number + 1) widths
+
+-- a call: the address of the function, the arguments, the registers and then the spill places that it doesn't
+-- keep, and the result in x0
 pub record OfCall (typed : Bool) (os : List Operand) : Type 0 where
   pub callee : Operand
   pub widths : List Width
   pub width : Width
-  pub few : length widths ≤ 8
+  pub few : length widths ≤ most_arguments
   pub parts : os ≡ callee ∷ arguments_from 0 widths ++ map (operand_in Clobber W64) call_clobbers
-      ++ (if typed then operand_in Def width 0 ∷ [] else [])
+      ++ spills_changed 0 (drop 8 widths) ++ (if typed then operand_in Def width 0 ∷ [] else [])
   pub fits : Fits (home W64) callee
 
 -- a word is returned in x0
@@ -246,14 +282,20 @@ abbrev pub AreThese : Option (List Takes) → List Operand → Type 0
 AreThese (Some ts) os = AllFit ts os
 AreThese None os = ⊥
 
--- the operands are those that the op takes, in a procedure that returns this
+-- two cases of a Switch differ at the width of the word that is switched on
+abbrev pub DifferAt : Width → ℕ → ℕ → Type 0
+DifferAt width a b = low width a ≢ low width b
+
+-- the operands are those that the op takes, in a procedure that returns this; the cases of a Switch differ
 abbrev pub HasOperands : Returns → AirOp → List Operand → Type 0
 HasOperands r op.Shuffle os = ArePairs os × WritesApart os
-HasOperands r (op.CheckIf test) os = AtSite (test_takes test) false (λ width o. ⊥) os
-HasOperands r op.CheckAdd os = AtSite (λ width. home width ∷ home width ∷ []) true (λ width. Fits (Result width)) os
-HasOperands r op.CheckSub os = AtSite (λ width. home width ∷ home width ∷ []) true (λ width. Fits (Result width)) os
-HasOperands r op.CheckMul os = AtSite (λ width. home width ∷ home width ∷ []) true (λ width. Fits (Result width)) os
+HasOperands r (op.CheckIf test) os = HasSite (op.CheckIf test) os
+HasOperands r op.CheckAdd os = HasSite op.CheckAdd os
+HasOperands r op.CheckSub os = HasSite op.CheckSub os
+HasOperands r op.CheckMul os = HasSite op.CheckMul os
 HasOperands r (op.Call typed) os = OfCall typed os
-HasOperands r (op.Patch size typed) os = AtSite (λ width. []) typed IsPlacedResult os
+HasOperands r (op.Patch size typed) os = HasSite (op.Patch size typed) os
+HasOperands r (op.Switch cases) os =
+    (width : Width) × AllFit (home width ∷ []) os × AllPairs (DifferAt width) cases
 HasOperands r op.Return os = os ≡ returned r
 HasOperands r other os = (width : Width) × (selected : Width) × AreThese (takes other width selected) os

@@ -14,7 +14,7 @@ use Rattle.air_ir.specs.declared.procedure.AirBlock.{AirBlock}
 use Rattle.air_ir.specs.declared.procedure.AirInst.{AirInst}
 use Rattle.air_ir.specs.declared.procedure.AirProc.{AirProc}
 
--- a home that an operand of this role may name: a temporary of the procedure, a spill place, and of the
+-- a home that an operand of this role may name: a temporary of the procedure, any spill place, and of the
 -- registers those that values may stand in; a register that is changed may be any but x29, the frame pointer
 abbrev pub MayName : AirProc → Role → Home → Type 0
 MayName p role (Tmp number) = number < p.tmps
@@ -50,6 +50,24 @@ pub record IsGoodBlock (p : AirProc) (b : AirBlock) : Type 0 where
 pub record IsWellFormed (p : AirProc) : Type 0 where
   pub entry : 0 < length p.blocks
   pub blocks : All (IsGoodBlock p) p.blocks
+
+-- ---- spill places
+
+-- a home that isn't a spill place of this number or a greater one
+abbrev pub IsSpillBelow : ℕ → Home → Type 0
+IsSpillBelow n (Spill number) = number < n
+IsSpillBelow n _ = Unit {0}
+
+abbrev pub SpillsBelow : ℕ → Arg → Type 0
+SpillsBelow n (At home) = IsSpillBelow n home
+SpillsBelow n (Addr base offset) = IsSpillBelow n base
+SpillsBelow n (Index base index shift) = IsSpillBelow n base × IsSpillBelow n index
+SpillsBelow n _ = Unit {0}
+
+-- each spill place that an operand names, also in an address, is below this number
+abbrev pub NamesSpillsBelow : ℕ → AirProc → Type 0
+NamesSpillsBelow n p =
+    All (λ (b : AirBlock). All (λ (i : AirInst). All (λ (o : Operand). SpillsBelow n o.arg) i.operands) b.insts) p.blocks
 
 -- ---- sites
 
