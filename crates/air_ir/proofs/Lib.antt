@@ -7,6 +7,8 @@ pub mod Copying
 pub mod CopySteps
 pub mod Junk
 pub mod Meanings
+pub mod SameRuns
+pub mod Pairs
 mod Examples
 mod FormExamples
 mod ExpressedExample
