@@ -21,7 +21,7 @@ use Rattle.air_ir.specs.Run.{air_run}
 use Rattle.air_ir.specs.Steps.{junk_words, step, steps}
 use Rattle.air_ir.specs.declared.op.AirOp.{AirOp}
 use Rattle.air_ir.specs.declared.op.AirOp.TheVariants as op
-use Rattle.air_ir.specs.declared.op.Test.TheVariants.{Compare, NonZero}
+use Rattle.air_ir.specs.declared.op.Test.TheVariants.{Compare, NonZero, Bit}
 use Rattle.air_ir.specs.declared.operand.Home.{Home}
 use Rattle.air_ir.specs.declared.operand.Home.TheVariants.{Tmp, Reg}
 use Rattle.air_ir.specs.declared.operand.Arg.{Arg}
@@ -105,7 +105,7 @@ loop_returns = refl
 
 -- ---- a call: a temporary keeps its word, and a register that isn't kept has the word of junk at its place
 
-abbrev call : AirInst
+abbrev pub call : AirInst
 call = inst (op.Call true) (use_at W64 (At (Tmp 1)) ∷ operand_in Use W32 0 ∷ map (operand_in Clobber W64) call_clobbers ++ operand_in Def W64 0 ∷ [])
 
 -- calls x1 with x0, and returns the result plus what stands in a home
@@ -218,6 +218,58 @@ is_less = refl
 is_above : status_of (comparing (op.SetIf (Compare Hi))) 0 0 [] [] 1 ≡ Returned (Some 0)
 unfolding iterate run_step block_step steps step words word_of read put put_all targets junk_words meaning flags_of_sum
 is_above = refl
+
+-- ---- bit 3 of x0, or bit 31 of its low half
+
+abbrev comparing_bit : ℕ → AirProc
+comparing_bit k = procedure (block (inst (op.SetIf (Bit k)) (operand_in Use W64 0 ∷ def_at W32 (x 0) ∷ []) ∷ return_x0 W32 ∷ []) [] ∷ [])
+
+abbrev returning_x0 : AirInst → AirProc
+returning_x0 i = procedure (block (i ∷ return_x0 W64 ∷ []) [] ∷ [])
+
+bit_is_set : status_of (comparing_bit 3) 12 0 [] [] 1 ≡ Returned (Some 1)
+unfolding iterate run_step block_step steps step words word_of read put put_all targets junk_words meaning
+bit_is_set = refl
+
+bit_is_clear : status_of (comparing_bit 3) 0xF7 0 [] [] 1 ≡ Returned (Some 0)
+unfolding iterate run_step block_step steps step words word_of read put put_all targets junk_words meaning
+bit_is_clear = refl
+
+abbrev selecting : AirProc
+selecting = returning_x0 (
+    inst (op.SelectIf (Bit 3)) (operand_in Use W64 0 ∷ operand_in Use W64 0 ∷ operand_in Use W64 1 ∷ operand_in Def W64 0 ∷ []))
+
+bit_selects : status_of selecting 12 5 [] [] 1 ≡ Returned (Some 12)
+unfolding iterate run_step block_step steps step words word_of read put put_all targets junk_words meaning
+bit_selects = refl
+
+other_is_selected : status_of selecting 0xF7 5 [] [] 1 ≡ Returned (Some 5)
+unfolding iterate run_step block_step steps step words word_of read put put_all targets junk_words meaning
+other_is_selected = refl
+
+abbrev leaving : AirProc
+leaving = returning_x0 (inst (op.CheckIf (Bit 31)) (operand_in Use W32 0 ∷ operand_in Use W64 1 ∷ []))
+
+bit_exits : status_of leaving (2 ^ 31) 5 [] [] 1 ≡ Exited 9 (5 ∷ [])
+unfolding iterate run_step block_step steps step words word_of read put put_all targets junk_words meaning
+bit_exits = refl
+
+bit_passes : status_of leaving (2 ^ 31 - 1) 5 [] [] 1 ≡ Returned (Some (2 ^ 31 - 1))
+unfolding iterate run_step block_step steps step words word_of read put put_all targets junk_words meaning
+bit_passes = refl
+
+-- ---- high words: -1 by 2 is -2 as signed words, and 2 ^ 65 - 2 as unsigned ones
+
+abbrev multiplying : AirOp → AirProc
+multiplying op = returning_x0 (inst op (operand_in Use W64 0 ∷ operand_in Use W64 1 ∷ operand_in Def W64 0 ∷ []))
+
+high_is_signed : status_of (multiplying op.MulHigh) (2 ^ 64 - 1) 2 [] [] 1 ≡ Returned (Some (2 ^ 64 - 1))
+unfolding iterate run_step block_step steps step words word_of read put put_all targets junk_words meaning
+high_is_signed = refl
+
+high_is_unsigned : status_of (multiplying op.UMulHigh) (2 ^ 64 - 1) 2 [] [] 1 ≡ Returned (Some 1)
+unfolding iterate run_step block_step steps step words word_of read put put_all targets junk_words meaning
+high_is_unsigned = refl
 
 -- ---- a load from x0 plus 8
 

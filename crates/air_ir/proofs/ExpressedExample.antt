@@ -1,4 +1,4 @@
--- No public clause cites this module. An instruction that is expressed for a patchpoint.
+-- No public clause cites this module. Instructions that are expressed for a patchpoint and for a check.
 use Rattle.std.proofs.Common.{◌≡◌, ◌+◌, ℕ, zero, suc, inl, inr, true, false, List, [], ◌∷◌, length, Option, Some, None, refl, ap, subst, arith, lit<, lit≤, slice_get, codes, Contains}
 use Rattle.std.proofs.lemmas.Bool.{false≢true}
 use Rattle.std.proofs.lemmas.List.Elements.{All-from_recursion}
@@ -19,9 +19,11 @@ use Rattle.b3_ir.specs.declared.value.Value.{Value}
 use Rattle.stackmap.specs.Registers.{allocatable, has}
 use Rattle.air_ir.specs.Expressed.{ClobbersIt, IsChild, IsExpressed, IsExpressedIn, IsExpressedInPlaces, IsPlace, IsTemporary}
 use Rattle.air_ir.specs.Forms.{AllFit, IsChanged, IsReported, SiteFits, SiteOperands, operand_in}
+use Rattle.air_ir.specs.declared.op.AirOp.{AirOp}
 use Rattle.air_ir.specs.declared.op.AirOp.TheVariants as op
+use Rattle.air_ir.specs.declared.op.Test.TheVariants.{NonZero}
 use Rattle.air_ir.specs.declared.operand.Home.{Home}
-use Rattle.air_ir.specs.declared.operand.Home.TheVariants.{Reg}
+use Rattle.air_ir.specs.declared.operand.Home.TheVariants.{Tmp, Reg, Spill}
 use Rattle.air_ir.specs.declared.operand.Arg.{Arg}
 use Rattle.air_ir.specs.declared.operand.Arg.TheVariants.{At, Imm}
 use Rattle.air_ir.specs.declared.operand.Role.TheVariants.{Use, LateUse, EarlyDef, Def, Clobber}
@@ -158,3 +160,83 @@ patch_is_expressed = expressed_in IsTemporary
 
 patch_is_placed : IsExpressedInPlaces procedure patchpoint patch
 patch_is_placed = expressed_in IsPlace
+
+-- ---- a check of the second value, a constant, that reports it, and then the first one, wherever that stands
+
+abbrev exit_asked : Stackmap
+exit_asked = record { constraints = LateColdAny ∷ LateColdAny ∷ []; result = SomeRegister; early = 0; late = 0; size = 1 }
+
+abbrev check : Value
+check = value_of 4 opcode.Check (2 ∷ 2 ∷ 1 ∷ []) (Map exit_asked)
+
+abbrev test : AirOp
+test = op.CheckIf NonZero
+
+abbrev tested : Operand
+tested = record { role = Use; width = W64; arg = At (Tmp 2) }
+
+abbrev late_at : Home → Operand
+late_at h = record { role = LateUse; width = W64; arg = At h }
+
+abbrev check_at : Home → AirInst
+check_at h = record { op = test; operands = tested ∷ constant ∷ late_at h ∷ []; value = 4; traps = false }
+
+module _ (Free : Home → Type 0) (h : Home) (free : Free h) where
+  check_children : (k id : ℕ) (c : Constraint) (o : Operand)
+      → slice_get (2 ∷ 2 ∷ 1 ∷ []) (length (row_of opcode.Check).takes + k) ≡ Some id → slice_get exit_asked.constraints k ≡ Some c → slice_get (constant ∷ late_at h ∷ []) k ≡ Some o → IsChild Free procedure check k id c o
+  check_children zero id c o e f g =
+      let i : 2 ≡ id = cc in
+      let d : LateColdAny ≡ c = cc in
+      let p : constant ≡ o = cc in
+      subst (λ (n : ℕ). IsChild Free procedure check 0 n c o) i
+      (subst (λ (b : Constraint). IsChild Free procedure check 0 2 b o) d
+      (subst (λ (q : Operand). IsChild Free procedure check 0 2 LateColdAny q) p
+      (record { role = refl; width = refl; stands = (value_of 2 opcode.Const64 [] (Constant 5), refl, (inr refl, refl)) })))
+  check_children (suc zero) id c o e f g =
+      let i : 1 ≡ id = cc in
+      let d : LateColdAny ≡ c = cc in
+      let p : late_at h ≡ o = cc in
+      subst (λ (n : ℕ). IsChild Free procedure check 1 n c o) i
+      (subst (λ (b : Constraint). IsChild Free procedure check 1 1 b o) d
+      (subst (λ (q : Operand). IsChild Free procedure check 1 1 LateColdAny q) p (record { role = refl; width = refl; stands = free })))
+  check_children (suc (suc k)) id c o e f g = absurd (cc)
+
+  none_changed : (o : Operand) → Contains [] o → ⊥
+  none_changed o (k, less, e) = omega (arith, less)
+
+  none_clobbers : (r : ℕ) → ClobbersIt exit_asked check r → ⊥
+  none_clobbers r (zero, e, f) = absurd (cc)
+  none_clobbers r (suc zero, e, f) = absurd (cc)
+  none_clobbers r (suc (suc k), e, f) = absurd (cc)
+
+  check_is_expressed : IsExpressedIn Free procedure check (check_at h)
+  unfolding AllFit
+  check_is_expressed = record {
+    value = refl;
+    stackmap = exit_asked;
+    carries = refl;
+    op = refl;
+    site = record { inputs = tested ∷ []; reported = constant ∷ late_at h ∷ []; changed = []; results = [] };
+    parts = refl;
+    fits = record {
+      width = W64;
+      fits = ((refl, refl, tt), tt);
+      reports = All-from_recursion IsReported (constant ∷ late_at h ∷ []) ((inr refl, (lit< tt, tt)), ((inr refl, tt), tt));
+      changes = All-from_recursion IsChanged [] tt;
+      result = tt;
+    };
+    count = refl;
+    children = check_children;
+    early = λ r. (
+      λ c. absurd (none_changed (operand_in EarlyDef W64 r) c),
+      λ either. elim either [ inl e ↦ absurd (has_none r e) | inr c ↦ absurd (none_clobbers r c) ],
+    );
+    late = λ r. (λ c. absurd (none_changed (operand_in Clobber W64 r) c), λ e. absurd (has_none r e));
+    result = λ e. absurd (cc);
+  }
+
+check_is_selected : IsExpressed procedure check (check_at (Tmp 7))
+check_is_selected = check_is_expressed IsTemporary (Tmp 7) tt
+
+check_is_spilled : IsExpressedInPlaces procedure check (check_at (Spill 7))
+check_is_spilled = check_is_expressed IsPlace (Spill 7) tt

@@ -12,3 +12,4 @@ pub mod Pairs
 mod Examples
 mod FormExamples
 mod ExpressedExample
+mod SiteExamples

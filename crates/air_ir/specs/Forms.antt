@@ -51,7 +51,7 @@ is_offset bytes (negsuc n) = nat_le n 255
 
 -- ---- operands
 
--- what stands at the place of an operand: a word of a width that is read, from a home or an immediate; a
+-- what stands at the place of an operand: a word of a width that is read, from any home or an immediate; a
 -- word of which a bit is tested; the address of an access of a width and so many bytes; a stack slot; or a
 -- home that is written with a word of a width
 pub data Takes : Type 0 where
@@ -283,8 +283,8 @@ AreThese (Some ts) os = AllFit ts os
 AreThese None os = ⊥
 
 -- two cases of a Switch differ at the width of the word that is switched on
-abbrev pub DifferAt : Width → ℕ → ℕ → Type 0
-DifferAt width a b = low width a ≢ low width b
+abbrev pub DifferIn : Width → ℕ → ℕ → Type 0
+DifferIn width a b = low width a ≢ low width b
 
 -- the operands are those that the op takes, in a procedure that returns this; the cases of a Switch differ
 abbrev pub HasOperands : Returns → AirOp → List Operand → Type 0
@@ -296,6 +296,6 @@ HasOperands r op.CheckMul os = HasSite op.CheckMul os
 HasOperands r (op.Call typed) os = OfCall typed os
 HasOperands r (op.Patch size typed) os = HasSite (op.Patch size typed) os
 HasOperands r (op.Switch cases) os =
-    (width : Width) × AllFit (home width ∷ []) os × AllPairs (DifferAt width) cases
+    (width : Width) × AllFit (home width ∷ []) os × AllPairs (DifferIn width) cases
 HasOperands r op.Return os = os ≡ returned r
 HasOperands r other os = (width : Width) × (selected : Width) × AreThese (takes other width selected) os

@@ -67,7 +67,8 @@ SpillsBelow n _ = Unit {0}
 -- each spill place that an operand names, also in an address, is below this number
 abbrev pub NamesSpillsBelow : ℕ → AirProc → Type 0
 NamesSpillsBelow n p =
-    All (λ (b : AirBlock). All (λ (i : AirInst). All (λ (o : Operand). SpillsBelow n o.arg) i.operands) b.insts) p.blocks
+    All (λ (b : AirBlock). All (λ (i : AirInst). All (λ (o : Operand). SpillsBelow n o.arg) i.operands) b.insts)
+    p.blocks
 
 -- ---- sites
 

@@ -6,14 +6,14 @@ ghost use Rattle.air_ir.specs.Operands.{is_read};
 use b3_base::{Seq, Width};
 use b3_ir::Reg;
 
-/// Where a word may stand.
+/// Where a word may stand. Each of the three may be an operand, also in an address.
 #[derive(Clone, Copy, Debug, PartialEq, Eq)]
 pub enum Home {
     /// A temporary, by its number.
     Tmp(u32),
     /// A general register.
     Reg(Reg),
-    /// A spill place in the frame, by its number.
+    /// A spill place in the frame, by its number. It is no temporary: assignments don't speak of it.
     Spill(u32),
 }
 
