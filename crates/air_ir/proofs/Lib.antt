@@ -9,6 +9,7 @@ pub mod Junk
 pub mod Meanings
 pub mod SameRuns
 pub mod Pairs
+pub mod Conditions
 mod Examples
 mod FormExamples
 mod ExpressedExample

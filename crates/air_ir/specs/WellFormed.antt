@@ -62,4 +62,5 @@ pub record StandsAt (p : AirProc) (block place : ℕ) (i : AirInst) : Type 0 whe
 -- at most one instruction makes a site for a value
 abbrev pub HasOneSiteEach : AirProc → Type 0
 HasOneSiteEach p = (b c k l : ℕ) (i j : AirInst) → StandsAt p b k i → StandsAt p c l j
-    → makes_site (kind_of i.op) i.traps ≡ true → makes_site (kind_of j.op) j.traps ≡ true → i.value ≡ j.value → (b ≡ c) × (k ≡ l)
+    → makes_site (kind_of i.op) i.traps ≡ true → makes_site (kind_of j.op) j.traps ≡ true → i.value ≡ j.value
+    → (b ≡ c) × (k ≡ l)
