@@ -12,4 +12,5 @@ pub mod Pairs
 pub mod Conditions
 mod Examples
 mod FormExamples
+mod TableExamples
 mod ExpressedExample
