@@ -1,7 +1,8 @@
 -- Equality of homes, what a write leaves, and which homes hold more than others.
-use Rattle.std.proofs.Common.{◌≡◌, ◌≢◌, ℕ, ◌⊎◌, inl, inr, true, false, Option, Some, None, refl, sym, ap, ◌∙◌, arith}
+use Rattle.std.proofs.Common.{◌≡◌, ◌≢◌, ℕ, ◌^◌, ◌<◌, ◌⊎◌, inl, inr, true, false, Option, Some, None, refl, sym, ap, ◌∙◌, subst, arith}
 use Rattle.std.proofs.lemmas.Bool.{cases_Bool, eqb-true, eq-eqb, false≢true, false_from_ne_true}
 use Rattle.b3_base.specs.Arithmetic.{low}
+use Rattle.b3_base.specs.Word.{bits}
 use Rattle.b3_base.specs.declared.word.Width.{Width}
 use Rattle.b3_base.specs.declared.word.Width.TheVariants.{W32, W64}
 use Rattle.air_ir.specs.Operands.{Held, Empty, Holds, Homes, put, read, same_home}
@@ -64,6 +65,24 @@ Refines-through a b c r q = λ width. join (read width a) (read width b) (read w
     join None y z g h = tt
     join (Some v) None z g h = absurd (cc)
     join (Some v) (Some u) z g h = h ∙ g
+
+-- ---- words that are read
+
+low_small : (width : Width) (x : ℕ) → low width x < 2 ^ bits width
+low_small W32 x = omega arith
+low_small W64 x = omega arith
+
+some_small : (width : Width) (x y : ℕ) → Some (low width y) ≡ Some x → x < 2 ^ bits width
+some_small width x y e = let same : low width y ≡ x = cc in subst (λ (k : ℕ). k < 2 ^ bits width) same (low_small width y)
+
+-- a word that is read from a home is a word of its width
+pub read-small : (width : Width) (h : Held) (x : ℕ) → read width h ≡ Some x → x < 2 ^ bits width
+unfolding read
+read-small W32 Empty x e = absurd (cc)
+read-small W64 Empty x e = absurd (cc)
+read-small W32 (Holds held y) x e = some_small W32 x y e
+read-small W64 (Holds W32 y) x e = absurd (cc)
+read-small W64 (Holds W64 y) x e = some_small W64 x y e
 
 -- ---- copies of what is read
 

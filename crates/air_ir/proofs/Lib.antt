@@ -9,7 +9,9 @@ pub mod Junk
 pub mod Meanings
 pub mod SameRuns
 pub mod Pairs
+pub mod Conditions
 mod Examples
 mod FormExamples
+mod TableExamples
 mod ExpressedExample
 mod SiteExamples
