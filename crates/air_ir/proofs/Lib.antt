@@ -10,6 +10,7 @@ pub mod Meanings
 pub mod SameRuns
 pub mod Pairs
 pub mod Conditions
+pub mod Weights
 mod Examples
 mod FormExamples
 mod TableExamples
