@@ -7,6 +7,7 @@ pub mod Copying
 pub mod CopySteps
 pub mod Junk
 pub mod Meanings
+pub mod Leaving
 pub mod SameRuns
 pub mod Pairs
 pub mod Conditions
