@@ -1,5 +1,5 @@
 -- The weight of a procedure: a bound on the words of its code, and on how much there is of it.
-use Rattle.std.specs.Prelude.{ℕ, ◌+◌, ◌*◌, max, List, length, sum_by}
+use Rattle.std.specs.Prelude.{ℕ, ◌+◌, ◌*◌, Bool, true, false, if◌then◌else◌, max, List, length, sum_by}
 use Rattle.air_ir.specs.declared.op.AirOp.{AirOp}
 use Rattle.air_ir.specs.declared.op.AirOp.TheVariants as op
 use Rattle.air_ir.specs.declared.operand.Home.{Home}
@@ -41,10 +41,13 @@ op_words op.Return = 24
 op_words op.SlotAddress = 2
 op_words _ = 1
 
+abbrev pub is_shuffle : AirOp → Bool
+is_shuffle op.Shuffle = true
+is_shuffle _ = false
+
 -- the words of an instruction. Each pair of a Shuffle is at most two moves of six words
 abbrev pub words_by : AirOp → List Operand → ℕ
-words_by op.Shuffle os = 6 * length os
-words_by other os = op_words other + sum_by (λ (o : Operand). arg_words o.arg) os
+words_by op os = if is_shuffle op then 6 * length os else op_words op + sum_by (λ (o : Operand). arg_words o.arg) os
 
 -- the greater of its words and the number of it and its operands
 abbrev pub inst_weight : AirInst → ℕ
