@@ -1,0 +1,10 @@
+use Rattle.std.proofs.Common.{◌≡◌, ◌<◌, ℕ, take}
+use Rattle.std.specs.List.{list_any}
+use Rattle.stackmap.specs.Registers.{has}
+use Rattle.air_frame.specs.Needs.{block_writes, block_spills, greatest}
+use Rattle.air_frame.proofs.needs.proc_needs.Given as goal
+
+abbrev pub invariant-loop-block : goal.invariant-loop-block
+invariant-loop-block l =
+    ((r : ℕ) → r < 32 → has l.needs.changed r ≡ list_any (block_writes r) (take l.block-index l.block-items))
+    × (l.needs.spills ≡ greatest block_spills (take l.block-index l.block-items))

@@ -1,0 +1,4 @@
+pub mod Needs
+pub mod Frames
+pub mod Placing
+pub mod Targets

@@ -1,0 +1,1 @@
+//! That the call returns with ample memory.
