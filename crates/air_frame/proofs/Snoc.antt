@@ -1,9 +1,9 @@
 -- Places laid out one more at the end.
-use Rattle.std.proofs.Common.{◌≡◌, ℕ, zero, suc, ◌+◌, ◌*◌, List, [], ◌∷◌, ◌++◌, length, refl, sym, ap, arith, add-one}
+use Rattle.std.proofs.Common.{◌≡◌, ℕ, suc, ◌+◌, ◌*◌, List, [], ◌∷◌, ◌++◌, length, refl, ap, arith, Bool}
 use Rattle.std.proofs.lemmas.List.Sums.{sum_by-cons}
 use Rattle.stackmap.specs.declared.site.SavedRow.{SavedRow}
 use Rattle.air_frame.specs.Frames.{rounded, slot_bytes}
-use Rattle.air_frame.specs.Placing.{saved_rows, slot_offsets, word_offsets}
+use Rattle.air_frame.specs.Placing.{flag_bytes, saved_rows, slot_offsets, spill_offsets, word_bytes}
 
 abbrev row : ℕ → ℕ → SavedRow
 row r offset = record { reg = record { 0 = r }; offset = offset }
@@ -23,9 +23,8 @@ slots_push low [] size offset e = ap (λ o. o ∷ []) (omega (arith, e))
 slots_push low (x ∷ sizes) size offset e =
     ap (λ os. (low + rounded x) ∷ os) (slots_push (low + rounded x) sizes size offset (omega (arith, e, sum_by-cons rounded x sizes)))
 
-pub words_push : (low n offset : ℕ) → offset ≡ low + 8 * (n + 1)
-    → word_offsets low (n + 1) ≡ word_offsets low n ++ offset ∷ []
-unfolding word_offsets
-words_push low n offset e =
-    let last : low + 8 * suc n ≡ offset = omega (arith, e) in
-    rw add-one (ap (λ o. word_offsets low n ++ o ∷ []) last)
+pub spills_push : (low : ℕ) (flags : List Bool) (flag : Bool) (offset : ℕ) → offset ≡ low + word_bytes flags + flag_bytes flag
+    → spill_offsets low (flags ++ flag ∷ []) ≡ spill_offsets low flags ++ offset ∷ []
+spills_push low [] flag offset e = ap (λ o. o ∷ []) (omega (arith, e))
+spills_push low (x ∷ flags) flag offset e =
+    ap (λ os. (low + flag_bytes x) ∷ os) (spills_push (low + flag_bytes x) flags flag offset (omega (arith, e, sum_by-cons flag_bytes x flags)))

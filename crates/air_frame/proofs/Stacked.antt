@@ -1,7 +1,7 @@
 -- Spans that stand one after the other, from x29 down, are disjoint.
-use Rattle.std.proofs.Common.{◌≡◌, ℕ, zero, suc, ◌+◌, ◌<◌, ◌≤◌, ◌⊎◌, inl, inr, List, [], ◌∷◌, ◌++◌, length, arith}
+use Rattle.std.proofs.Common.{ℕ, zero, suc, ◌+◌, ◌≤◌, inl, inr, List, [], ◌∷◌, ◌++◌, arith}
 use Rattle.std.specs.Prelude.{All, AllPairs}
-use Rattle.std.proofs.lemmas.List.Elements.{All-append, All-cons, All-head, All-nil, All-tail}
+use Rattle.std.proofs.lemmas.List.Elements.{All-append, All-cons, All-nil}
 use Rattle.std.proofs.lemmas.List.Kept.{AllPairs-cons}
 use Rattle.exit_table.specs.Good.{Span, AreDisjoint}
 
@@ -46,7 +46,7 @@ pairs_append R (x ∷ xs) ys h k across =
     AllPairs-cons R x (xs ++ ys)
     (All-append (R x) xs ys (λ j d lt. h zero (suc j) d (omega arith) (omega arith)) (λ j d lt. across zero x (omega arith) j d lt))
     (pairs_append R xs ys (λ i j d lt within. h (suc i) (suc j) d (omega arith) (omega arith)) k
-        (λ j d lt. across (suc j) d (omega arith)))
+    (λ j d lt. across (suc j) d (omega arith)))
 
 -- those below an offset and those above it, in either order
 pub parts_disjoint : (low mid high : ℕ) (lows highs : List Span) → AreBetween low lows mid → AreBetween mid highs high
@@ -54,6 +54,6 @@ pub parts_disjoint : (low mid high : ℕ) (lows highs : List Span) → AreBetwee
 parts_disjoint low mid high lows highs h k =
     pairs_append AreDisjoint highs lows (stacked_pairs mid high highs k) (stacked_pairs low mid lows h)
     (λ i d lt j e within.
-        let above = each_within mid mid high highs (omega arith) k i d lt in
-        let below = each_within low low mid lows (omega arith) h j e within in
-        inl (omega (arith, above.0, below.1)))
+    let above = each_within mid mid high highs (omega arith) k i d lt in
+    let below = each_within low low mid lows (omega arith) h j e within in
+    inl (omega (arith, above.0, below.1)))

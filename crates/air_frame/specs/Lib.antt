@@ -2,3 +2,4 @@ pub mod Needs
 pub mod Frames
 pub mod Placing
 pub mod Targets
+pub mod Marks

@@ -1,11 +1,11 @@
--- What a procedure needs of its frame: the registers that it has to save, and its spill places.
-use Rattle.std.specs.Prelude.{ℕ, suc, max, Bool, true, false, nat_eq, List, [], ◌∷◌, fold}
-use Rattle.std.specs.List.{list_any}
+-- What a procedure needs of its frame: the registers that it writes, and the spill places that it names.
+use Rattle.std.specs.Prelude.{ℕ, suc, max, Bool, false, ◌||◌, nat_eq, List, [], ◌∷◌, fold}
+use Rattle.std.specs.List.{count_by, list_any, range_with_len}
 use Rattle.air_ir.specs.Operands.{Target, targets}
 use Rattle.air_ir.specs.declared.operand.Home.{Home}
-use Rattle.air_ir.specs.declared.operand.Home.TheVariants.{Tmp, Reg, Spill}
+use Rattle.air_ir.specs.declared.operand.Home.TheVariants.{Reg, Spill}
 use Rattle.air_ir.specs.declared.operand.Arg.{Arg}
-use Rattle.air_ir.specs.declared.operand.Arg.TheVariants.{At, Imm, Addr, Index, FrameSlot}
+use Rattle.air_ir.specs.declared.operand.Arg.TheVariants.{At, Addr, Index}
 use Rattle.air_ir.specs.declared.operand.Operand.{Operand}
 use Rattle.air_ir.specs.declared.procedure.AirBlock.{AirBlock}
 use Rattle.air_ir.specs.declared.procedure.AirInst.{AirInst}
@@ -57,7 +57,32 @@ inst_spills i = greatest (λ (o : Operand). arg_spills o.arg) i.operands
 abbrev pub block_spills : AirBlock → ℕ
 block_spills b = greatest inst_spills b.insts
 
--- the number of the spill places of a procedure: one more than the greatest that it names, 0 where it names
--- none
+-- one more than the greatest number of a spill place that a procedure names, 0 where it names none
 abbrev pub spill_count : AirProc → ℕ
 spill_count p = greatest block_spills p.blocks
+
+-- whether a home is this spill place
+abbrev pub is_spill : ℕ → Home → Bool
+is_spill n (Spill number) = nat_eq number n
+is_spill n _ = false
+
+-- whether an argument names a spill place
+abbrev pub arg_names : ℕ → Arg → Bool
+arg_names n (At home) = is_spill n home
+arg_names n (Addr base offset) = is_spill n base
+arg_names n (Index base index shift) = is_spill n base || is_spill n index
+arg_names n _ = false
+
+abbrev pub inst_names : ℕ → AirInst → Bool
+inst_names n i = list_any (λ (o : Operand). arg_names n o.arg) i.operands
+
+abbrev pub block_names : ℕ → AirBlock → Bool
+block_names n b = list_any (inst_names n) b.insts
+
+-- whether an instruction of a procedure does
+abbrev pub names : AirProc → ℕ → Bool
+names p n = list_any (block_names n) p.blocks
+
+-- how many spill places a procedure names
+abbrev pub named_count : AirProc → ℕ
+named_count p = count_by (names p) (range_with_len 0 (spill_count p))

@@ -1,6 +1,6 @@
 -- No public clause cites this module.
 -- How places are laid out, from x29 down.
-use Rattle.std.specs.Prelude.{ℕ, zero, suc, ◌+◌, ◌*◌, List, [], ◌∷◌, ◌++◌}
+use Rattle.std.specs.Prelude.{ℕ, ◌+◌, Bool, true, false, List, [], ◌∷◌, sum_by}
 use Rattle.stackmap.specs.declared.site.SavedRow.{SavedRow}
 use Rattle.air_frame.specs.Frames.{rounded}
 
@@ -9,10 +9,18 @@ abbrev pub saved_rows : ℕ → List ℕ → List SavedRow
 saved_rows low [] = []
 saved_rows low (r ∷ rs) = record { reg = record { 0 = r }; offset = low + 8 } ∷ saved_rows (low + 8) rs
 
--- so many words below an offset
-unfoldable pub word_offsets : ℕ → ℕ → List ℕ
-word_offsets low zero = []
-word_offsets low (suc n) = word_offsets low n ++ (low + 8 * suc n) ∷ []
+-- the bytes that a flag asks for, and those that flags do
+abbrev pub flag_bytes : Bool → ℕ
+flag_bytes true = 8
+flag_bytes false = 0
+
+abbrev pub word_bytes : List Bool → ℕ
+word_bytes flags = sum_by flag_bytes flags
+
+-- a word for each flag that is set below an offset; where it isn't, the end of those before
+abbrev pub spill_offsets : ℕ → List Bool → List ℕ
+spill_offsets low [] = []
+spill_offsets low (flag ∷ flags) = (low + flag_bytes flag) ∷ spill_offsets (low + flag_bytes flag) flags
 
 -- slots of these sizes below an offset, each in whole parts of 16 bytes
 abbrev pub slot_offsets : ℕ → List ℕ → List ℕ

@@ -1,6 +1,6 @@
 -- No public clause cites this module.
 -- The registers that operands write, one operand after the other.
-use Rattle.std.specs.Prelude.{ℕ, Bool, true, false}
+use Rattle.std.specs.Prelude.{ℕ, Bool, false}
 use Rattle.air_ir.specs.Operands.{is_read}
 use Rattle.air_ir.specs.declared.operand.Arg.{Arg}
 use Rattle.air_ir.specs.declared.operand.Arg.TheVariants.{At}

@@ -3,8 +3,9 @@
 #![tactic(auto)]
 
 mod frame;
-mod needs;
 mod placing;
+mod registers;
+mod spills;
 #[cfg(test)]
 mod tests;
 

@@ -4,7 +4,7 @@ ghost use Rattle.std.specs.Prelude.{◌≡◌, ◌+◌, ◌*◌, ◌^◌, ◌<�
 ghost use Rattle.std.specs.List.{filter};
 ghost use Rattle.stackmap.specs.Registers.{has};
 ghost use Rattle.air_frame.specs.Frames.{rounded, slot_bytes};
-ghost use Rattle.air_frame.specs.Placing.{saved_rows, slot_offsets, word_offsets};
+ghost use Rattle.air_frame.specs.Placing.{flag_bytes, saved_rows, slot_offsets, spill_offsets, word_bytes};
 
 use b3_base::{Ids, NoMemory};
 use b3_ir::Reg;
@@ -51,14 +51,35 @@ pub(crate) fn place_saved(alloc: Global, set: u32, registers: &[u8]) -> Result<S
     Ok(saved)
 }
 
-/// So many words below an offset.
-pub(crate) fn place_spills(alloc: Global, low: u32, count: u32) -> Result<Ids, NoMemory>
-    requires { low + 8 * count < 2 ^ 32 }
-    ensures { IfOk result (λ spills. spills ≡ word_offsets low count) }
+/// The bytes of the words that flags ask for.
+pub(crate) fn word_bytes(named: &[bool]) -> u32
+    requires { 8 * length named.now < 2 ^ 32 }
+    ensures bytes { result ≡ word_bytes named.now }
+    ensures most { result ≤ 8 * length named.now }
+{
+    let mut bytes = 0;
+    for asked in named {
+        bytes += flag_bytes(*asked);
+    }
+    bytes
+}
+
+fn flag_bytes(asked: bool) -> u32
+    ensures { result ≡ flag_bytes asked }
+{
+    if asked { 8 } else { 0 }
+}
+
+/// A word below an offset for each flag that is set.
+pub(crate) fn place_spills(alloc: Global, low: u32, named: &[bool]) -> Result<Ids, NoMemory>
+    requires { low + 8 * length named.now < 2 ^ 32 }
+    ensures { IfOk result (λ spills. spills ≡ spill_offsets low named.now) }
 {
     let mut spills = Ids::new(alloc);
-    for k in 0..count {
-        spills.push(low + 8 * (k + 1))?;
+    let mut offset = low;
+    for asked in named {
+        offset += flag_bytes(*asked);
+        spills.push(offset)?;
     }
     Ok(spills)
 }

@@ -9,8 +9,9 @@ use Rattle.air_frame.proofs.placing.place_saved.Goals.{then-is_in+in_ok-push, el
 
 pub loop-r-preserved : goal.loop-r-preserved
 loop-r-preserved c = elim c.if-is_in.branch [
-  then-is_in+in_ok-push w ↦ grind (arith, common_steps, filter_more, saved_push)
-  | else-is_in w ↦ grind (arith, common_steps, filter_more, saved_push) ]
+  | then-is_in+in_ok-push w ↦ grind (arith, common_steps, filter_more, saved_push)
+  | else-is_in w ↦ grind (arith, common_steps, filter_more, saved_push)
+]
 
 pub returns-clause-few : goal.returns-clause-few
 returns-clause-few c =
