@@ -266,7 +266,8 @@ same_registers p f same = filter_same f (writes p) callee_saved all_kept same
 
 same_frame : (f g : Frame) → f.bytes ≡ g.bytes → f.slots ≡ g.slots → f.spills ≡ g.spills → f.saved ≡ g.saved → f ≡ g
 same_frame f g bytes slots spills saved =
-    let e : record { bytes = f.bytes; slots = f.slots; spills = f.spills; saved = f.saved } ≡ record { bytes = g.bytes; slots = g.slots; spills = g.spills; saved = g.saved } = cc in
+    let e : record { bytes = f.bytes; slots = f.slots; spills = f.spills; saved = f.saved }
+    ≡ record { bytes = g.bytes; slots = g.slots; spills = g.spills; saved = g.saved } = cc in
     e
 
 pub layout_serves : (p : AirProc) (f : Frame) (has : ℕ → Bool) (flags : List Bool) → All (λ size. 1 ≤ size) p.slots
