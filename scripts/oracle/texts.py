@@ -1,4 +1,6 @@
 """Random texts: procedures of what is compiled, lines of the whole language, and damages of characters and lines."""
+import re
+
 from oracle.text import ACCESSES, ANYWHERE, CHECKS, EFFECTS, OPCODES, value_row
 
 
@@ -188,6 +190,30 @@ def dressed(rng, line):
     return before + rng.choice(["", "", "  ", "\t"]) + line + blanks(rng) + comment + end
 
 
+# ---- other spellings of canonical text
+def respelled(rng, text):
+    """The text with blanks, comments, other spellings, and items that carry nothing."""
+    return "".join(dressed(rng, respelled_line(rng, line)) for line in text.split("\n")[:-1])
+
+
+def respelled_line(rng, line):
+    head, mark, inner = line.partition("(")
+    if not mark or rng.random() < 0.3:
+        return line
+    name, items = head.split()[-1].partition("<")[0], inner[:-1]
+    # A constraint of a child that is computed with, and a result's of a value without one, are no one's.
+    items = re.sub(r"(b@[0-9]+)(?!:|[0-9])", r"\1:%x18", items, count=2) if name in CHECKS else items
+    items = re.sub(r"b@[0-9]+", lambda at: rng.choice(["%s", "%s", "$-5(%s)"]) % at[0][rng.randint(0, 1) :], items)
+    more = ["Terminal|Reads:Top"]
+    if name in CHECKS or name == "Patchpoint":
+        more += ["generator = 0x7f", "usedRegisters = [%x18, %fp]"]
+    if name == "Patchpoint" and head.startswith("    Void"):
+        more.append("resultConstraint = " + rng.choice(["WarmAny", "%x18", "late:%x3"]))
+    more = rng.sample(more, rng.randint(0, len(more)))
+    return head + "(" + ", ".join(([items] if items else []) + more) + ")"
+
+
+# ---- damages of characters and lines
 def damage(rng, text):
     lines = text.split("\n")
     for _ in range(rng.choice([1, 1, 2])):

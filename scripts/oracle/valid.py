@@ -317,11 +317,17 @@ def case_added(rng, m, p, v):
 
 
 def other_return(rng, m, p, v):
+    """A Return of another type than that of the first one, or with a child where that has none."""
     returns = values_of(p, "Return")
-    if returns:
-        v = rng.choice(returns)
-        block = block_of(p, v)
-        words = [w for w in block["values"] if w["ty"] in INTS]
+    ends = [v for v in values_of(p, *TERMINALS) if v not in returns[:1]]
+    if returns and ends:
+        v = rng.choice(ends)
+        types = {w["id"]: w["ty"] for w in values_of(p)}
+        first = [types.get(child) for child, _ in returns[0]["children"]]
+        words = [w for w in block_of(p, v)["values"] if w["ty"] in INTS and [w["ty"]] != first]
+        for name in ("cases", "phi"):
+            v.pop(name, None)
+        v["opcode"], v["targets"] = "Return", []
         v["children"] = [(rng.choice(words)["id"], None)] if words and rng.random() < 0.7 else []
 
 
