@@ -183,7 +183,7 @@ def any_word(rng):
 
 
 def any_bytes(rng):
-    return rng.randbytes(rng.choice([1, 1, 2, 8, 40])).hex()
+    return bytes(rng.randrange(256) for _ in range(rng.choice([1, 1, 2, 8, 40]))).hex()
 
 
 def any_trial(rng, names, steps):
