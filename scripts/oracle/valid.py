@@ -176,7 +176,7 @@ class Maker:
     def first_words(self):
         """Most Phis are set before any block runs."""
         for phi in self.phis:
-            if self.rng.random() < 0.8:
+            if self.rng.random() < 0.95:
                 v = blank_value("Upsilon", "Void")
                 v["children"], v["phi"] = [(self.pick(phi["ty"]), None)], phi
                 self.add(v)
