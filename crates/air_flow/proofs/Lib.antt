@@ -1,0 +1,5 @@
+pub mod Among
+pub mod Touching
+pub mod Names
+pub mod Kept
+pub mod Apart

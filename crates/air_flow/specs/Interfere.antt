@@ -1,0 +1,70 @@
+-- When two homes of a procedure interfere, so that they can't share a register.
+use Rattle.std.specs.Prelude.{◌≡◌, ◌≢◌, ℕ, ◌⊎◌, Bool, true, false, List, [], ◌∷◌, Contains}
+use Rattle.b3_base.specs.declared.word.Width.{Width}
+use Rattle.b3_ir.specs.declared.value.Reg.{Reg as Register}
+use Rattle.flow_live.specs.Graph.{Place}
+use Rattle.flow_live.specs.declared.touch.Touch.{Touch}
+use Rattle.flow_live.specs.declared.touch.Touch.TheVariants as touch
+use Rattle.air_ir.specs.WellFormed.{StandsAt}
+use Rattle.air_ir.specs.declared.op.AirOp.{AirOp}
+use Rattle.air_ir.specs.declared.op.AirOp.TheVariants.{Move, Shuffle}
+use Rattle.air_ir.specs.declared.operand.Arg.TheVariants.{At}
+use Rattle.air_ir.specs.declared.operand.Home.{Home}
+use Rattle.air_ir.specs.declared.operand.Home.TheVariants.{Reg}
+use Rattle.air_ir.specs.declared.operand.Operand.{Operand}
+use Rattle.air_ir.specs.declared.operand.Role.TheVariants.{EarlyDef}
+use Rattle.air_ir.specs.declared.procedure.AirInst.{AirInst}
+use Rattle.air_ir.specs.declared.procedure.AirProc.{AirProc}
+use Rattle.air_flow.specs.Flow.{inst_touches}
+use Rattle.air_flow.specs.Living.{HasName, IsLiveAfter}
+
+-- an instruction touches a home in this way
+abbrev pub IsTouched : AirProc → (ℕ → Touch) → AirInst → Home → Type 0
+IsTouched p way i home = (name : ℕ) × HasName p home name × Contains (inst_touches p.tmps i) (way name)
+
+abbrev pub IsUsed : AirProc → AirInst → Home → Type 0
+IsUsed p i home = IsTouched p (λ name. touch.Use name) i home
+
+abbrev pub IsUsedLate : AirProc → AirInst → Home → Type 0
+IsUsedLate p i home = IsTouched p (λ name. touch.LateUse name) i home
+
+abbrev pub IsDefined : AirProc → AirInst → Home → Type 0
+IsDefined p i home = IsTouched p (λ name. touch.Def name) i home
+
+-- an instruction may write a home before it has read its uses
+abbrev pub IsEarly : AirInst → Home → Type 0
+IsEarly i home = (width : Width) × Contains i.operands (record { role = EarlyDef; width = width; arg = At home })
+
+-- ---- copies
+
+abbrev pub is_copy : AirOp → Bool
+is_copy Move = true
+is_copy Shuffle = true
+is_copy _ = false
+
+-- operands by pairs of a source and a destination, with this pair among them
+unfoldable pub IsPair : List Operand → Home → Home → Type 0
+IsPair (from ∷ to ∷ os) a b = ((from.arg ≡ At a) × (to.arg ≡ At b)) ⊎ IsPair os a b
+IsPair (o ∷ []) a b = ⊥
+IsPair [] a b = ⊥
+
+-- an instruction copies the first home to the second, as a Move or as one pair of a Shuffle
+abbrev pub IsCopied : AirInst → Home → Home → Type 0
+IsCopied i from to = (is_copy i.op ≡ true) × IsPair i.operands from to
+
+-- ---- interference
+
+-- at an instruction a home is defined while another one is needed: the other is live after it and isn't what is
+-- copied there, it is used late, it is used and the first is defined early, or it is defined too
+abbrev pub Meets : AirProc → Place → AirInst → Home → Home → Type 0
+Meets p at i a b = IsDefined p i a
+    × ((IsLiveAfter p at b × (IsCopied i b a → ⊥)) ⊎ (IsUsedLate p i b ⊎ ((IsEarly i a × IsUsed p i b) ⊎ IsDefined p i b)))
+
+abbrev pub AreRegisters : Home → Home → Type 0
+AreRegisters a b = (r : Register) × (s : Register) × (a ≡ Reg r) × (b ≡ Reg s)
+
+-- two different homes interfere where both are registers, or where they meet at some instruction, either way round
+abbrev pub Interfere : AirProc → Home → Home → Type 0
+Interfere p a b = (a ≢ b)
+    × (AreRegisters a b
+    ⊎ ((at : Place) × (i : AirInst) × StandsAt p at.block at.place i × (Meets p at i a b ⊎ Meets p at i b a)))

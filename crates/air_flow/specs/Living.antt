@@ -1,0 +1,75 @@
+-- Which homes are live before and after the instructions of a procedure.
+use Rattle.std.specs.Prelude.{◌≡◌, ℕ, ◌+◌, ◌<◌, ◌≤◌, ◌⊎◌, List, [], ◌∷◌, length, Some, slice_get}
+use Rattle.flow_live.specs.Graph.{Follows, IsInRange, LiveBefore, Place}
+use Rattle.air_ir.specs.Related.{Flows, IsOneOf, homes_of}
+use Rattle.air_ir.specs.WellFormed.{IsWellFormed, StandsAt}
+use Rattle.air_ir.specs.declared.operand.Home.{Home}
+use Rattle.air_ir.specs.declared.operand.Home.TheVariants.{Tmp, Reg, Spill}
+use Rattle.air_ir.specs.declared.operand.Operand.{Operand}
+use Rattle.air_ir.specs.declared.procedure.AirBlock.{AirBlock}
+use Rattle.air_ir.specs.declared.procedure.AirInst.{AirInst}
+use Rattle.air_ir.specs.declared.procedure.AirProc.{AirProc}
+use Rattle.air_flow.specs.Flow.{flow_of, name_of}
+
+-- a temporary of the procedure, or a general register
+abbrev pub IsOf : AirProc → Home → Type 0
+IsOf p (Tmp number) = number < p.tmps
+IsOf p (Reg reg) = reg.0 ≤ 30
+IsOf p (Spill number) = Unit {0}
+
+-- a home has a name in the flow
+abbrev pub HasName : AirProc → Home → ℕ → Type 0
+HasName p home name = IsOf p home × (name_of p.tmps home ≡ Some name)
+
+-- a home is live before a place: its name is live there in the flow
+abbrev pub IsLive : AirProc → Place → Home → Type 0
+IsLive p at home = (name : ℕ) × HasName p home name × LiveBefore (flow_of p) name at
+
+-- it is live after a place: it is live before one that follows
+abbrev pub IsLiveAfter : AirProc → Place → Home → Type 0
+IsLiveAfter p at home = (next : Place) × Follows (flow_of p) at next × IsLive p next home
+
+-- ---- spill places
+
+-- an operand names a home, also in an address
+unfoldable pub IsNamedIn : Home → List Operand → Type 0
+IsNamedIn home [] = ⊥
+IsNamedIn home (o ∷ os) = IsOneOf home (homes_of o.arg) ⊎ IsNamedIn home os
+
+-- some instruction of the procedure names a home
+abbrev pub IsNamed : AirProc → Home → Type 0
+IsNamed p home = (block : ℕ) × (place : ℕ) × (i : AirInst) × StandsAt p block place i × IsNamedIn home i.operands
+
+-- a home whose word may still be read: a live one, and at each place a spill place that the procedure names
+abbrev pub IsKept : AirProc → Place → Home → Type 0
+IsKept p at (Tmp number) = IsLive p at (Tmp number)
+IsKept p at (Reg reg) = IsLive p at (Reg reg)
+IsKept p at (Spill number) = IsNamed p (Spill number)
+
+abbrev pub IsKeptAfter : AirProc → Place → Home → Type 0
+IsKeptAfter p at home = (next : Place) × Follows (flow_of p) at next × IsKept p next home
+
+-- ---- what holds of well-formed procedures
+
+-- each successor is a block, and each touched name is one of the names
+abbrev pub AreInRange : Type 0
+AreInRange = (p : AirProc) → IsWellFormed p → IsInRange (flow_of p)
+
+-- what an instruction reads is kept before it, and what is kept after it and isn't written is kept before it
+abbrev pub KeepUses : Type 0
+KeepUses = (p : AirProc) (block place : ℕ) (i : AirInst) → IsWellFormed p → StandsAt p block place i
+    → Flows (IsKept p (record { block = block; place = place })) (IsKeptAfter p (record { block = block; place = place }))
+    i.operands
+
+-- what is kept before the next instruction, or at the beginning of a target behind the last one, is kept after an
+-- instruction
+pub record KeepsOn (p : AirProc) (block place : ℕ) (of : AirBlock) : Type 0 where
+  pub next : (home : Home) → place + 1 < length of.insts → IsKept p (record { block = block; place = place + 1 }) home
+      → IsKeptAfter p (record { block = block; place = place }) home
+  pub target : (home : Home) (k target : ℕ) → place + 1 ≡ length of.insts → slice_get of.targets k ≡ Some target
+      → IsKept p (record { block = target; place = 0 }) home
+      → IsKeptAfter p (record { block = block; place = place }) home
+
+abbrev pub KeepOn : Type 0
+KeepOn = (p : AirProc) (block place : ℕ) (of : AirBlock) → slice_get p.blocks block ≡ Some of
+    → KeepsOn p block place of
