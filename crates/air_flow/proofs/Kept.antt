@@ -76,7 +76,9 @@ keep_on p block place of e =
       next = λ home lt kept. (spot block (place + 1), inl (omega (arith, lt, count), refl, refl), kept);
       target = λ home k target last is kept. (
         spot target 0,
-        inr (omega (arith, last, count), (k, rw targets_are (slice_get_within of.targets k target is), rw targets_are (get_or_from_slice_get of.targets k target 0 is)), refl),
+        inr (omega (arith, last, count), 
+        (k, rw targets_are (slice_get_within of.targets k target is),
+          rw targets_are (get_or_from_slice_get of.targets k target 0 is)), refl),
         kept,
       );
     }

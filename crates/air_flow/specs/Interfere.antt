@@ -1,13 +1,12 @@
 -- When two homes of a procedure interfere, so that they can't share a register.
-use Rattle.std.specs.Prelude.{◌≡◌, ◌≢◌, ℕ, ◌⊎◌, Bool, true, false, List, [], ◌∷◌, Contains}
+use Rattle.std.specs.Prelude.{◌≡◌, ◌≢◌, ℕ, ◌⊎◌, List, [], ◌∷◌, Contains}
 use Rattle.b3_base.specs.declared.word.Width.{Width}
 use Rattle.b3_ir.specs.declared.value.Reg.{Reg as Register}
 use Rattle.flow_live.specs.Graph.{Place}
 use Rattle.flow_live.specs.declared.touch.Touch.{Touch}
 use Rattle.flow_live.specs.declared.touch.Touch.TheVariants as touch
+use Rattle.air_ir.specs.Kinds.{Copies, kind_of}
 use Rattle.air_ir.specs.WellFormed.{StandsAt}
-use Rattle.air_ir.specs.declared.op.AirOp.{AirOp}
-use Rattle.air_ir.specs.declared.op.AirOp.TheVariants.{Move, Shuffle}
 use Rattle.air_ir.specs.declared.operand.Arg.TheVariants.{At}
 use Rattle.air_ir.specs.declared.operand.Home.{Home}
 use Rattle.air_ir.specs.declared.operand.Home.TheVariants.{Reg}
@@ -37,11 +36,6 @@ IsEarly i home = (width : Width) × Contains i.operands (record { role = EarlyDe
 
 -- ---- copies
 
-abbrev pub is_copy : AirOp → Bool
-is_copy Move = true
-is_copy Shuffle = true
-is_copy _ = false
-
 -- operands by pairs of a source and a destination, with this pair among them
 unfoldable pub IsPair : List Operand → Home → Home → Type 0
 IsPair (from ∷ to ∷ os) a b = ((from.arg ≡ At a) × (to.arg ≡ At b)) ⊎ IsPair os a b
@@ -50,7 +44,7 @@ IsPair [] a b = ⊥
 
 -- an instruction copies the first home to the second, as a Move or as one pair of a Shuffle
 abbrev pub IsCopied : AirInst → Home → Home → Type 0
-IsCopied i from to = (is_copy i.op ≡ true) × IsPair i.operands from to
+IsCopied i from to = (kind_of i.op ≡ Copies) × IsPair i.operands from to
 
 -- ---- interference
 
@@ -58,7 +52,8 @@ IsCopied i from to = (is_copy i.op ≡ true) × IsPair i.operands from to
 -- copied there, it is used late, it is used and the first is defined early, or it is defined too
 abbrev pub Meets : AirProc → Place → AirInst → Home → Home → Type 0
 Meets p at i a b = IsDefined p i a
-    × ((IsLiveAfter p at b × (IsCopied i b a → ⊥)) ⊎ (IsUsedLate p i b ⊎ ((IsEarly i a × IsUsed p i b) ⊎ IsDefined p i b)))
+    × ((IsLiveAfter p at b × (IsCopied i b a → ⊥))
+    ⊎ (IsUsedLate p i b ⊎ ((IsEarly i a × IsUsed p i b) ⊎ IsDefined p i b)))
 
 abbrev pub AreRegisters : Home → Home → Type 0
 AreRegisters a b = (r : Register) × (s : Register) × (a ≡ Reg r) × (b ≡ Reg s)

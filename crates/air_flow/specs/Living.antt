@@ -58,8 +58,7 @@ AreInRange = (p : AirProc) → IsWellFormed p → IsInRange (flow_of p)
 -- what an instruction reads is kept before it, and what is kept after it and isn't written is kept before it
 abbrev pub KeepUses : Type 0
 KeepUses = (p : AirProc) (block place : ℕ) (i : AirInst) → IsWellFormed p → StandsAt p block place i
-    → Flows (IsKept p (record { block = block; place = place })) (IsKeptAfter p (record { block = block; place = place }))
-    i.operands
+    → let at : Place = record { block = block; place = place } in Flows (IsKept p at) (IsKeptAfter p at) i.operands
 
 -- what is kept before the next instruction, or at the beginning of a target behind the last one, is kept after an
 -- instruction
