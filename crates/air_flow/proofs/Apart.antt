@@ -58,14 +58,18 @@ module _ (p : AirProc) (a : Assignment) (block place : ℕ) (i : AirInst) (good 
   own x is = named_of p i.operands x (owns_of p block place i good at) (target_is_named i.operands x is)
 
   defined : (x : Home) (reg : Register) → IsTarget x (targets i.operands) → register_of a x ≡ Some reg → IsDefined p i x
-  defined (Tmp k) reg is e =
-      (k, (own (Tmp k) is, refl),
-        contains_among (touch.Def k) (touches_of p.tmps i.operands)
-        (target_is_defined p.tmps i.operands (Tmp k) k refl is))
-  defined (Reg r) reg is e =
-      (p.tmps + r.0, (own (Reg r) is, refl),
-        contains_among (touch.Def (p.tmps + r.0)) (touches_of p.tmps i.operands)
-        (target_is_defined p.tmps i.operands (Reg r) (p.tmps + r.0) refl is))
+  defined (Tmp k) reg is e = (
+    k,
+    (own (Tmp k) is, refl),
+    contains_among (touch.Def k) (touches_of p.tmps i.operands)
+        (target_is_defined p.tmps i.operands (Tmp k) k refl is),
+  )
+  defined (Reg r) reg is e = (
+    p.tmps + r.0,
+    (own (Reg r) is, refl),
+    contains_among (touch.Def (p.tmps + r.0)) (touches_of p.tmps i.operands)
+        (target_is_defined p.tmps i.operands (Reg r) (p.tmps + r.0) refl is),
+  )
   defined (Spill k) reg is e = absurd (cc)
 
   lives : (y : Home) (reg : Register) → IsKeptAfter p (spot block place) y → register_of a y ≡ Some reg → IsLiveAfter p (spot block place) y

@@ -31,9 +31,9 @@ module _ (p : AirProc) (block place : ℕ) (i : AirInst) (good : IsWellFormed p)
   used_lives : (h : Home) (n : ℕ) → HasName p h n → IsUsed h i.operands → IsLive p (spot block place) h
   used_lives h n has used =
       let touched : Among (λ (t : Touch). IsUseOf t n) (touches_at p block place) =
-          rw (touches_are p block place i at) (used_is_touched p.tmps i.operands h n has.1 used) in
+      rw (touches_are p block place i at) (used_is_touched p.tmps i.operands h n has.1 used) in
       let uses : Uses (flow_of p) n (spot block place) =
-          (there, index_among (λ (t : Touch). IsUseOf t n) (touches_at p block place) (touch.Use 0) touched) in
+      (there, index_among (λ (t : Touch). IsUseOf t n) (touches_at p block place) (touch.Use 0) touched) in
       (n, has, record { path = []; is_path = tt; ends = uses })
 
   used_of : (h : Home) → IsUsed h i.operands → IsOf p h
@@ -43,9 +43,9 @@ module _ (p : AirProc) (block place : ℕ) (i : AirInst) (good : IsWellFormed p)
   not_defined : (h : Home) (n : ℕ) → HasName p h n → (IsTarget h (targets i.operands) → ⊥) → Defines (flow_of p) n (spot block place) → ⊥
   not_defined h n has none d =
       let touched : Among (λ (t : Touch). IsDefOf t n) (touches_at p block place) =
-          among_index (λ (t : Touch). IsDefOf t n) (touches_at p block place) (touch.Use 0) d.1.0 d.1.1 d.1.2 in
+      among_index (λ (t : Touch). IsDefOf t n) (touches_at p block place) (touch.Use 0) d.1.0 d.1.1 d.1.2 in
       let here : Among (λ (t : Touch). IsDefOf t n) (touches_of p.tmps i.operands) =
-          subst (λ (ts : List Touch). Among (λ (t : Touch). IsDefOf t n) ts) (touches_are p block place i at) touched in
+      subst (λ (ts : List Touch). Among (λ (t : Touch). IsDefOf t n) ts) (touches_are p block place i at) touched in
       let w = defined_is_target p.tmps i.operands n here in
       let own : IsOf p w.0 = named_of p i.operands w.0 (owns_of p block place i good at) (target_is_named i.operands w.0 w.1) in
       none (subst (λ (g : Home). IsTarget g (targets i.operands)) (same_name p w.0 h n (own, w.2) has) w.1)
@@ -76,9 +76,15 @@ keep_on p block place of e =
       next = λ home lt kept. (spot block (place + 1), inl (omega (arith, lt, count), refl, refl), kept);
       target = λ home k target last is kept. (
         spot target 0,
-        inr (omega (arith, last, count), 
-        (k, rw targets_are (slice_get_within of.targets k target is),
-          rw targets_are (get_or_from_slice_get of.targets k target 0 is)), refl),
+        inr (
+          omega (arith, last, count),
+          (
+            k,
+            rw targets_are (slice_get_within of.targets k target is),
+            rw targets_are (get_or_from_slice_get of.targets k target 0 is),
+          ),
+          refl,
+        ),
         kept,
       );
     }

@@ -124,16 +124,16 @@ module _ (p : AirProc) where
   touches_below (o ∷ os) own =
       All-append IsBelow (operand_touches p.tmps o) (touches_of p.tmps os)
       (All-map IsBelow (touch_as o.role o.arg) (filter_map (name_of p.tmps) (homes_of o.arg))
-        (All-weaker (λ (n : ℕ). n < p.tmps + 31) (λ n. IsBelow (touch_as o.role o.arg n)) (written_name o.role o.arg)
-          (filter_map (name_of p.tmps) (homes_of o.arg))
-          (names_below (homes_of o.arg) (λ h is. own_of o.role o.arg h (All-head (λ (o : Operand). NamesOwn p o.role o.arg) o os own) is))))
+      (All-weaker (λ (n : ℕ). n < p.tmps + 31) (λ n. IsBelow (touch_as o.role o.arg n)) (written_name o.role o.arg)
+      (filter_map (name_of p.tmps) (homes_of o.arg))
+      (names_below (homes_of o.arg) (λ h is. own_of o.role o.arg h (All-head (λ (o : Operand). NamesOwn p o.role o.arg) o os own) is))))
       (touches_below os (All-tail (λ (o : Operand). NamesOwn p o.role o.arg) o os own))
 
   block_below : (b : AirBlock) → IsGoodBlock p b → All (λ ts. All IsBelow ts) (block_touches p.tmps b)
   block_below b good =
       All-map (λ ts. All IsBelow ts) (inst_touches p.tmps) b.insts
       (All-weaker (IsGoodInst p) (λ i. All IsBelow (inst_touches p.tmps i)) (λ i is. touches_below i.operands is.names)
-        b.insts good.insts)
+      b.insts good.insts)
 
   pub in_range : IsWellFormed p → IsInRange (flow_of p)
   in_range good = record {

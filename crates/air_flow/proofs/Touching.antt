@@ -1,7 +1,6 @@
 -- The touches of an instruction against the homes that it reads and writes.
 use Rattle.std.proofs.Common.{◌≡◌, ℕ, ◌⊎◌, inl, inr, Bool, true, false, Option, Some, None, List, [], ◌∷◌, map, refl, ap, sym, ◌∙◌, subst}
 use Rattle.std.specs.List.{cons_option, filter_map}
-
 use Rattle.b3_base.specs.declared.word.Width.{Width}
 use Rattle.flow_live.specs.Graph.{IsDefOf, IsUseOf}
 use Rattle.flow_live.specs.declared.touch.Touch.{Touch}

@@ -56,7 +56,11 @@ fn add_operand(touches: &mut Touches, tmps: u32, operand: &Operand) -> Result<()
         Arg::At(home) => add_home(touches, tmps, operand, home),
         Arg::Imm(_) => Ok(()),
         Arg::Addr { base, offset: _ } => add_home(touches, tmps, operand, base),
-        Arg::Index { base, index, shift: _ } => {
+        Arg::Index {
+            base,
+            index,
+            shift: _,
+        } => {
             add_home(touches, tmps, operand, base)?;
             add_home(touches, tmps, operand, index)
         }
@@ -76,7 +80,11 @@ fn inst_touches(alloc: Global, tmps: u32, inst: &AirInst) -> Result<Touches, NoM
 }
 
 /// The touches of each instruction of a block. It is refused for want of memory alone.
-pub(crate) fn block_touches(alloc: Global, tmps: u32, block: &AirBlock) -> Result<Seq<Touches>, NoMemory>
+pub(crate) fn block_touches(
+    alloc: Global,
+    tmps: u32,
+    block: &AirBlock,
+) -> Result<Seq<Touches>, NoMemory>
     ensures { IfOk result (λ touches. touches ≡ block_touches tmps block.now) }
 {
     let mut touches = Seq::new(alloc);
