@@ -14,11 +14,11 @@ use Rattle.air_ir.specs.declared.operand.Home.TheVariants.{Tmp, Reg, Spill}
 use Rattle.air_ir.specs.declared.procedure.AirInst.{AirInst}
 use Rattle.air_ir.specs.declared.procedure.AirProc.{AirProc}
 use Rattle.air_flow.specs.Flow.{touches_of}
-use Rattle.air_flow.specs.Interfere.{Interfere, IsCopied, IsDefined}
-use Rattle.air_flow.specs.Living.{IsKeptAfter, IsLiveAfter, IsOf}
+use Rattle.air_flow.specs.Interfere.{Interfere, IsCopied}
+use Rattle.air_flow.specs.Living.{IsDefined, IsKeptAfter, IsLiveAfter, IsOf}
 use Rattle.air_flow.specs.Proper.{IsProper, register_of}
 use Rattle.air_flow.proofs.Among.{contains_among}
-use Rattle.air_flow.proofs.Kept.{spot}
+use Rattle.air_flow.proofs.Lives.{spot}
 use Rattle.air_flow.proofs.Names.{named_of, owns_of}
 use Rattle.air_flow.proofs.Touching.{target_is_defined, target_is_named}
 

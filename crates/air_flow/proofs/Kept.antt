@@ -1,8 +1,8 @@
 -- What is kept before and after the instructions of a well-formed procedure.
-use Rattle.std.proofs.Common.{◌≡◌, ℕ, ◌+◌, ◌<◌, inl, inr, Some, List, [], ◌∷◌, length, arith, refl, ap, subst}
+use Rattle.std.proofs.Common.{◌≡◌, ℕ, ◌+◌, inl, inr, Some, List, [], ◌∷◌, length, arith, refl, ap, subst}
 use Rattle.std.specs.Prelude.{slice_get}
 use Rattle.std.proofs.lemmas.Option.{get_or_from_slice_get, slice_get_within}
-use Rattle.flow_live.specs.Graph.{Defines, IsDefOf, IsUseOf, Place, Uses}
+use Rattle.flow_live.specs.Graph.{Defines, IsDefOf, IsUseOf, Uses}
 use Rattle.flow_live.specs.declared.touch.Touch.{Touch}
 use Rattle.flow_live.specs.declared.touch.Touch.TheVariants as touch
 use Rattle.air_ir.specs.Blocks.{block_of}
@@ -17,23 +17,18 @@ use Rattle.air_ir.specs.declared.procedure.AirProc.{AirProc}
 use Rattle.air_flow.specs.Flow.{flow_of, touches_at, touches_of}
 use Rattle.air_flow.specs.Living.{HasName, IsKept, IsKeptAfter, IsLive, IsLiveAfter, IsOf, KeepsOn}
 use Rattle.air_flow.proofs.Among.{Among, among_index, index_among}
+use Rattle.air_flow.proofs.Lives.{spot, there}
 use Rattle.air_flow.proofs.Names.{block_is, named_of, owns_of, same_name, touches_are}
 use Rattle.air_flow.proofs.Touching.{defined_is_target, target_is_named, used_is_named, used_is_touched}
 
-abbrev pub spot : ℕ → ℕ → Place
-spot block place = record { block = block; place = place }
-
 module _ (p : AirProc) (block place : ℕ) (i : AirInst) (good : IsWellFormed p) (at : StandsAt p block place i) where
-  there : place < length (block_of p block).insts
-  there = rw (block_is p block at.of at.block_there) (slice_get_within at.of.insts place i at.inst_there)
-
   -- a home that is read is live
   used_lives : (h : Home) (n : ℕ) → HasName p h n → IsUsed h i.operands → IsLive p (spot block place) h
   used_lives h n has used =
       let touched : Among (λ (t : Touch). IsUseOf t n) (touches_at p block place) =
       rw (touches_are p block place i at) (used_is_touched p.tmps i.operands h n has.1 used) in
       let uses : Uses (flow_of p) n (spot block place) =
-      (there, index_among (λ (t : Touch). IsUseOf t n) (touches_at p block place) (touch.Use 0) touched) in
+      (there p block place i at, index_among (λ (t : Touch). IsUseOf t n) (touches_at p block place) (touch.Use 0) touched) in
       (n, has, record { path = []; is_path = tt; ends = uses })
 
   used_of : (h : Home) → IsUsed h i.operands → IsOf p h

@@ -1,10 +1,8 @@
 -- When two homes of a procedure interfere, so that they can't share a register.
-use Rattle.std.specs.Prelude.{◌≡◌, ◌≢◌, ℕ, ◌⊎◌, List, [], ◌∷◌, Contains}
+use Rattle.std.specs.Prelude.{◌≡◌, ◌≢◌, ◌⊎◌, List, [], ◌∷◌, Contains}
 use Rattle.b3_base.specs.declared.word.Width.{Width}
 use Rattle.b3_ir.specs.declared.value.Reg.{Reg as Register}
 use Rattle.flow_live.specs.Graph.{Place}
-use Rattle.flow_live.specs.declared.touch.Touch.{Touch}
-use Rattle.flow_live.specs.declared.touch.Touch.TheVariants as touch
 use Rattle.air_ir.specs.Kinds.{Copies, kind_of}
 use Rattle.air_ir.specs.WellFormed.{StandsAt}
 use Rattle.air_ir.specs.declared.operand.Arg.TheVariants.{At}
@@ -14,21 +12,7 @@ use Rattle.air_ir.specs.declared.operand.Operand.{Operand}
 use Rattle.air_ir.specs.declared.operand.Role.TheVariants.{EarlyDef}
 use Rattle.air_ir.specs.declared.procedure.AirInst.{AirInst}
 use Rattle.air_ir.specs.declared.procedure.AirProc.{AirProc}
-use Rattle.air_flow.specs.Flow.{inst_touches}
-use Rattle.air_flow.specs.Living.{HasName, IsLiveAfter}
-
--- an instruction touches a home in this way
-abbrev pub IsTouched : AirProc → (ℕ → Touch) → AirInst → Home → Type 0
-IsTouched p way i home = (name : ℕ) × HasName p home name × Contains (inst_touches p.tmps i) (way name)
-
-abbrev pub IsUsed : AirProc → AirInst → Home → Type 0
-IsUsed p i home = IsTouched p (λ name. touch.Use name) i home
-
-abbrev pub IsUsedLate : AirProc → AirInst → Home → Type 0
-IsUsedLate p i home = IsTouched p (λ name. touch.LateUse name) i home
-
-abbrev pub IsDefined : AirProc → AirInst → Home → Type 0
-IsDefined p i home = IsTouched p (λ name. touch.Def name) i home
+use Rattle.air_flow.specs.Living.{IsDefined, IsLiveAfter, IsUsed, IsUsedLate}
 
 -- an instruction may write a home before it has read its uses
 abbrev pub IsEarly : AirInst → Home → Type 0

@@ -1,6 +1,8 @@
 -- Which homes are live before and after the instructions of a procedure.
-use Rattle.std.specs.Prelude.{◌≡◌, ℕ, ◌+◌, ◌<◌, ◌≤◌, ◌⊎◌, List, [], ◌∷◌, length, Some, slice_get}
-use Rattle.flow_live.specs.Graph.{Follows, IsInRange, LiveBefore, Place}
+use Rattle.std.specs.Prelude.{◌≡◌, ℕ, ◌+◌, ◌<◌, ◌≤◌, ◌⊎◌, ◌↔◌, List, [], ◌∷◌, length, Some, slice_get, Contains}
+use Rattle.flow_live.specs.Graph.{Follows, IsInRange, LiveBefore, LiveOut, Place}
+use Rattle.flow_live.specs.declared.touch.Touch.{Touch}
+use Rattle.flow_live.specs.declared.touch.Touch.TheVariants as touch
 use Rattle.air_ir.specs.Related.{Flows, IsOneOf, homes_of}
 use Rattle.air_ir.specs.WellFormed.{IsWellFormed, StandsAt}
 use Rattle.air_ir.specs.declared.operand.Home.{Home}
@@ -9,7 +11,7 @@ use Rattle.air_ir.specs.declared.operand.Operand.{Operand}
 use Rattle.air_ir.specs.declared.procedure.AirBlock.{AirBlock}
 use Rattle.air_ir.specs.declared.procedure.AirInst.{AirInst}
 use Rattle.air_ir.specs.declared.procedure.AirProc.{AirProc}
-use Rattle.air_flow.specs.Flow.{flow_of, name_of}
+use Rattle.air_flow.specs.Flow.{flow_of, inst_touches, name_of}
 
 -- a temporary of the procedure, or a general register
 abbrev pub IsOf : AirProc → Home → Type 0
@@ -20,6 +22,21 @@ IsOf p (Spill number) = Unit {0}
 -- a home has a name in the flow
 abbrev pub HasName : AirProc → Home → ℕ → Type 0
 HasName p home name = IsOf p home × (name_of p.tmps home ≡ Some name)
+
+-- an instruction touches a home in this way
+abbrev pub IsTouched : AirProc → (ℕ → Touch) → AirInst → Home → Type 0
+IsTouched p way i home = (name : ℕ) × HasName p home name × Contains (inst_touches p.tmps i) (way name)
+
+abbrev pub IsUsed : AirProc → AirInst → Home → Type 0
+IsUsed p i home = IsTouched p (λ name. touch.Use name) i home
+
+abbrev pub IsUsedLate : AirProc → AirInst → Home → Type 0
+IsUsedLate p i home = IsTouched p (λ name. touch.LateUse name) i home
+
+abbrev pub IsDefined : AirProc → AirInst → Home → Type 0
+IsDefined p i home = IsTouched p (λ name. touch.Def name) i home
+
+-- ---- liveness
 
 -- a home is live before a place: its name is live there in the flow
 abbrev pub IsLive : AirProc → Place → Home → Type 0
@@ -48,6 +65,26 @@ IsKept p at (Spill number) = IsNamed p (Spill number)
 
 abbrev pub IsKeptAfter : AirProc → Place → Home → Type 0
 IsKeptAfter p at home = (next : Place) × Follows (flow_of p) at next × IsKept p next home
+
+-- ---- what holds of liveness
+
+-- a home is live before an instruction exactly where that uses it, or where it is live after it and isn't defined
+abbrev pub LiveByTouches : Type 0
+LiveByTouches = (p : AirProc) (block place : ℕ) (i : AirInst) → StandsAt p block place i → (home : Home)
+    → let at : Place = record { block = block; place = place } in
+    IsLive p at home ↔ ((IsUsed p i home ⊎ IsUsedLate p i home) ⊎ (IsLiveAfter p at home × (IsDefined p i home → ⊥)))
+
+-- a home is live after an instruction exactly where it is live before the next one, or behind the last one where
+-- its name is live out of the block
+pub record LivesOn (p : AirProc) (block place : ℕ) (of : AirBlock) (home : Home) : Type 0 where
+  pub next : place + 1 < length of.insts → IsLiveAfter p (record { block = block; place = place }) home
+      ↔ IsLive p (record { block = block; place = place + 1 }) home
+  pub last : place + 1 ≡ length of.insts → IsLiveAfter p (record { block = block; place = place }) home
+      ↔ ((name : ℕ) × HasName p home name × LiveOut (flow_of p) name block)
+
+abbrev pub LiveOn : Type 0
+LiveOn = (p : AirProc) (block place : ℕ) (of : AirBlock) (home : Home) → slice_get p.blocks block ≡ Some of
+    → LivesOn p block place of home
 
 -- ---- what holds of well-formed procedures
 

@@ -1,7 +1,15 @@
 //! Laws of liveness and of proper assignments.
 
-ghost use Rattle.air_flow.specs.Living.{AreInRange, KeepOn, KeepUses};
+ghost use Rattle.air_flow.specs.Living.{AreInRange, KeepOn, KeepUses, LiveByTouches, LiveOn};
 ghost use Rattle.air_flow.specs.Proper.{AllSpilledIsProper, WritesApartIfProper};
+
+/// Tells that a home is live before an instruction exactly where that uses it, or where it is live after it and not
+/// defined there; and that it is live after one exactly where it is live before the next, or out of the block. It
+/// takes no memory.
+pub fn live_homes()
+    ensures touches { LiveByTouches }
+    ensures goes_on { LiveOn }
+{}
 
 /// Tells of a well-formed procedure that its flow names its own blocks and names alone, that the homes that an
 /// instruction reads are kept before it, and that those that are kept after it and not written are kept before it;

@@ -8,4 +8,4 @@ mod tests;
 mod touches;
 
 pub use flow::AirFlow;
-pub use laws::{kept_homes, proper_assignments};
+pub use laws::{kept_homes, live_homes, proper_assignments};
