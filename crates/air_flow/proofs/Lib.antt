@@ -4,3 +4,4 @@ pub mod Names
 pub mod Lives
 pub mod Kept
 pub mod Apart
+mod Examples

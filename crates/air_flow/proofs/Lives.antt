@@ -66,12 +66,15 @@ module _ (p : AirProc) (block place : ℕ) (i : AirInst) (stands : StandsAt p bl
       (n, has, record { path = []; is_path = tt; ends = to_place (λ (t : Touch). IsUseOf t n) (touch.LateUse n) (inr refl) c })
 
   live_by_after : (home : Home) → IsLiveAfter p (spot block place) home → (IsDefined p i home → ⊥) → IsLive p (spot block place) home
-  live_by_after home (next, follows, (n, has, live)) none =
-      (n, has, record {
-        path = next ∷ live.path;
-        is_path = (follows, live.is_path);
-        ends = (λ d. none (defined_of home n has d), live.ends);
-      })
+  live_by_after home (next, follows, (n, has, live)) none = (
+    n,
+    has,
+    record {
+      path = next ∷ live.path;
+      is_path = (follows, live.is_path);
+      ends = (λ d. none (defined_of home n has d), live.ends);
+    },
+  )
 
   touched : (home : Home) (n : ℕ) → HasName p home n → (path : List Place) → IsPath (flow_of p) (spot block place) path
       → EndsInUse (flow_of p) n (spot block place) path
