@@ -15,7 +15,7 @@ use Rattle.air_ir.specs.declared.procedure.AirInst.{AirInst}
 use Rattle.air_ir.specs.declared.procedure.AirProc.{AirProc}
 use Rattle.air_flow.specs.Flow.{touches_of}
 use Rattle.air_flow.specs.Interfere.{Interfere, IsCopied}
-use Rattle.air_flow.specs.Living.{IsDefined, IsKeptAfter, IsLiveAfter, IsOf}
+use Rattle.air_flow.specs.Living.{IsDefinedBy, IsKeptAfter, IsLiveAfter, IsOf}
 use Rattle.air_flow.specs.Proper.{IsProper, register_of}
 use Rattle.air_flow.proofs.Among.{contains_among}
 use Rattle.air_flow.proofs.Lives.{spot}
@@ -57,7 +57,7 @@ module _ (p : AirProc) (a : Assignment) (block place : ℕ) (i : AirInst) (good 
   own : (x : Home) → IsTarget x (targets i.operands) → IsOf p x
   own x is = named_of p i.operands x (owns_of p block place i good at) (target_is_named i.operands x is)
 
-  defined : (x : Home) (reg : Register) → IsTarget x (targets i.operands) → register_of a x ≡ Some reg → IsDefined p i x
+  defined : (x : Home) (reg : Register) → IsTarget x (targets i.operands) → register_of a x ≡ Some reg → IsDefinedBy p i x
   defined (Tmp k) reg is e = (
     k,
     (own (Tmp k) is, refl),

@@ -8,7 +8,8 @@ use Rattle.flow_live.specs.declared.touch.Touch.TheVariants as touch
 use Rattle.stackmap.specs.declared.site.Returns.TheVariants.{Nothing}
 use Rattle.air_ir.specs.Kinds.{Copies, kind_of}
 use Rattle.air_ir.specs.WellFormed.{StandsAt}
-use Rattle.air_ir.specs.declared.op.AirOp.TheVariants.{Add, Patch}
+use Rattle.air_ir.specs.declared.op.AirOp.{AirOp}
+use Rattle.air_ir.specs.declared.op.AirOp.TheVariants.{Shuffle, Add, Patch}
 use Rattle.air_ir.specs.declared.operand.Arg.TheVariants.{At}
 use Rattle.air_ir.specs.declared.operand.Home.{Home}
 use Rattle.air_ir.specs.declared.operand.Home.TheVariants.{Tmp, Reg}
@@ -19,8 +20,8 @@ use Rattle.air_ir.specs.declared.procedure.AirBlock.{AirBlock}
 use Rattle.air_ir.specs.declared.procedure.AirInst.{AirInst}
 use Rattle.air_ir.specs.declared.procedure.AirProc.{AirProc}
 use Rattle.air_flow.specs.Flow.{inst_touches}
-use Rattle.air_flow.specs.Interfere.{Interfere, Meets}
-use Rattle.air_flow.specs.Living.{IsDefined, IsLiveAfter}
+use Rattle.air_flow.specs.Interfere.{Interfere, Meets, IsCopied, IsPair}
+use Rattle.air_flow.specs.Living.{IsDefinedBy, IsLiveAfter}
 use Rattle.air_flow.proofs.Lives.{spot}
 
 abbrev x : ℕ → Home
@@ -56,10 +57,10 @@ p = alone 3 (patch ∷ sum ∷ [])
 stands : StandsAt p 0 0 patch
 stands = record { of = record { insts = patch ∷ sum ∷ []; targets = [] }; block_there = refl; inst_there = refl }
 
-early : IsDefined p patch (x 9)
+early : IsDefinedBy p patch (x 9)
 early = (12, (omega arith, refl), (2, omega arith, refl))
 
-clobbered : IsDefined p patch (x 10)
+clobbered : IsDefinedBy p patch (x 10)
 clobbered = (13, (omega arith, refl), (3, omega arith, refl))
 
 -- an early definition meets a use
@@ -123,7 +124,7 @@ no_early width zero lt e = let roles : Use ≡ EarlyDef = ap role_of e in cc
 no_early width (suc zero) lt e = let roles : Def ≡ EarlyDef = ap role_of e in cc
 no_early width (suc (suc k)) lt e = omega (arith, lt)
 
-not_defined : IsDefined q half (Tmp 0) → ⊥
+not_defined : IsDefinedBy q half (Tmp 0) → ⊥
 not_defined (n, has, (k, lt, e)) = let zeroth : Some 0 ≡ Some n = has.1 in let fourth = no_def n k lt e in cc
 
 dead : IsLiveAfter q (spot 0 0) (Tmp 0) → ⊥
@@ -147,3 +148,23 @@ pub result_in_the_register_of_a_use : Interfere q (Tmp 0) (x 3) → ⊥
 result_in_the_register_of_a_use (differ, inl (r, s, e, f)) = cc
 result_in_the_register_of_a_use (differ, inr (at, i, s, inl m)) = not_defined (at_half at i (Tmp 0) (x 3) s m).0
 result_in_the_register_of_a_use (differ, inr (at, i, s, inr m)) = apart (at_half at i (x 3) (Tmp 0) s m)
+
+-- ---- copies, from the source to the destination of a pair
+
+copying : AirOp → AirInst
+copying op = record {
+  op = op;
+  operands = in_role Use (Tmp 0) ∷ in_role Def (x 3) ∷ in_role Use (x 4) ∷ in_role Def (Tmp 1) ∷ [];
+  value = 0;
+  traps = false;
+}
+
+second_pair : IsCopied (copying Shuffle) (x 4) (Tmp 1)
+unfolding copying IsPair
+second_pair = (refl, inr (inl (refl, refl)))
+
+not_between_pairs : IsCopied (copying Shuffle) (x 4) (x 3) → ⊥
+unfolding copying IsPair
+not_between_pairs (op, inl (e, f)) = cc
+not_between_pairs (op, inr (inl (e, f))) = cc
+not_between_pairs (op, inr (inr none)) = none

@@ -13,7 +13,7 @@ use Rattle.air_ir.specs.declared.procedure.AirBlock.{AirBlock}
 use Rattle.air_ir.specs.declared.procedure.AirInst.{AirInst}
 use Rattle.air_ir.specs.declared.procedure.AirProc.{AirProc}
 use Rattle.air_flow.specs.Flow.{flow_of, inst_touches, name_of, touches_at}
-use Rattle.air_flow.specs.Living.{HasName, IsDefined, IsLive, IsLiveAfter, IsUsed, IsUsedLate, LivesOn}
+use Rattle.air_flow.specs.Living.{HasName, IsDefinedBy, IsLive, IsLiveAfter, IsUsedBy, IsUsedLateBy, LivesOn}
 use Rattle.air_flow.proofs.Names.{block_is, touches_are}
 
 abbrev pub spot : ℕ → ℕ → Place
@@ -42,30 +42,30 @@ module _ (p : AirProc) (block place : ℕ) (i : AirInst) (stands : StandsAt p bl
   to_inst t k lt e =
       subst (λ (ts : List Touch). Contains ts t) (touches_are p block place i stands) (at_contains (touches_at p block place) t (touch.Use 0) k lt e)
 
-  use_of : (home : Home) (n : ℕ) → HasName p home n → Uses (flow_of p) n (spot block place) → IsUsed p i home ⊎ IsUsedLate p i home
+  use_of : (home : Home) (n : ℕ) → HasName p home n → Uses (flow_of p) n (spot block place) → IsUsedBy p i home ⊎ IsUsedLateBy p i home
   use_of home n has (lt, (k, lt', used)) =
       elim used [
         | inl e ↦ inl (n, has, to_inst (touch.Use n) k lt' e)
         | inr e ↦ inr (n, has, to_inst (touch.LateUse n) k lt' e)
       ]
 
-  defined_of : (home : Home) (n : ℕ) → HasName p home n → Defines (flow_of p) n (spot block place) → IsDefined p i home
+  defined_of : (home : Home) (n : ℕ) → HasName p home n → Defines (flow_of p) n (spot block place) → IsDefinedBy p i home
   defined_of home n has (lt, (k, lt', e)) = (n, has, to_inst (touch.Def n) k lt' e)
 
-  of_defined : (home : Home) (n : ℕ) → HasName p home n → IsDefined p i home → Defines (flow_of p) n (spot block place)
+  of_defined : (home : Home) (n : ℕ) → HasName p home n → IsDefinedBy p i home → Defines (flow_of p) n (spot block place)
   of_defined home n has (m, named, c) =
       let e : name_of p.tmps home ≡ Some m = named.1 in
       let f : name_of p.tmps home ≡ Some n = has.1 in
       let same : m ≡ n = cc in
       to_place (λ (t : Touch). IsDefOf t n) (touch.Def m) (ap touch.Def same) c
 
-  live_by_use : (home : Home) → IsUsed p i home ⊎ IsUsedLate p i home → IsLive p (spot block place) home
+  live_by_use : (home : Home) → IsUsedBy p i home ⊎ IsUsedLateBy p i home → IsLive p (spot block place) home
   live_by_use home (inl (n, has, c)) =
       (n, has, record { path = []; is_path = tt; ends = to_place (λ (t : Touch). IsUseOf t n) (touch.Use n) (inl refl) c })
   live_by_use home (inr (n, has, c)) =
       (n, has, record { path = []; is_path = tt; ends = to_place (λ (t : Touch). IsUseOf t n) (touch.LateUse n) (inr refl) c })
 
-  live_by_after : (home : Home) → IsLiveAfter p (spot block place) home → (IsDefined p i home → ⊥) → IsLive p (spot block place) home
+  live_by_after : (home : Home) → IsLiveAfter p (spot block place) home → (IsDefinedBy p i home → ⊥) → IsLive p (spot block place) home
   live_by_after home (next, follows, (n, has, live)) none = (
     n,
     has,
@@ -78,13 +78,13 @@ module _ (p : AirProc) (block place : ℕ) (i : AirInst) (stands : StandsAt p bl
 
   touched : (home : Home) (n : ℕ) → HasName p home n → (path : List Place) → IsPath (flow_of p) (spot block place) path
       → EndsInUse (flow_of p) n (spot block place) path
-      → (IsUsed p i home ⊎ IsUsedLate p i home) ⊎ (IsLiveAfter p (spot block place) home × (IsDefined p i home → ⊥))
+      → (IsUsedBy p i home ⊎ IsUsedLateBy p i home) ⊎ (IsLiveAfter p (spot block place) home × (IsDefinedBy p i home → ⊥))
   touched home n has [] is_path ends = inl (use_of home n has ends)
   touched home n has (next ∷ rest) is_path ends =
       inr ((next, is_path.0, (n, has, record { path = rest; is_path = is_path.1; ends = ends.1 })), λ d. ends.0 (of_defined home n has d))
 
   pub live_by_touches : (home : Home) → IsLive p (spot block place) home
-      ↔ ((IsUsed p i home ⊎ IsUsedLate p i home) ⊎ (IsLiveAfter p (spot block place) home × (IsDefined p i home → ⊥)))
+      ↔ ((IsUsedBy p i home ⊎ IsUsedLateBy p i home) ⊎ (IsLiveAfter p (spot block place) home × (IsDefinedBy p i home → ⊥)))
   live_by_touches home = (
     λ live. touched home live.0 live.1 live.2.path live.2.is_path live.2.ends,
     λ by. elim by [ inl used ↦ live_by_use home used | inr after ↦ live_by_after home after.0 after.1 ],

@@ -12,7 +12,7 @@ use Rattle.air_ir.specs.declared.operand.Operand.{Operand}
 use Rattle.air_ir.specs.declared.operand.Role.TheVariants.{EarlyDef}
 use Rattle.air_ir.specs.declared.procedure.AirInst.{AirInst}
 use Rattle.air_ir.specs.declared.procedure.AirProc.{AirProc}
-use Rattle.air_flow.specs.Living.{IsDefined, IsLiveAfter, IsUsed, IsUsedLate}
+use Rattle.air_flow.specs.Living.{IsDefinedBy, IsLiveAfter, IsUsedBy, IsUsedLateBy}
 
 -- an instruction may write a home before it has read its uses
 abbrev pub IsEarly : AirInst → Home → Type 0
@@ -35,9 +35,9 @@ IsCopied i from to = (kind_of i.op ≡ Copies) × IsPair i.operands from to
 -- at an instruction a home is defined while another one is needed: the other is live after it and isn't what is
 -- copied there, it is used late, it is used and the first is defined early, or it is defined too
 abbrev pub Meets : AirProc → Place → AirInst → Home → Home → Type 0
-Meets p at i a b = IsDefined p i a
+Meets p at i a b = IsDefinedBy p i a
     × ((IsLiveAfter p at b × (IsCopied i b a → ⊥))
-    ⊎ (IsUsedLate p i b ⊎ ((IsEarly i a × IsUsed p i b) ⊎ IsDefined p i b)))
+    ⊎ (IsUsedLateBy p i b ⊎ ((IsEarly i a × IsUsedBy p i b) ⊎ IsDefinedBy p i b)))
 
 abbrev pub AreRegisters : Home → Home → Type 0
 AreRegisters a b = (r : Register) × (s : Register) × (a ≡ Reg r) × (b ≡ Reg s)

@@ -24,17 +24,17 @@ abbrev pub HasName : AirProc → Home → ℕ → Type 0
 HasName p home name = IsOf p home × (name_of p.tmps home ≡ Some name)
 
 -- an instruction touches a home in this way
-abbrev pub IsTouched : AirProc → (ℕ → Touch) → AirInst → Home → Type 0
-IsTouched p way i home = (name : ℕ) × HasName p home name × Contains (inst_touches p.tmps i) (way name)
+abbrev pub IsTouchedBy : AirProc → (ℕ → Touch) → AirInst → Home → Type 0
+IsTouchedBy p way i home = (name : ℕ) × HasName p home name × Contains (inst_touches p.tmps i) (way name)
 
-abbrev pub IsUsed : AirProc → AirInst → Home → Type 0
-IsUsed p i home = IsTouched p (λ name. touch.Use name) i home
+abbrev pub IsUsedBy : AirProc → AirInst → Home → Type 0
+IsUsedBy p i home = IsTouchedBy p (λ name. touch.Use name) i home
 
-abbrev pub IsUsedLate : AirProc → AirInst → Home → Type 0
-IsUsedLate p i home = IsTouched p (λ name. touch.LateUse name) i home
+abbrev pub IsUsedLateBy : AirProc → AirInst → Home → Type 0
+IsUsedLateBy p i home = IsTouchedBy p (λ name. touch.LateUse name) i home
 
-abbrev pub IsDefined : AirProc → AirInst → Home → Type 0
-IsDefined p i home = IsTouched p (λ name. touch.Def name) i home
+abbrev pub IsDefinedBy : AirProc → AirInst → Home → Type 0
+IsDefinedBy p i home = IsTouchedBy p (λ name. touch.Def name) i home
 
 -- ---- liveness
 
@@ -72,7 +72,7 @@ IsKeptAfter p at home = (next : Place) × Follows (flow_of p) at next × IsKept 
 abbrev pub LiveByTouches : Type 0
 LiveByTouches = (p : AirProc) (block place : ℕ) (i : AirInst) → StandsAt p block place i → (home : Home)
     → let at : Place = record { block = block; place = place } in
-    IsLive p at home ↔ ((IsUsed p i home ⊎ IsUsedLate p i home) ⊎ (IsLiveAfter p at home × (IsDefined p i home → ⊥)))
+    IsLive p at home ↔ ((IsUsedBy p i home ⊎ IsUsedLateBy p i home) ⊎ (IsLiveAfter p at home × (IsDefinedBy p i home → ⊥)))
 
 -- a home is live after an instruction exactly where it is live before the next one, or behind the last one where
 -- its name is live out of the block
