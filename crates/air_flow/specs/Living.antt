@@ -72,7 +72,8 @@ IsKeptAfter p at home = (next : Place) × Follows (flow_of p) at next × IsKept 
 abbrev pub LiveByTouches : Type 0
 LiveByTouches = (p : AirProc) (block place : ℕ) (i : AirInst) → StandsAt p block place i → (home : Home)
     → let at : Place = record { block = block; place = place } in
-    IsLive p at home ↔ ((IsUsedBy p i home ⊎ IsUsedLateBy p i home) ⊎ (IsLiveAfter p at home × (IsDefinedBy p i home → ⊥)))
+    IsLive p at home
+    ↔ ((IsUsedBy p i home ⊎ IsUsedLateBy p i home) ⊎ (IsLiveAfter p at home × (IsDefinedBy p i home → ⊥)))
 
 -- a home is live after an instruction exactly where it is live before the next one, or behind the last one where
 -- its name is live out of the block

@@ -12,7 +12,7 @@ use std::alloc::Global;
 /// A procedure of Air as liveness sees it. Its names are the temporaries by their numbers, and after them the
 /// registers x0 to x30; a spill place has no name. Its places are the instructions. An instruction touches the
 /// homes of each operand: a late use those of a LateUse operand, a use those of a Use operand and the base and
-/// index of an address, a definition the home of any other operand. Each call takes a fixed number of steps.
+/// index of any other, a definition the home of any other. Each call of `Flow` takes a fixed number of steps.
 #[derive(Drop)]
 pub struct AirFlow<'a> {
     /// The procedure.
