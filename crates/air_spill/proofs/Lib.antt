@@ -5,3 +5,4 @@ pub mod OpByOp
 pub mod Apart
 pub mod CopyForms
 pub mod SameRun
+pub mod Members

@@ -1,0 +1,18 @@
+use Rattle.std.proofs.Common.{◌≡◌, List, map, sym, ap, ◌∙◌, subst}
+use Rattle.air_ir.specs.Run.{HasSameBlocks}
+use Rattle.air_ir.specs.declared.procedure.AirBlock.{AirBlock}
+use Rattle.air_ir.specs.declared.procedure.AirProc.{AirProc}
+use Rattle.air_spill.specs.Rewritten.{home_by, rewritten, rewritten_block}
+use Rattle.air_spill.proofs.SameRun.{same_blocks}
+use Rattle.air_spill.proofs.procedure.rewrite.Goals as goal
+
+abbrev with_blocks : AirProc → List AirBlock → AirProc
+with_blocks p blocks = record { blocks = blocks; tmps = 0; slots = p.slots; returns = p.returns }
+
+pub returns-clause-is : goal.returns-clause-is
+returns-clause-is c =
+    ap (with_blocks c.args.p) (c.in_ok-rewritten_blocks.ensures ∙ ap (map (rewritten_block (home_by c.args.assignment.now))) c.as_slice.ensures)
+
+pub returns-clause-same : goal.returns-clause-same
+returns-clause-same c =
+    subst (HasSameBlocks c.args.p) (sym (returns-clause-is c)) (same_blocks c.args.p c.args.assignment.now c.requires.well c.requires.proper c.requires.named)
