@@ -6,3 +6,6 @@ pub mod Apart
 pub mod CopyForms
 pub mod SameRun
 pub mod Members
+pub mod Good
+pub mod Lighter
+pub mod SpillNames

@@ -36,19 +36,36 @@ module _ {A B : Type 0} (f : A → List B) where
         becomes = o.becomes;
       }
 
+  module _ (x : A) (xs : List A) (y : B) (rest : (j : ℕ) → slice_get (flat_map f xs) j ≡ Some y → Origin f xs j y) where
+    of_one : (z : B) → f x ≡ z ∷ [] → (k : ℕ) → slice_get (z ∷ flat_map f xs) k ≡ Some y → Origin f (x ∷ xs) k y
+    of_one z is zero e =
+        let same : z ≡ y = cc in
+        record { at = 0; from = x; there = refl; place = refl; becomes = is ∙ ap (λ (w : B). w ∷ []) same }
+    of_one z is (suc j) e =
+        let one : suc j ≡ 1 + j = omega arith in
+        later x xs (suc j) j y (rest j e) (one ∙ ap (λ (ys : List B). length ys + j) (sym is))
+
+    of_some : (ys : List B) → f x ≡ ys → length ys ≤ 1 → (k : ℕ) → slice_get (ys ++ flat_map f xs) k ≡ Some y → Origin f (x ∷ xs) k y
+    of_some [] is le k e =
+        let none : k ≡ 0 + k = omega arith in later x xs k k y (rest k e) (none ∙ ap (λ (ys : List B). length ys + k) (sym is))
+    of_some (z ∷ []) is le k e = of_one z is k e
+    of_some (z ∷ w ∷ ys) is le k e = absurd (omega (arith, le))
+
   pub origin : AtMostOne f → (xs : List A) (k : ℕ) (y : B) → slice_get (flat_map f xs) k ≡ Some y → Origin f xs k y
   origin few [] k y e = absurd (cc)
-  origin few (x ∷ xs) k y e = by (f x) refl (few x)
-    where
-      by : (ys : List B) → f x ≡ ys → length ys ≤ 1 → Origin f (x ∷ xs) k y
-      by [] is le =
-          let rest = origin few xs k y (ap (λ (ys : List B). slice_get (ys ++ flat_map f xs) k) (sym is) ∙ e) in
-          later x xs k k y rest (ap (λ (ys : List B). length ys + k) (sym is))
-      by (z ∷ []) is le = front z is k (ap (λ (ys : List B). slice_get (ys ++ flat_map f xs) k) (sym is) ∙ e)
-        where
-          front : (z : B) → f x ≡ z ∷ [] → (k : ℕ) → slice_get (z ∷ flat_map f xs) k ≡ Some y → Origin f (x ∷ xs) k y
-          front z is zero e = let same : z ≡ y = cc in record { at = 0; from = x; there = refl; place = refl; becomes = is ∙ ap (λ (w : B). w ∷ []) same }
-          front z is (suc j) e =
-              let rest = origin few xs j y e in
-              later x xs (suc j) j y rest (let one : suc j ≡ 1 + j = omega arith in one ∙ ap (λ (ys : List B). length ys + j) (sym is))
-      by (z ∷ w ∷ ys) is le = absurd (omega (arith, le))
+  origin few (x ∷ xs) k y e = of_some x xs y (λ j f. origin few xs j y f) (f x) refl (few x) k e
+
+-- an element of a list that each element was changed in
+pub unmapped : {A B : Type 0} (f : A → B) (xs : List A) (k : ℕ) (y : B) → slice_get (map f xs) k ≡ Some y → (x : A) × (slice_get xs k ≡ Some x) × (f x ≡ y)
+unmapped f [] k y e = absurd (cc)
+unmapped f (x ∷ xs) zero y e = (x, refl, cc)
+unmapped f (x ∷ xs) (suc k) y e = unmapped f xs k y e
+
+-- what holds of two lists holds of each
+pub all_left : {A : Type 0} (P : A → Type 0) (xs ys : List A) → All P (xs ++ ys) → All P xs
+all_left P [] ys all = All-nil P
+all_left P (x ∷ xs) ys all = All-cons P x xs (All-head P x (xs ++ ys) all) (all_left P xs ys (All-tail P x (xs ++ ys) all))
+
+pub all_right : {A : Type 0} (P : A → Type 0) (xs ys : List A) → All P (xs ++ ys) → All P ys
+all_right P [] ys all = all
+all_right P (x ∷ xs) ys all = all_right P xs ys (All-tail P x (xs ++ ys) all)

@@ -44,11 +44,11 @@ less_kept loc L M s t h r = record { homes = λ g m. r.homes g (h g m); world = 
 
 -- ---- one instruction
 
-rewritten-other : (loc : Home → Home) (i : AirInst) → is_copy i.op ≡ false → rewritten_inst loc i ≡ rename_inst loc i ∷ []
+pub rewritten-other : (loc : Home → Home) (i : AirInst) → is_copy i.op ≡ false → rewritten_inst loc i ≡ rename_inst loc i ∷ []
 unfolding rewritten_inst
 rewritten-other loc i e = ap (λ (b : Bool). if b then with_operands i (kept_operands loc i.operands) else rename_inst loc i ∷ []) e
 
-rewritten-copies : (loc : Home → Home) (i : AirInst) (cs : List Copy) → is_copy i.op ≡ true → i.operands ≡ copy_operands cs → rewritten_inst loc i ≡ copy_inst i (kept loc cs)
+pub rewritten-copies : (loc : Home → Home) (i : AirInst) (cs : List Copy) → is_copy i.op ≡ true → i.operands ≡ copy_operands cs → rewritten_inst loc i ≡ copy_inst i (kept loc cs)
 unfolding rewritten_inst
 rewritten-copies loc i cs e ops =
     ap (λ (b : Bool). if b then with_operands i (kept_operands loc i.operands) else rename_inst loc i ∷ []) e

@@ -3,6 +3,8 @@ use Rattle.air_ir.specs.Run.{HasSameBlocks}
 use Rattle.air_ir.specs.declared.procedure.AirBlock.{AirBlock}
 use Rattle.air_ir.specs.declared.procedure.AirProc.{AirProc}
 use Rattle.air_spill.specs.Rewritten.{home_by, rewritten, rewritten_block}
+use Rattle.air_ir.specs.WellFormed.{IsWellFormed}
+use Rattle.air_spill.proofs.Good.{well}
 use Rattle.air_spill.proofs.SameRun.{same_blocks}
 use Rattle.air_spill.proofs.procedure.rewrite.Goals as goal
 
@@ -16,3 +18,7 @@ returns-clause-is c =
 pub returns-clause-same : goal.returns-clause-same
 returns-clause-same c =
     subst (HasSameBlocks c.args.p) (sym (returns-clause-is c)) (same_blocks c.args.p c.args.assignment.now c.requires.well c.requires.proper c.requires.named)
+
+pub returns-clause-well : goal.returns-clause-well
+returns-clause-well c =
+    subst IsWellFormed (sym (returns-clause-is c)) (well c.args.p c.args.assignment.now c.requires.well c.requires.proper c.requires.named)
