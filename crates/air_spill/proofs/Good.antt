@@ -64,6 +64,13 @@ like_each loc i = by (is_copy i.op)
 
 -- ---- what operands name
 
+pub is_tmp : (p : AirProc) (role : Role) (k : ℕ) → MayName p role (Tmp k) → k < p.tmps
+is_tmp p Use k may = may
+is_tmp p LateUse k may = may
+is_tmp p Def k may = may
+is_tmp p EarlyDef k may = may
+is_tmp p Clobber k may = may
+
 module _ (p : AirProc) (a : Assignment) (proper : IsProper p a) where
   may_stand : (role : Role) (reg : Register) → IsAllocatable reg → MayName (rewritten p a) role (Reg reg)
   may_stand Use reg is = is
@@ -100,15 +107,8 @@ module _ (p : AirProc) (a : Assignment) (proper : IsProper p a) where
   may_spill EarlyDef n = tt
   may_spill Clobber n = tt
 
-  pub is_tmp : (role : Role) (k : ℕ) → MayName p role (Tmp k) → k < p.tmps
-  is_tmp Use k may = may
-  is_tmp LateUse k may = may
-  is_tmp Def k may = may
-  is_tmp EarlyDef k may = may
-  is_tmp Clobber k may = may
-
   may-renamed : (role : Role) (h : Home) → MayName p role h → MayName (rewritten p a) role (home_by a h)
-  may-renamed role (Tmp k) may = may_standing role k (slice_get a.homes k) (is_tmp role k may) refl
+  may-renamed role (Tmp k) may = may_standing role k (slice_get a.homes k) (is_tmp p role k may) refl
   may-renamed role (Reg reg) may = may_register role reg may
   may-renamed role (Spill n) may = may_spill role n
 

@@ -9,3 +9,4 @@ pub mod Members
 pub mod Good
 pub mod Lighter
 pub mod SpillNames
+pub mod Sites

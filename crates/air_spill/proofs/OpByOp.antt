@@ -10,7 +10,7 @@ use Rattle.air_ir.specs.declared.op.AirOp.TheVariants as op
 use Rattle.air_ir.specs.declared.operand.Home.{Home}
 use Rattle.air_ir.specs.declared.operand.Operand.{Operand}
 use Rattle.air_spill.specs.Rewritten.{is_copy}
-use Rattle.air_spill.proofs.Renamed.{FixesOthers, fits-renamed, all_fit-renamed, returned-renamed, call-renamed, renamed_site, at_site-renamed, listed-renamed, placed-renamed, these-renamed}
+use Rattle.air_spill.proofs.Renamed.{FixesOthers, fits-renamed, all_fit-renamed, returned-renamed, call-renamed, renamed_site, at_site-both, listed-renamed, placed-renamed, these-renamed}
 
 -- the ops that copy
 pub copying_op : (o : AirOp) → is_copy o ≡ true → (o ≡ op.Move) ⊎ (o ≡ op.Shuffle)
@@ -62,8 +62,8 @@ copying_op op.SlotAddress e = absurd (false≢true e)
 copying_op op.FramePointer e = absurd (false≢true e)
 
 module _ (loc : Home → Home) (fixes : FixesOthers loc) where
-  -- the parts of a site
-  pub site-renamed : (o : AirOp) (s : SiteOperands) → SiteFits o s → SiteFits o (renamed_site loc s)
+  -- the parts of a site; the registers that it changes stay
+  pub site-renamed : (o : AirOp) (s : SiteOperands) → SiteFits o s → SiteFits o (renamed_site loc s) × (map (rename loc) s.changed ≡ s.changed)
   site-renamed op.Move s fits = absurd fits
   site-renamed op.Shuffle s fits = absurd fits
   site-renamed op.Add s fits = absurd fits
@@ -97,22 +97,22 @@ module _ (loc : Home → Home) (fixes : FixesOthers loc) where
   site-renamed op.Store s fits = absurd fits
   site-renamed (op.SetIf test) s fits = absurd fits
   site-renamed (op.SelectIf test) s fits = absurd fits
-  site-renamed (op.CheckIf test) s fits = at_site-renamed loc fixes (test_takes test) false (λ width o. ⊥) (λ width o none. none) s fits
-  site-renamed op.CheckAdd s fits = at_site-renamed loc fixes two_homes true (λ width. Fits (Result width)) (λ width o. fits-renamed loc (Result width) o) s fits
-  site-renamed op.CheckSub s fits = at_site-renamed loc fixes two_homes true (λ width. Fits (Result width)) (λ width o. fits-renamed loc (Result width) o) s fits
-  site-renamed op.CheckMul s fits = at_site-renamed loc fixes two_homes true (λ width. Fits (Result width)) (λ width o. fits-renamed loc (Result width) o) s fits
+  site-renamed (op.CheckIf test) s fits = at_site-both loc fixes (test_takes test) false (λ width o. ⊥) (λ width o none. none) s fits
+  site-renamed op.CheckAdd s fits = at_site-both loc fixes two_homes true (λ width. Fits (Result width)) (λ width o. fits-renamed loc (Result width) o) s fits
+  site-renamed op.CheckSub s fits = at_site-both loc fixes two_homes true (λ width. Fits (Result width)) (λ width o. fits-renamed loc (Result width) o) s fits
+  site-renamed op.CheckMul s fits = at_site-both loc fixes two_homes true (λ width. Fits (Result width)) (λ width o. fits-renamed loc (Result width) o) s fits
   site-renamed (op.BranchIf test) s fits = absurd fits
   site-renamed op.Jump s fits = absurd fits
   site-renamed (op.Switch cases) s fits = absurd fits
   site-renamed (op.Call typed) s fits = absurd fits
-  site-renamed (op.Patch size typed) s fits = at_site-renamed loc fixes (λ width. []) typed IsPlacedResult (λ width o. placed-renamed loc fixes width o) s fits
+  site-renamed (op.Patch size typed) s fits = at_site-both loc fixes (λ width. []) typed IsPlacedResult (λ width o. placed-renamed loc fixes width o) s fits
   site-renamed op.Return s fits = absurd fits
   site-renamed op.Oops s fits = absurd fits
   site-renamed op.SlotAddress s fits = absurd fits
   site-renamed op.FramePointer s fits = absurd fits
 
   has_site-renamed : (o : AirOp) (os : List Operand) → HasSite o os → HasSite o (map (rename loc) os)
-  has_site-renamed o os has = (renamed_site loc has.0, listed-renamed loc os has.0 has.1, site-renamed o has.0 has.2)
+  has_site-renamed o os has = (renamed_site loc has.0, listed-renamed loc os has.0 has.1, (site-renamed o has.0 has.2).0)
 
   fixed-renamed : (o : AirOp) (os : List Operand) → ((width : Width) × (selected : Width) × AreThese (takes o width selected) os)
       → (width : Width) × (selected : Width) × AreThese (takes o width selected) (map (rename loc) os)

@@ -1,6 +1,6 @@
 -- Operands by other homes are what the operands were, where registers and spill places stay.
 use Rattle.std.proofs.Common.{◌≡◌, ℕ, ◌+◌, ◌⊎◌, inl, inr, Bool, true, false, if◌then◌else◌, Option, Some, None, List, [], ◌∷◌, ◌++◌, map, drop, length, All, ◌-◌, nat_lt, refl, sym, ap, ◌∙◌, subst}
-use Rattle.std.proofs.lemmas.List.Elements.{All-map, All-weaker}
+use Rattle.std.proofs.lemmas.List.Elements.{All-head, All-map, All-tail, All-weaker}
 use Rattle.b3_base.specs.declared.word.Width.{Width}
 use Rattle.b3_base.specs.declared.word.Width.TheVariants.{W64}
 use Rattle.stackmap.specs.declared.site.Returns.{Returns}
@@ -122,7 +122,7 @@ module _ (loc : Home → Home) (fixes : FixesOthers loc) where
   one-renamed false Is [] h is = is
   one-renamed false Is (o ∷ os) h is = is
 
-  pub at_site-renamed : (computed : Width → List Takes) (typed : Bool) (IsResult : Width → Operand → Type 0)
+  at_site-renamed : (computed : Width → List Takes) (typed : Bool) (IsResult : Width → Operand → Type 0)
       → ((width : Width) (o : Operand) → IsResult width o → IsResult width (rename loc o))
       → (s : SiteOperands) → AtSite computed typed IsResult s → AtSite computed typed IsResult (renamed_site loc s)
   at_site-renamed computed typed IsResult h s at = record {
@@ -134,6 +134,18 @@ module _ (loc : Home → Home) (fixes : FixesOthers loc) where
     (All-weaker IsChanged (λ o. IsChanged (rename loc o)) changed-renamed s.changed at.changes);
     result = one-renamed typed (IsResult at.width) s.results (h at.width) at.result;
   }
+
+  all_changed-stay : (os : List Operand) → All IsChanged os → map (rename loc) os ≡ os
+  all_changed-stay [] all = refl
+  all_changed-stay (o ∷ os) all =
+      ap (λ (x : Operand). x ∷ map (rename loc) os) (changed-stays o (All-head IsChanged o os all))
+      ∙ ap (λ (l : List Operand). o ∷ l) (all_changed-stay os (All-tail IsChanged o os all))
+
+  pub at_site-both : (computed : Width → List Takes) (typed : Bool) (IsResult : Width → Operand → Type 0)
+      → ((width : Width) (o : Operand) → IsResult width o → IsResult width (rename loc o))
+      → (s : SiteOperands) → AtSite computed typed IsResult s → AtSite computed typed IsResult (renamed_site loc s) × (map (rename loc) s.changed ≡ s.changed)
+  at_site-both computed typed IsResult h s at =
+      (at_site-renamed computed typed IsResult h s at, all_changed-stay s.changed at.changes)
 
   -- ---- calls and returns
 
