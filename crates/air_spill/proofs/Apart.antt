@@ -1,5 +1,5 @@
 -- By a proper assignment, what an instruction writes becomes no other home that is kept.
-use Rattle.std.proofs.Common.{◌≡◌, ◌≢◌, ℕ, ◌+◌, ◌⊎◌, inl, inr, Option, Some, None, List, [], ◌∷◌, All, refl, sym, ap, ◌∙◌, subst}
+use Rattle.std.proofs.Common.{◌≡◌, ◌≢◌, ℕ, ◌+◌, inl, inr, Some, List, [], ◌∷◌, All, refl, sym, subst}
 use Rattle.std.proofs.lemmas.List.Elements.{All-head, All-tail}
 use Rattle.flow_live.specs.Graph.{Place}
 use Rattle.flow_live.specs.declared.touch.Touch.TheVariants as touch
@@ -19,8 +19,8 @@ use Rattle.air_ir.specs.declared.procedure.AirBlock.{AirBlock}
 use Rattle.air_ir.specs.declared.procedure.AirInst.{AirInst}
 use Rattle.air_ir.specs.declared.procedure.AirProc.{AirProc}
 use Rattle.air_flow.specs.Flow.{touches_of}
-use Rattle.air_flow.specs.Interfere.{Interfere, IsCopied, IsPair}
-use Rattle.air_flow.specs.Living.{IsDefinedBy, IsKept, IsKeptAfter, IsNamedIn, IsOf}
+use Rattle.air_flow.specs.Interfere.{IsCopied, IsPair}
+use Rattle.air_flow.specs.Living.{IsDefinedBy, IsKept, IsKeptAfter, IsNamedIn}
 use Rattle.air_flow.specs.Proper.{IsProper, register_of}
 use Rattle.air_flow.proofs.Among.{contains_among}
 use Rattle.air_flow.proofs.Apart.{writes_apart}
@@ -28,7 +28,7 @@ use Rattle.air_flow.proofs.Lives.{spot}
 use Rattle.air_flow.proofs.Names.{all_at, named_of, owns_of}
 use Rattle.air_flow.proofs.Touching.{target_is_defined, target_is_named}
 use Rattle.air_spill.specs.Rewritten.{first_spill, home_by}
-use Rattle.air_spill.proofs.Places.{InOneRegister, become_one}
+use Rattle.air_spill.proofs.Places.{become_one}
 
 -- ---- spill places that are named
 
@@ -108,11 +108,11 @@ module _ (p : AirProc) (a : Assignment) (good : IsWellFormed p) (proper : IsProp
           apart c.to y (w c.to (inl refl)) kept ne (λ copied.
           elim (whole y c.to (inl refl) copied.1) [ inl pair ↦ other pair.0 | inr pair ↦ differ.0 (pair_to y c.to cs pair) ]),
       are_fine cs differ.1
-      (λ from to t pair. elim (whole from to (inr t) pair) [
-        | inl here ↦ absurd (differ.0 (let same : c.to ≡ to = cc in subst (λ (x : Home). IsTarget x (targets (copy_operands cs))) (sym same) t))
-        | inr there ↦ there
-      ])
-      (λ to t. w to (inr t)),
+          (λ from to t pair. elim (whole from to (inr t) pair) [
+            | inl here ↦ absurd (differ.0 (let same : c.to ≡ to = cc in subst (λ (x : Home). IsTarget x (targets (copy_operands cs))) (sym same) t))
+            | inr there ↦ there
+          ])
+          (λ to t. w to (inr t)),
     )
 
     -- two homes that are written stand apart

@@ -1,9 +1,9 @@
 -- The operands of a Move or a Shuffle, as copies whose destinations differ.
-use Rattle.std.proofs.Common.{◌≡◌, ◌≢◌, ℕ, zero, suc, ◌<◌, ◌⊎◌, inl, inr, true, false, List, [], ◌∷◌, length, get_or, AllPairs, refl, sym, ap, ◌∙◌, subst, arith}
+use Rattle.std.proofs.Common.{◌≡◌, ℕ, suc, ◌<◌, inl, inr, true, List, [], ◌∷◌, length, get_or, sym, ap, subst, arith}
 use Rattle.b3_base.specs.declared.word.Width.{Width}
 use Rattle.stackmap.specs.declared.site.Returns.{Returns}
 use Rattle.air_ir.specs.Forms.{AllFit, AnyWord, ArePairs, HasOperands, Result, Word, WritesApart}
-use Rattle.air_ir.specs.Kinds.{Kind, Copies, kind_of}
+use Rattle.air_ir.specs.Kinds.{Copies, kind_of}
 use Rattle.air_ir.specs.Operands.{Target, targets}
 use Rattle.air_ir.specs.Related.{IsTarget}
 use Rattle.air_ir.specs.Renaming.{Copy, copy_operands}

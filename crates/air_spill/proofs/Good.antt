@@ -1,18 +1,17 @@
 -- What a well-formed procedure is rewritten to is well formed.
-use Rattle.std.proofs.Common.{◌≡◌, ◌≢◌, ℕ, zero, suc, ◌+◌, ◌<◌, ◌≤◌, ◌⊎◌, inl, inr, Bool, true, false, if◌then◌else◌, Option, Some, None, List, [], ◌∷◌, ◌++◌, map, length, get_or, flat_map, All, AllPairs, refl, sym, ap, ◌∙◌, subst, arith}
+use Rattle.std.proofs.Common.{◌≡◌, ◌≢◌, ℕ, zero, suc, ◌+◌, ◌<◌, inl, inr, Bool, true, false, if◌then◌else◌, Option, Some, None, List, [], ◌∷◌, ◌++◌, map, length, get_or, flat_map, All, refl, sym, ap, ◌∙◌, subst, arith}
 use Rattle.std.specs.Prelude.{slice_get}
-use Rattle.std.proofs.lemmas.Bool.{cases_Bool, false≢true}
+use Rattle.std.proofs.lemmas.Bool.{cases_Bool}
 use Rattle.std.proofs.lemmas.Grind.{flat_map-append}
 use Rattle.std.proofs.lemmas.List.{length-map}
-use Rattle.std.proofs.lemmas.List.Elements.{All-cons, All-from_get_or, All-map, All-nil, All-weaker}
+use Rattle.std.proofs.lemmas.List.Elements.{All-cons, All-map, All-nil, All-weaker}
 use Rattle.std.proofs.lemmas.List.Kept.{AllPairs-cons}
-use Rattle.std.proofs.lemmas.Option.{get_or_from_slice_get, slice_get-get_or}
+use Rattle.std.proofs.lemmas.Option.{slice_get-get_or}
 use Rattle.b3_base.specs.declared.word.Width.{Width}
 use Rattle.b3_ir.specs.declared.value.Reg.{Reg as Register}
 use Rattle.stackmap.specs.Rules.{IsAllocatable}
-use Rattle.stackmap.specs.declared.site.Returns.{Returns}
-use Rattle.air_ir.specs.Forms.{AllFit, AnyWord, ArePairs, Fits, HasOperands, Result, Word, WritesApart}
-use Rattle.air_ir.specs.Kinds.{kind_of, target_count, targets_by}
+use Rattle.air_ir.specs.Forms.{AllFit, AnyWord, ArePairs, HasOperands, Result, Word, WritesApart}
+use Rattle.air_ir.specs.Kinds.{target_count, targets_by}
 use Rattle.air_ir.specs.Operands.{Target, targets}
 use Rattle.air_ir.specs.Related.{IsTarget}
 use Rattle.air_ir.specs.Renaming.{Copy, copy_inst, copy_operands, is_joined, kept, rename, rename_arg, rename_copy, rename_inst, source, destination}
@@ -317,7 +316,7 @@ module _ (p : AirProc) (a : Assignment) (good : IsWellFormed p) (proper : IsProp
       inner = inner_after;
       ends = was_good.ends;
       targets = All-weaker (λ (target : ℕ). (0 < target) × (target < length p.blocks)) (λ (target : ℕ). (0 < target) × (target < length (rewritten p a).blocks))
-      (λ target in_range. (in_range.0, omega (arith, in_range.1, length-map p.blocks (rewritten_block (home_by a))))) of.targets was_good.targets;
+          (λ target in_range. (in_range.0, omega (arith, in_range.1, length-map p.blocks (rewritten_block (home_by a))))) of.targets was_good.targets;
       insts = insts_after;
     }
 
@@ -325,5 +324,5 @@ module _ (p : AirProc) (a : Assignment) (good : IsWellFormed p) (proper : IsProp
   well = record {
     entry = omega (arith, good.entry, length-map p.blocks (rewritten_block (home_by a)));
     blocks = All-map (IsGoodBlock (rewritten p a)) (rewritten_block (home_by a)) p.blocks
-    (λ k d lt. block_good k (get_or p.blocks k d) (slice_get-get_or p.blocks k d lt));
+        (λ k d lt. block_good k (get_or p.blocks k d) (slice_get-get_or p.blocks k d lt));
   }

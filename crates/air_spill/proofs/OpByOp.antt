@@ -1,9 +1,9 @@
 -- The operands of each op by other homes, op for op.
-use Rattle.std.proofs.Common.{◌≡◌, ◌⊎◌, inl, inr, true, false, Option, Some, None, List, [], ◌∷◌, map, refl}
+use Rattle.std.proofs.Common.{◌≡◌, ◌⊎◌, inl, inr, true, false, List, [], ◌∷◌, map, refl}
 use Rattle.std.proofs.lemmas.Bool.{false≢true}
 use Rattle.b3_base.specs.declared.word.Width.{Width}
 use Rattle.stackmap.specs.declared.site.Returns.{Returns}
-use Rattle.air_ir.specs.Forms.{AreThese, AtSite, Fits, HasOperands, HasSite, IsPlacedResult, OfCall, Result, SiteFits, SiteOperands, home, listed, takes, test_takes, two_homes}
+use Rattle.air_ir.specs.Forms.{AreThese, Fits, HasOperands, HasSite, IsPlacedResult, Result, SiteFits, SiteOperands, home, takes, test_takes, two_homes}
 use Rattle.air_ir.specs.Renaming.{rename}
 use Rattle.air_ir.specs.declared.op.AirOp.{AirOp}
 use Rattle.air_ir.specs.declared.op.AirOp.TheVariants as op

@@ -1,19 +1,19 @@
 -- Operands by other homes are what the operands were, where registers and spill places stay.
-use Rattle.std.proofs.Common.{◌≡◌, ℕ, ◌+◌, ◌⊎◌, inl, inr, Bool, true, false, if◌then◌else◌, Option, Some, None, List, [], ◌∷◌, ◌++◌, map, drop, length, All, ◌-◌, nat_lt, refl, sym, ap, ◌∙◌, subst}
+use Rattle.std.proofs.Common.{◌≡◌, ℕ, ◌+◌, inl, inr, Bool, true, false, if◌then◌else◌, Option, Some, None, List, [], ◌∷◌, ◌++◌, map, drop, All, ◌-◌, nat_lt, refl, sym, ap, ◌∙◌, subst}
 use Rattle.std.proofs.lemmas.List.Elements.{All-head, All-map, All-tail, All-weaker}
 use Rattle.b3_base.specs.declared.word.Width.{Width}
 use Rattle.b3_base.specs.declared.word.Width.TheVariants.{W64}
 use Rattle.stackmap.specs.declared.site.Returns.{Returns}
 use Rattle.stackmap.specs.declared.site.Returns.TheVariants as returns
-use Rattle.air_ir.specs.Forms.{AllFit, AreThese, AtSite, Fits, AnyWord, Immediates, IsAddress, IsChanged, IsHome, IsPlacedResult, IsReported, IsSlot, IsWord, OfCall, OneIs, SiteOperands, Takes, Word, BitOf, Address, Slot, Result, argument_home, arguments_from, call_clobbers, home, listed, operand_in, register, returned, spills_changed}
+use Rattle.air_ir.specs.Forms.{AllFit, AreThese, AtSite, Fits, AnyWord, Immediates, IsAddress, IsChanged, IsHome, IsPlacedResult, IsReported, IsSlot, IsWord, OfCall, OneIs, SiteOperands, Takes, Word, BitOf, Address, Slot, Result, argument_home, arguments_from, call_clobbers, home, listed, operand_in, returned, spills_changed}
 use Rattle.air_ir.specs.Renaming.{rename, rename_arg}
 use Rattle.air_ir.specs.declared.operand.Arg.{Arg}
 use Rattle.air_ir.specs.declared.operand.Arg.TheVariants.{At, Imm, Addr, Index, FrameSlot}
 use Rattle.air_ir.specs.declared.operand.Home.{Home}
-use Rattle.air_ir.specs.declared.operand.Home.TheVariants.{Tmp, Reg, Spill}
+use Rattle.air_ir.specs.declared.operand.Home.TheVariants.{Reg, Spill}
 use Rattle.air_ir.specs.declared.operand.Operand.{Operand}
 use Rattle.air_ir.specs.declared.operand.Role.{Role}
-use Rattle.air_ir.specs.declared.operand.Role.TheVariants.{Use, LateUse, EarlyDef, Def, Clobber}
+use Rattle.air_ir.specs.declared.operand.Role.TheVariants.{Use, EarlyDef, Def, Clobber}
 use Rattle.b3_ir.specs.declared.value.Reg.{Reg as Register}
 
 -- registers and spill places stay
@@ -129,9 +129,9 @@ module _ (loc : Home → Home) (fixes : FixesOthers loc) where
     width = at.width;
     fits = all_fit-renamed loc (computed at.width) s.inputs at.fits;
     reports = All-map IsReported (rename loc) s.reported
-    (All-weaker IsReported (λ o. IsReported (rename loc o)) (reported-renamed loc) s.reported at.reports);
+        (All-weaker IsReported (λ o. IsReported (rename loc o)) (reported-renamed loc) s.reported at.reports);
     changes = All-map IsChanged (rename loc) s.changed
-    (All-weaker IsChanged (λ o. IsChanged (rename loc o)) changed-renamed s.changed at.changes);
+        (All-weaker IsChanged (λ o. IsChanged (rename loc o)) changed-renamed s.changed at.changes);
     result = one-renamed typed (IsResult at.width) s.results (h at.width) at.result;
   }
 

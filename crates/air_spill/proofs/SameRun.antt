@@ -1,19 +1,17 @@
 -- A procedure and what it is rewritten to have the same blocks.
-use Rattle.std.proofs.Common.{◌≡◌, ℕ, zero, suc, ◌+◌, ◌<◌, ◌⊎◌, inl, inr, Option, Some, None, Bool, true, false, if◌then◌else◌, List, [], ◌∷◌, map, length, get_or, flat_map, refl, sym, ap, ◌∙◌, subst, arith, All}
+use Rattle.std.proofs.Common.{◌≡◌, ℕ, zero, suc, ◌+◌, ◌<◌, inl, inr, Some, Bool, true, false, if◌then◌else◌, List, [], ◌∷◌, length, flat_map, refl, sym, ap, ◌∙◌, subst, arith}
 use Rattle.std.specs.Prelude.{slice_get}
 use Rattle.std.proofs.lemmas.Bool.{cases_Bool, false≢true}
 use Rattle.std.proofs.lemmas.List.{get_or-map}
-use Rattle.std.proofs.lemmas.Option.{get_or_from_slice_get, slice_get-get_or, slice_get_within}
+use Rattle.std.proofs.lemmas.Option.{slice_get-get_or, slice_get_within}
 use Rattle.b3_base.specs.Observed.{Answer, Start}
-use Rattle.air_ir.specs.Blocks.{Config, At, block_of, block_step, left}
-use Rattle.air_ir.specs.Forms.{ArePairs, HasOperands, WritesApart}
-use Rattle.air_ir.specs.Kinds.{Copies, kind_of}
-use Rattle.air_ir.specs.Meaning.{Exit, To, meaning, operation}
-use Rattle.air_ir.specs.Operands.{Empty, targets}
+use Rattle.air_ir.specs.Blocks.{At, block_of, block_step, left}
+use Rattle.air_ir.specs.Meaning.{To, meaning, operation}
+use Rattle.air_ir.specs.Operands.{targets}
 use Rattle.air_ir.specs.Related.{Alike, Flows, IsRelated, IsTarget, Refines, StepsAlike}
 use Rattle.air_ir.specs.Renaming.{Copy, copy_inst, copy_operands, kept, rename_inst}
 use Rattle.air_ir.specs.Run.{HasSameBlocks, first, first_homes}
-use Rattle.air_ir.specs.Steps.{Outcome, State, step, steps}
+use Rattle.air_ir.specs.Steps.{State, step, steps}
 use Rattle.air_ir.specs.WellFormed.{IsGoodBlock, IsGoodInst, IsWellFormed, NamesSpillsBelow, StandsAt}
 use Rattle.air_ir.specs.declared.assignment.Assignment.{Assignment}
 use Rattle.air_ir.specs.declared.operand.Home.{Home}
@@ -29,11 +27,11 @@ use Rattle.air_ir.proofs.Meanings.{copying}
 use Rattle.air_ir.proofs.SameRuns.{ConfigsAlike, left-alike, same_runs}
 use Rattle.air_ir.proofs.Stepping.{step-related, steps-one, steps-related}
 use Rattle.air_flow.specs.Interfere.{IsPair}
-use Rattle.air_flow.specs.Living.{IsKept, IsKeptAfter, KeepsOn}
+use Rattle.air_flow.specs.Living.{IsKept, IsKeptAfter}
 use Rattle.air_flow.specs.Proper.{IsProper}
 use Rattle.air_flow.proofs.Kept.{keep_on, keep_uses}
 use Rattle.air_flow.proofs.Lives.{spot}
-use Rattle.air_flow.proofs.Names.{all_at, block_is}
+use Rattle.air_flow.proofs.Names.{all_at}
 use Rattle.air_spill.specs.Rewritten.{first_spill, home_by, is_copy, kept_operands, rewritten, rewritten_block, rewritten_inst, with_operands}
 use Rattle.air_spill.proofs.Apart.{is_apart, are_fine}
 use Rattle.air_spill.proofs.CopyForms.{CopyForm, copy_form, copy_kind, is_copy-kind}
@@ -122,8 +120,7 @@ module _ (p : AirProc) (a : Assignment) (good : IsWellFormed p) (proper : IsProp
     unfolding Here Within At_block
     onward k i j c s t is goes target r =
         let last : suc k ≡ length of.insts = leaves_last p of good_block k i j is goes in
-        let there_too : (0 < c) × (c < length p.blocks) = all_at (λ (target : ℕ). (0 < target) × (target < length p.blocks)) of.targets j c good_block.targets target in
-        (
+        let there_too : (0 < c) × (c < length p.blocks) = all_at (λ (target : ℕ). (0 < target) × (target < length p.blocks)) of.targets j c good_block.targets target in (
           there_too.1,
           less_kept (home_by a) (Here b (suc k)) (IsKept p (spot c 0)) s t
               (λ h kept. (keep_on p b k of there).target h j c (omega (arith, last)) target kept) r,

@@ -1,7 +1,7 @@
 -- The sites of a rewritten procedure come from those that it had.
-use Rattle.std.proofs.Common.{◌≡◌, ℕ, ◌+◌, ◌<◌, ◌≤◌, ◌↔◌, inl, inr, Bool, true, false, if◌then◌else◌, Option, Some, None, List, [], ◌∷◌, ◌++◌, map, take, get_or, length, flat_map, All, Contains, refl, sym, ap, ◌∙◌, subst, arith}
+use Rattle.std.proofs.Common.{◌≡◌, ℕ, ◌<◌, ◌≤◌, ◌↔◌, inl, inr, Bool, true, false, if◌then◌else◌, Option, Some, None, List, [], ◌∷◌, ◌++◌, map, take, length, flat_map, All, Contains, refl, sym, ap, ◌∙◌, subst, arith}
 use Rattle.std.specs.Prelude.{slice_get}
-use Rattle.std.proofs.lemmas.Bool.{cases_Bool, false≢true}
+use Rattle.std.proofs.lemmas.Bool.{cases_Bool}
 use Rattle.std.proofs.lemmas.List.{length-map}
 use Rattle.std.proofs.lemmas.Option.{slice_get-get_or}
 use Rattle.std.proofs.lemmas.List.Elements.{All-head}
@@ -12,7 +12,6 @@ use Rattle.b3_ir.specs.declared.value.Reg.{Reg as Register}
 use Rattle.b3_ir.specs.declared.value.Stackmap.{Stackmap}
 use Rattle.b3_ir.specs.declared.value.Value.{Value}
 use Rattle.stackmap.specs.Placing.{register_for, result_register}
-use Rattle.stackmap.specs.Rules.{IsAllocatable}
 use Rattle.air_ir.specs.Expressed.{IsChild, IsExpressed, IsExpressedInPlaces, IsOpOf, IsPlace, IsTemporary, StandsAnywhere, StandsBy, result_in}
 use Rattle.air_ir.specs.Forms.{SiteOperands, listed, operand_in}
 use Rattle.air_ir.specs.Kinds.{kind_of, makes_site}
@@ -20,7 +19,6 @@ use Rattle.air_ir.specs.Renaming.{rename, rename_arg, rename_inst}
 use Rattle.air_ir.specs.WellFormed.{HasOneSiteEach, IsGoodBlock, IsGoodInst, IsWellFormed, NamesOwn, StandsAt}
 use Rattle.air_ir.specs.declared.assignment.Assignment.{Assignment}
 use Rattle.air_ir.specs.declared.op.AirOp.{AirOp}
-use Rattle.air_ir.specs.declared.op.AirOp.TheVariants as op
 use Rattle.air_ir.specs.declared.operand.Arg.{Arg}
 use Rattle.air_ir.specs.declared.operand.Arg.TheVariants.{At, Imm, Addr, Index, FrameSlot}
 use Rattle.air_ir.specs.declared.operand.Home.{Home}
@@ -70,7 +68,7 @@ module _ (p : AirProc) (a : Assignment) where
         of = was.0;
         there = was.1;
         at = origin (rewritten_inst (home_by a)) (at_most_one (home_by a)) was.0.insts place j
-        (ap (λ (b : AirBlock). slice_get b.insts place) was.2 ∙ at.inst_there);
+            (ap (λ (b : AirBlock). slice_get b.insts place) was.2 ∙ at.inst_there);
       }
 
   stood : (block place : ℕ) (j : AirInst) (f : From block place j) → StandsAt p block f.at.at f.at.from
@@ -198,8 +196,7 @@ module _ (p : AirProc) (a : Assignment) (proper : IsProper p a) where
   pub comes_from_each : IsWellFormed p → ComesFromEach p (rewritten p a)
   comes_from_each good block place j at =
       let f = from p a block place j at in
-      let was = stood p a block place j f in
-      (
+      let was = stood p a block place j f in (
         f.at.at,
         f.at.from,
         was,

@@ -3,5 +3,7 @@
 
 mod operands;
 mod procedure;
+#[cfg(test)]
+mod tests;
 
 pub use procedure::rewrite;

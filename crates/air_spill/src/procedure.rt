@@ -76,7 +76,7 @@ fn rewritten_block(
 }
 
 /// The blocks by other homes. It is refused for want of memory alone.
-fn rewritten_blocks(
+pub(crate) fn rewritten_blocks(
     alloc: Global,
     blocks: &[AirBlock],
     assignment: &Assignment,

@@ -1,4 +1,4 @@
-use Rattle.std.proofs.Common.{◌≡◌, ℕ, ◌∙◌, sym, ap, subst, ◌++◌, ◌∷◌, [], List, drop, ◌+◌, ◌*◌}
+use Rattle.std.proofs.Common.{◌≡◌, ◌∙◌, sym, ap, subst, ◌++◌, ◌∷◌, [], List, drop, ◌+◌, ◌*◌}
 use Rattle.air_ir.specs.declared.operand.Operand.{Operand}
 use Rattle.air_spill.specs.Rewritten.{home_by, kept_operands}
 use Rattle.air_spill.proofs.KeptPairs.{kept_joined, kept_pushed, kept_all}

@@ -1,8 +1,8 @@
-use Rattle.std.proofs.Common.{◌≡◌, List, map, ◌+◌, ◌≤◌, sym, ap, ◌∙◌, subst}
+use Rattle.std.proofs.Common.{List, map, ◌+◌, ◌≤◌, sym, ap, ◌∙◌, subst}
 use Rattle.air_ir.specs.Run.{HasSameBlocks}
 use Rattle.air_ir.specs.declared.procedure.AirBlock.{AirBlock}
 use Rattle.air_ir.specs.declared.procedure.AirProc.{AirProc}
-use Rattle.air_spill.specs.Rewritten.{home_by, rewritten, rewritten_block}
+use Rattle.air_spill.specs.Rewritten.{home_by, rewritten_block}
 use Rattle.air_spill.specs.Stays.{ComesFromEach}
 use Rattle.air_ir.specs.Weight.{weight}
 use Rattle.air_ir.specs.WellFormed.{HasOneSiteEach, IsWellFormed, NamesSpillsBelow}
