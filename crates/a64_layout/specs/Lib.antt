@@ -1,0 +1,5 @@
+pub mod Branch
+pub mod Layout
+pub mod Text
+pub mod Passes
+pub mod Checked
