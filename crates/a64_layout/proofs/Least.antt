@@ -20,7 +20,7 @@ some_reach (Holds cond) = omega arith
 some_reach (Zero width nonzero reg) = omega arith
 some_reach (Bit nonzero reg at) = omega arith
 
-abbrev one_or_two : Bool → ℕ
+abbrev pub one_or_two : Bool → ℕ
 one_or_two long = if long then 2 else 1
 
 -- the words of a conditional item
@@ -46,7 +46,7 @@ branch_or_none : (o : Option (Test × ℕ)) → ((b : Test × ℕ) × (o ≡ Som
 branch_or_none None = inr refl
 branch_or_none (Some b) = inl (b, refl)
 
-no_some : (b : Test × ℕ) → branch_in None ≡ Some b → ⊥
+pub no_some : (b : Test × ℕ) → branch_in None ≡ Some b → ⊥
 no_some b is = cc
 
 -- past the last item there is no branch

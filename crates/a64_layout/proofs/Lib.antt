@@ -6,3 +6,7 @@ pub mod Back
 pub mod Forward
 pub mod Words
 pub mod Counting
+pub mod Checking
+pub mod WordAt
+pub mod Marked
+pub mod Simulation

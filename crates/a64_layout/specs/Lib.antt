@@ -3,3 +3,4 @@ pub mod Layout
 pub mod Text
 pub mod Passes
 pub mod Checked
+pub mod Run

@@ -4,6 +4,8 @@
 mod branch;
 mod layout;
 mod places;
+#[cfg(test)]
+mod tests;
 mod text;
 
 pub use branch::Test;
