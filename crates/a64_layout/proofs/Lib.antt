@@ -10,3 +10,4 @@ pub mod Checking
 pub mod WordAt
 pub mod Marked
 pub mod Simulation
+pub mod Stepping

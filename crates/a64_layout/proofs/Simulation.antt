@@ -212,7 +212,7 @@ module _ {W E C : Type 0} (m : Meaning W E) (items : List Item) (good : IsWellLa
   no_word_step a x c is free alike = (
     λ i lt. absurd (omega arith),
     subst (λ n. IsAlike words Stands IsOver items long (item_step m items a) (iterate step n c)) (sym free)
-    (subst (IsAlike words Stands IsOver items long (item_step m items a)) (sym (iterate-zero step c)) (subst (λ z. IsAlike words Stands IsOver items long z c) (sym is) alike)),
+        (subst (IsAlike words Stands IsOver items long (item_step m items a)) (sym (iterate-zero step c)) (subst (λ z. IsAlike words Stands IsOver items long z c) (sym is) alike)),
   )
 
   first_at : (a : Config W E) (c : C) (i : ℕ) → i ≡ 0 → IsAlike words Stands IsOver items long a c → IsAt words Stands IsOver items long i a (iterate step i c)
@@ -222,7 +222,7 @@ module _ {W E C : Type 0} (m : Meaning W E) (items : List Item) (good : IsWellLa
   one_word_step a x c is one before alike = (
     λ i lt. first_at a c i (omega arith) before,
     subst (λ n. IsAlike words Stands IsOver items long (item_step m items a) (iterate step n c)) (sym one)
-    (subst (IsAlike words Stands IsOver items long (item_step m items a)) (sym (iterate-one step c)) (subst (λ z. IsAlike words Stands IsOver items long z (step c)) (sym is) alike)),
+        (subst (IsAlike words Stands IsOver items long (item_step m items a)) (sym (iterate-one step c)) (subst (λ z. IsAlike words Stands IsOver items long z (step c)) (sym is) alike)),
   )
 
   two_word_step : (a x : Config W E) (c : C) → item_step m items a ≡ x → cost m items long a ≡ 2 → IsAlike words Stands IsOver items long a c → IsAt words Stands IsOver items long 1 a (step c) → IsAlike words Stands IsOver items long x (step (step c)) → IsStep a c
@@ -235,7 +235,7 @@ module _ {W E C : Type 0} (m : Meaning W E) (items : List Item) (good : IsWellLa
         subst (λ n. IsAt words Stands IsOver items long n a (iterate step n c)) (sym e) (subst (IsAt words Stands IsOver items long 1 a) (sym (iterate-one step c)) between))
         (cases_lt i 1),
     subst (λ n. IsAlike words Stands IsOver items long (item_step m items a) (iterate step n c)) (sym two)
-    (subst (IsAlike words Stands IsOver items long (item_step m items a)) (sym (iterate-suc step 1 c ∙ iterate-one step (step c))) (subst (λ z. IsAlike words Stands IsOver items long z (step (step c))) (sym is) alike)),
+        (subst (IsAlike words Stands IsOver items long (item_step m items a)) (sym (iterate-suc step 1 c ∙ iterate-one step (step c))) (subst (λ z. IsAlike words Stands IsOver items long z (step (step c))) (sym is) alike)),
   )
 
   -- ---- where things stand
@@ -269,7 +269,7 @@ module _ {W E C : Type 0} (m : Meaning W E) (items : List Item) (good : IsWellLa
   alike_if false s k l from to c e f at = alike_at l to s c f at
 
   -- ---- instructions and jumps
-  alike_after : (k : ℕ) (inst : Inst) (s : W) (o : Outcome W E) (c : C) → slice_get items k ≡ Some (Plain inst) → m.does (mark_before items k) inst s ≡ o → HasDone words Stands IsOver (place items long k) o c → IsAlike words Stands IsOver items long (after k o) c
+  alike_after : (k : ℕ) (inst : Inst) (s : W) (o : Outcome W E) (c : C) → slice_get items k ≡ Some (Plain inst) → m.does k (mark_before items k) inst s ≡ o → HasDone words Stands IsOver (place items long k) o c → IsAlike words Stands IsOver items long (after k o) c
   alike_after k inst s (Goes passed t) c there does done =
       alike_at (k + passed) (place items long k + passed) t c (sym (instructions_place items long k passed (runs.passes k passed inst s t there does))) done
   alike_after k inst s (Ends end t) c there does done = done
@@ -278,8 +278,8 @@ module _ {W E C : Type 0} (m : Meaning W E) (items : List Item) (good : IsWellLa
   plain_step k s c inst there alike =
       let first = first_word k (Plain inst) _ there refl in
       let done = runs.plain k inst s c there (good.insts k inst there) (instruction_marked items good marked long k inst there) first (stands_here k s c _ first alike) in
-      one_word_step (At k s) (after k (m.does (mark_before items k) inst s)) c (item_is m items long k s (Some (Plain inst)) there) (cost_is m items long k s (Some (Plain inst)) there) alike
-      (alike_after k inst s (m.does (mark_before items k) inst s) (step c) there refl done)
+      one_word_step (At k s) (after k (m.does k (mark_before items k) inst s)) c (item_is m items long k s (Some (Plain inst)) there) (cost_is m items long k s (Some (Plain inst)) there) alike
+      (alike_after k inst s (m.does k (mark_before items k) inst s) (step c) there refl done)
 
   jump_step : (k : ℕ) (s : W) (c : C) (label : ℕ) → slice_get items k ≡ Some (Jump label) → IsAlike words Stands IsOver items long (At k s) c → IsStep (At k s) c
   jump_step k s c label there alike =

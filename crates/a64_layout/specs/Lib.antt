@@ -4,3 +4,4 @@ pub mod Text
 pub mod Passes
 pub mod Checked
 pub mod Run
+pub mod Machine

@@ -4,7 +4,7 @@ use Rattle.a64_inst.specs.WellFormed.{IsWellFormed}
 use Rattle.a64_inst.specs.declared.item.Item.{Item}
 use Rattle.a64_inst.specs.declared.item.Item.TheVariants.{Plain, Jump, If, IfZero, IfBit, Label, Mark}
 use Rattle.a64_layout.specs.Branch.{IsTest, reach}
-use Rattle.a64_layout.specs.Layout.{Fits, IsIf, Set, label_place, place, position_of}
+use Rattle.a64_layout.specs.Layout.{Fits, IsEnough, IsIf, IsWithin, Set, label_place, place, position_of}
 use Rattle.a64_layout.specs.declared.branch.Test.{Test}
 use Rattle.a64_layout.specs.declared.branch.Test.TheVariants.{Holds, Zero, Bit}
 
@@ -24,6 +24,11 @@ abbrev pub ReachForward : List Item → Set → Type 0
 ReachForward items long =
     (k : ℕ) (test : Test) (label : ℕ) → IsIf items k test label → k < position_of items label → long k ≡ false
     → label_place items long label < place items long k + reach test
+
+-- what is long in the second set and not in the first has to be: it is in each set that is enough and has
+-- what the first has
+abbrev pub GrowsByNeed : List Item → Set → Set → Type 0
+GrowsByNeed items before after = (other : Set) → IsEnough items other → IsWithin before other → IsWithin after other
 
 -- the label of a branch is below a number
 abbrev pub NamesBelow : ℕ → Option (Test × ℕ) → Type 0

@@ -1,5 +1,5 @@
--- No public clause cites this module: runs of labelled code, item by item, and of its text, word by word, over
--- what instructions do, where tests hold, and what the outside does at marked places.
+-- Runs of labelled code, item by item, and of its text, word by word, over what instructions do, where tests hold,
+-- and what the outside does at marked places.
 use Rattle.std.specs.Prelude.{◌≡◌, ◌≢◌, ℕ, zero, suc, ◌+◌, ◌^◌, ◌<◌, Bool, false, true, not, if◌then◌else◌, List, length, slice_get, Option, Some, None}
 use Rattle.a64_inst.specs.WellFormed.{IsWellFormed}
 use Rattle.a64_inst.specs.declared.inst.Inst.{Inst}
@@ -27,9 +27,9 @@ abbrev pub after : {W E : Type 0} → ℕ → Outcome W E → Config W E
 after here (Goes passed s) = At (here + passed) s
 after here (Ends end s) = Ended end s
 
--- what instructions do, each by itself or where a mark stands right before it, and where tests hold
+-- what the instruction at a position does, by itself or where a mark stands right before it, and where tests hold
 pub record Meaning (W E : Type 0) : Type 0 where
-  pub does : Option ℕ → Inst → W → Outcome W E
+  pub does : ℕ → Option ℕ → Inst → W → Outcome W E
   pub holds : Test → W → Bool
 
 -- the mark that stands right before an item
@@ -53,7 +53,7 @@ module _ {W E : Type 0} (m : Meaning W E) (items : List Item) where
   goes_if test label k s = At (if m.holds test s then position_of items label else k + 1) s
 
   abbrev pub item_does : Option Item → ℕ → W → Config W E
-  item_does (Some (Plain inst)) k s = after k (m.does (mark_before items k) inst s)
+  item_does (Some (Plain inst)) k s = after k (m.does k (mark_before items k) inst s)
   item_does (Some (Jump label)) k s = At (position_of items label) s
   item_does (Some (If cond label)) k s = goes_if (Holds cond) label k s
   item_does (Some (IfZero width nonzero reg label)) k s = goes_if (Zero width nonzero reg) label k s
@@ -99,7 +99,8 @@ module _ {W E : Type 0} (m : Meaning W E) (items : List Item) where
 abbrev pub IsMarked : List Item → Set → ℕ → Option ℕ → Type 0
 IsMarked items long here (Some mark) =
     (mark < mark_count items) × (place items long (mark_position_of items mark) ≡ here)
-IsMarked items long here None = (mark : ℕ) → mark < mark_count items → place items long (mark_position_of items mark) ≢ here
+IsMarked items long here None =
+    (mark : ℕ) → mark < mark_count items → place items long (mark_position_of items mark) ≢ here
 
 -- A machine that runs the words, by its step. It stands before a word in a state of the items' run, by
 -- Stands, or it is over as that run is, by IsOver.
@@ -129,11 +130,11 @@ module _ {W E C : Type 0} (words : List ℕ) (Stands : ℕ → W → C → Type 
         (k : ℕ) (inst : Inst) (s : W) (c : C) → slice_get items k ≡ Some (Plain inst) → IsWellFormed inst
         → IsMarked items long (place items long k) (mark_before items k)
         → slice_get words (place items long k) ≡ Some (word inst) → Stands (place items long k) s c
-        → HasDone (place items long k) (m.does (mark_before items k) inst s) (step c)
+        → HasDone (place items long k) (m.does k (mark_before items k) inst s) (step c)
     -- what an instruction passes is instructions
     pub passes :
         (k passed : ℕ) (inst : Inst) (s after : W) → slice_get items k ≡ Some (Plain inst)
-        → m.does (mark_before items k) inst s ≡ Goes passed after
+        → m.does k (mark_before items k) inst s ≡ Goes passed after
         → (i : ℕ) → i < passed → (other : Inst) × (slice_get items (k + i) ≡ Some (Plain other))
     pub jump :
         (here to : ℕ) (s : W) (c : C) → here < 2 ^ 24 → to < 2 ^ 24 → IsMarked items long here None

@@ -6,8 +6,8 @@
 ghost use Rattle.std.specs.Prelude.{◌≡◌, ℕ, ◌<◌, ◌≤◌, ◌^◌, ◌↔◌, false, length, sum_by, IsTrue, IfOk};
 ghost use Rattle.a64_inst.specs.Fields.{bit};
 ghost use Rattle.a64_layout.specs.Branch.{branch_of};
-ghost use Rattle.a64_layout.specs.Layout.{IsEnough, IsLeast, IsWithin, Set};
-ghost use Rattle.a64_layout.specs.Passes.{IsNearBack, IsNearForward, NamesBelow, ReachBack, ReachForward, TellsPositions};
+ghost use Rattle.a64_layout.specs.Layout.{IsLeast};
+ghost use Rattle.a64_layout.specs.Passes.{GrowsByNeed, IsNearBack, IsNearForward, NamesBelow, ReachBack, ReachForward, TellsPositions};
 ghost use Rattle.a64_layout.specs.Text.{chosen, IsWellLabelled, label_count};
 
 use crate::branch::{branch_of, size};
@@ -88,7 +88,7 @@ fn lengthen_back(code: &Labelled, positions: &Positions, places: &mut Ids, long:
     requires flags { length long.old ≡ length code.now }
     ensures places { length places.new ≡ label_count code.now }
     ensures flags { length long.new ≡ length code.now }
-    ensures least { (other : Set) → IsEnough code.now other → IsWithin (chosen long.old) other → IsWithin (chosen long.new) other }
+    ensures least { GrowsByNeed code.now (chosen long.old) (chosen long.new) }
     ensures more { sum_by bit long.old ≤ sum_by bit long.new }
     ensures reach { ReachBack code.now (chosen long.new) }
 {
@@ -117,7 +117,7 @@ fn lengthen_forward(
     requires flags { length long.old ≡ length code.now }
     ensures places { length places.new ≡ label_count code.now }
     ensures flags { length long.new ≡ length code.now }
-    ensures least { (other : Set) → IsEnough code.now other → IsWithin (chosen long.old) other → IsWithin (chosen long.new) other }
+    ensures least { GrowsByNeed code.now (chosen long.old) (chosen long.new) }
     ensures more { IsTrue result → sum_by bit long.old < sum_by bit long.new }
     ensures same { result ≡ false → long.new ≡ long.old }
     ensures reach { ReachForward code.now (chosen long.new) }

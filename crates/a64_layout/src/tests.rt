@@ -21,7 +21,10 @@ fn is_good(item: Item, at: usize, positions: &Ids) -> bool
         Item::Jump(label) | Item::If(_, label) => (label as usize) < positions.len(),
         Item::IfZero { reg, label, .. } => reg <= 31 && (label as usize) < positions.len(),
         Item::IfBit {
-            reg, bit, label, ..
+            reg,
+            bit,
+            label,
+            ..
         } => reg <= 31 && bit < 64 && (label as usize) < positions.len(),
         Item::Label(label) => {
             (label as usize) < positions.len() && *positions.get(label as usize) as usize == at

@@ -2,9 +2,10 @@
 
 ghost use Rattle.std.specs.Prelude.{◌≡◌, ℕ, ◌+◌, ◌-◌, ◌^◌, ◌<◌, ◌≤◌, ◌++◌, ◌≤ℤ◌, pos, negsuc, false, length, slice_index, OnOk, IfOk};
 ghost use Rattle.a64_layout.specs.Branch.{IsTest, reach, size_of};
-ghost use Rattle.a64_layout.specs.Layout.{Fits, IsLeast, IsShort, Set, most_words};
+ghost use Rattle.a64_layout.specs.Layout.{Fits, IsLeast, most_words};
+ghost use Rattle.a64_layout.specs.Machine.{IsShortestText};
 ghost use Rattle.a64_layout.specs.Passes.{CanStand, GoesBelow};
-ghost use Rattle.a64_layout.specs.Text.{chosen, if_words, IsTextOf, IsWellLabelled, jump_word, label_count, mark_count, test_word, TellsLabels, words_before, words_of};
+ghost use Rattle.a64_layout.specs.Text.{chosen, if_words, IsWellLabelled, jump_word, label_count, mark_count, test_word, TellsLabels, words_before, words_of};
 
 use crate::branch::Test;
 use crate::layout::{Flags, choose};
@@ -30,7 +31,7 @@ pub struct Text {
 /// refused for want of memory alone.
 pub fn resolve(alloc: Global, code: Labelled) -> Result<Text, NoMemory>
     requires { IsWellLabelled code }
-    ensures text { IfOk result (λ text. (long : Set) × IsLeast code long × IsShort code long × IsTextOf code long text) }
+    ensures text { IfOk result (IsShortestText code) }
     ensures words { IfOk result (λ text. length text.words ≤ most_words code) }
     ensures labels { IfOk result (λ text. length text.labels ≡ label_count code) }
     ensures marks { IfOk result (λ text. length text.marks ≡ mark_count code) }

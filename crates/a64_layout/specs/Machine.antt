@@ -1,0 +1,92 @@
+-- The run of a text's words by what instructions do (DDI 0487), and the run of the items that the words are of.
+use Rattle.std.specs.Prelude.{◌≡◌, ℕ, ◌+◌, ◌-◌, ◌*◌, ◌/◌, ◌%◌, ◌^◌, ◌<◌, ◌≤◌, Bool, true, false, ◌&&◌, nat_eq, nat_le, if◌then◌else◌, List, length, slice_get, Option, Some, None}
+use Rattle.b3_base.specs.Run.{iterate}
+use Rattle.a64_inst.specs.Registers.{Registers, Bytes, Stepped, read}
+use Rattle.a64_inst.specs.Step.{step_of}
+use Rattle.a64_inst.specs.StepBranch.{is_taken}
+use Rattle.a64_inst.specs.Values.{holds, low_bits}
+use Rattle.a64_inst.specs.declared.inst.Inst.{Inst}
+use Rattle.a64_inst.specs.declared.item.Item.{Item}
+use Rattle.a64_inst.specs.declared.state.Outcome.{Outcome as Left}
+use Rattle.a64_inst.specs.declared.state.Outcome.TheVariants.{Next}
+use Rattle.a64_word.specs.Decode.{decode}
+use Rattle.a64_layout.specs.Layout.{IsLeast, IsShort, Set, place}
+use Rattle.a64_layout.specs.Run.{At, Ends, Goes, IsWellMarked, Meaning, Outcome, item_step, run_cost}
+use Rattle.a64_layout.specs.Text.{IsTextOf}
+use Rattle.a64_layout.specs.declared.branch.Test.{Test}
+use Rattle.a64_layout.specs.declared.branch.Test.TheVariants.{Holds, Zero, Bit}
+use Rattle.a64_layout.specs.declared.text.Text.{Text}
+
+-- the registers and the memory
+pub record Machine : Type 0 where
+  pub registers : Registers
+  pub memory : Bytes
+
+-- ---- words
+-- the word at an address, where the words begin at `first`
+abbrev pub word_at : ℕ → List ℕ → ℕ → Option ℕ
+word_at first words address =
+    if nat_le first address && nat_eq ((address - first) % 4) 0 then slice_get words ((address - first) / 4) else None
+
+abbrev pub decoded : Option ℕ → Option Inst
+decoded (Some word) = decode word
+decoded None = None
+
+-- the machine after a step, with pc aside where it is moved
+abbrev pub machine_of : Stepped → Machine
+machine_of after = record { registers = after.registers; memory = after.memory }
+
+abbrev pub moved_to : ℕ → Machine → Machine
+moved_to address c = record { registers = record c.registers { pc = address }; memory = c.memory }
+
+-- the machine does the instruction at its pc, and stays where there is none
+abbrev pub does_one : Option Inst → Machine → Machine
+does_one (Some inst) c = machine_of (step_of inst c.registers c.memory)
+does_one None c = c
+
+abbrev pub machine_step : ℕ → List ℕ → Machine → Machine
+machine_step first words c = does_one (decoded (word_at first words c.registers.pc)) c
+
+-- ---- items
+-- whether the instruction after it follows an instruction
+abbrev pub is_next : Left → Bool
+is_next Next = true
+is_next _ = false
+
+abbrev pub goes_on_at : ℕ → Stepped → Bool
+goes_on_at address after = is_next after.outcome && nat_eq after.registers.pc address
+
+-- an instruction at an address goes on to the next one, or it ends the run of the items
+abbrev pub instruction_does : ℕ → Inst → Machine → Outcome Machine Inst
+instruction_does address inst c =
+    let after = step_of inst (moved_to address c).registers c.memory in
+    if goes_on_at (address + 4) after then Goes 1 (machine_of after) else Ends inst (machine_of after)
+
+-- whether the branch under a test is taken
+abbrev pub test_holds : Test → Machine → Bool
+test_holds (Holds cond) c = holds cond c.registers.flags
+test_holds (Zero width nonzero reg) c = is_taken nonzero (low_bits width (read c.registers reg))
+test_holds (Bit nonzero reg at) c = is_taken nonzero (read c.registers reg / 2 ^ at % 2)
+
+-- the items of a text that begins at an address
+abbrev pub items_at : ℕ → List Item → Set → Meaning Machine Inst
+items_at first items long = record {
+  does = λ k mark inst c. instruction_does (first + 4 * place items long k) inst c;
+  holds = test_holds;
+}
+
+-- Wherever the words begin: where n items lead from the first one to item k, as many words as those items cost
+-- lead from the first word to that item's place, with the same registers and memory.
+abbrev pub RunsAsItems : List Item → Set → List ℕ → Type 0
+RunsAsItems items long words =
+    (first n k : ℕ) (c after : Machine) → first + 4 * length words ≤ 2 ^ 64 → place items long k < length words
+    → iterate (item_step (items_at first items long) items) n (At 0 c) ≡ At k after
+    → iterate (machine_step first words) (run_cost (items_at first items long) items long n (At 0 c)) (moved_to first c)
+    ≡ moved_to (first + 4 * place items long k) after
+
+-- the text of the items where as few as can be are long; it runs as they do, where each mark stands right before
+-- an instruction
+abbrev pub IsShortestText : List Item → Text → Type 0
+IsShortestText items text =
+    (long : Set) × IsLeast items long × IsShort items long × IsTextOf items long text
+    × (IsWellMarked items → RunsAsItems items long text.words)
