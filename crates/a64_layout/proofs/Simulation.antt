@@ -1,7 +1,9 @@
 -- A run of labelled code is a run of its text: an item is one word or two, labels and marks are none.
 use Rattle.std.proofs.Common.{◌≡◌, ℕ, zero, suc, ◌+◌, ◌*◌, ◌/◌, ◌<◌, ◌≤◌, ◌⊎◌, inl, inr, ⊎_elim, pos, Bool, true, false, not, if◌then◌else◌, Option, Some, None, List, length, refl, sym, ap, ◌∙◌, subst, arith, lit≤}
 use Rattle.std.specs.Prelude.{slice_get}
+use Rattle.std.proofs.Math.Nat.{add-mul, one-mul, zero-mul, mul-le-mul_right}
 use Rattle.std.proofs.lemmas.Bool.{cases_lt}
+use Rattle.std.proofs.lemmas.Nat.{div_below}
 use Rattle.std.proofs.lemmas.Int.{ints}
 use Rattle.std.proofs.lemmas.Option.{slice_get_within}
 use Rattle.b3_base.specs.Run.{iterate, Simulates}
@@ -196,6 +198,82 @@ module _ {W E : Type 0} (m : Meaning W E) (items : List Item) (long : Set) where
       let same : run_cost m items long n (item_step m items (At k s)) ≡ run_cost m items long n (At (k + 1) s) = ap (run_cost m items long n) first in
       let e : k + 1 + n ≡ k + suc n = omega arith in
       iterate-suc (item_step m items) n (At k s) ∙ ap (iterate (item_step m items) n) first ∙ run_free n (k + 1) s (omega arith) ∙ ap (λ l. At l s) e
+
+  -- ---- bounds
+  few_free : (b : ℕ) → ((k : ℕ) → free_before items k < b) → (a : Config W E) → free_steps items a < b
+  few_free b few (At k s) = few k
+  few_free b few (Ended end s) = let some = few 0 in omega arith
+  few_free b few Broken = let some = few 0 in omega arith
+
+  item_rises : (o : Option Item) (k : ℕ) (s : W) → item_cost m items long o k s ≡ 0 → free_with (free_before items k) o ≡ free_before items k + 1
+  item_rises None k s e = absurd (omega arith)
+  item_rises (Some (Plain inst)) k s e = absurd (omega arith)
+  item_rises (Some (Jump label)) k s e = absurd (omega arith)
+  item_rises (Some (If cond label)) k s e = absurd (branch_paid (long k) (m.holds (Holds cond) s) e)
+  item_rises (Some (IfZero width nonzero reg label)) k s e = absurd (branch_paid (long k) (m.holds (Zero width nonzero reg) s) e)
+  item_rises (Some (IfBit nonzero reg at label)) k s e = absurd (branch_paid (long k) (m.holds (Bit nonzero reg at) s) e)
+  item_rises (Some (Label label)) k s e = refl
+  item_rises (Some (Mark mark)) k s e = refl
+
+  rises : (a : Config W E) → cost m items long a ≡ 0 → free_steps items a < free_steps items (item_step m items a)
+  rises (At k s) free =
+      let goes = ap (free_steps items) (step_free k s free) in
+      let more = free-suc items k ∙ item_rises (slice_get items k) k s (sym (cost_is k s (slice_get items k) refl) ∙ free) in
+      omega arith
+  rises (Ended end s) free = let one = cost_over end s in absurd (omega arith)
+  rises Broken free = let one = cost_broken in absurd (omega arith)
+
+  item_two : (o : Option Item) (k : ℕ) (s : W) → item_cost m items long o k s ≤ 2
+  item_two None k s = omega arith
+  item_two (Some item) k s = let most = item_most item k s in let size = size_two (long k) item in omega arith
+
+  cost_two : (a : Config W E) → cost m items long a ≤ 2
+  cost_two (At k s) = let is = cost_is k s (slice_get items k) refl in let most = item_two (slice_get items k) k s in omega arith
+  cost_two (Ended end s) = let one = cost_over end s in omega arith
+  cost_two Broken = let one = cost_broken in omega arith
+
+  -- n items cost at most two words each
+  pub run_most : (n : ℕ) (a : Config W E) → run_cost m items long n a ≤ n * 2
+  run_most zero a = let none = run_cost-zero a in omega arith
+  run_most (suc n) a =
+      let sum = run_cost-suc n a in
+      let one = cost_two a in
+      let rest = run_most n (item_step m items a) in
+      omega arith
+
+  run_price : (b : ℕ) → ((k : ℕ) → free_before items k < b) → (n : ℕ) (a : Config W E) → n + free_steps items a ≤ run_cost m items long n a * b + free_steps items (iterate (item_step m items) n a)
+  run_price b few zero a =
+      let none = ap (λ c. c * b) (run_cost-zero a) in
+      let free : 0 * b ≡ 0 = zero-mul b in
+      let same = ap (free_steps items) (iterate-zero (item_step m items) a) in
+      omega arith
+  run_price b few (suc n) a =
+      let rest = run_price b few n (item_step m items a) in
+      let sum = ap (λ c. c * b) (run_cost-suc n a) in
+      let split : (cost m items long a + run_cost m items long n (item_step m items a)) * b ≡ cost m items long a * b + run_cost m items long n (item_step m items a) * b = add-mul (cost m items long a) (run_cost m items long n (item_step m items a)) b in
+      let same = ap (free_steps items) (iterate-suc (item_step m items) n a) in
+      let below = few_free b few a in
+      ⊎_elim
+      (λ none.
+      let free : cost m items long a ≡ 0 = omega arith in
+      let up = rises a free in
+      let zero_cost : cost m items long a * b ≡ 0 = ap (λ c. c * b) free ∙ zero-mul b in
+      omega arith)
+      (λ paid.
+      let one : 1 * b ≤ cost m items long a * b = mul-le-mul_right b paid in
+      let same_b : 1 * b ≡ b = one-mul b in
+      omega arith)
+      (cases_lt (cost m items long a) 1)
+
+  -- where fewer than b labels and marks stand in a row, b items cost a word at least
+  pub run_least : (b : ℕ) → ((k : ℕ) → free_before items k < b) → (n : ℕ) (a : Config W E) → n / b ≤ run_cost m items long n a
+  run_least b few n a =
+      let price = run_price b few n a in
+      let last = few_free b few (iterate (item_step m items) n a) in
+      let e : (run_cost m items long n a + 1) * b ≡ run_cost m items long n a * b + 1 * b = add-mul (run_cost m items long n a) 1 b in
+      let same : 1 * b ≡ b = one-mul b in
+      let lt : n / b < run_cost m items long n a + 1 = div_below n b (run_cost m items long n a + 1) (omega arith) (omega arith) in
+      omega arith
 
 -- ---- steps of the items are steps of the machine
 module _ {W E C : Type 0} (m : Meaning W E) (items : List Item) (good : IsWellLabelled items) (marked : IsWellMarked items) (long : Set) (enough : IsEnough items long)
@@ -423,44 +501,12 @@ module _ {W E C : Type 0} (m : Meaning W E) (items : List Item) (good : IsWellLa
       (subst (λ j. IsAlike words Stands IsOver items long (iterate (item_step m items) n (item_step m items a)) (iterate step j c)) (sym (run_cost-suc m items long n a))
       (subst (IsAlike words Stands IsOver items long (iterate (item_step m items) n (item_step m items a))) (sym (iterate-add step (cost m items long a) (run_cost m items long n (item_step m items a)) c)) rest))
 
-  few_free : (b : ℕ) → ((k : ℕ) → free_before items k < b) → (a : Config W E) → free_steps items a < b
-  few_free b few (At k s) = few k
-  few_free b few (Ended end s) = let some = few 0 in omega arith
-  few_free b few Broken = let some = few 0 in omega arith
-
-  item_rises : (o : Option Item) (k : ℕ) (s : W) → item_cost m items long o k s ≡ 0 → free_with (free_before items k) o ≡ free_before items k + 1
-  item_rises None k s e = absurd (omega arith)
-  item_rises (Some (Plain inst)) k s e = absurd (omega arith)
-  item_rises (Some (Jump label)) k s e = absurd (omega arith)
-  item_rises (Some (If cond label)) k s e = absurd (branch_paid m items long (long k) (m.holds (Holds cond) s) e)
-  item_rises (Some (IfZero width nonzero reg label)) k s e = absurd (branch_paid m items long (long k) (m.holds (Zero width nonzero reg) s) e)
-  item_rises (Some (IfBit nonzero reg at label)) k s e = absurd (branch_paid m items long (long k) (m.holds (Bit nonzero reg at) s) e)
-  item_rises (Some (Label label)) k s e = refl
-  item_rises (Some (Mark mark)) k s e = refl
-
-  rises : (a : Config W E) → cost m items long a ≡ 0 → free_steps items a < free_steps items (item_step m items a)
-  rises (At k s) free =
-      let goes = ap (free_steps items) (step_free m items long k s free) in
-      let more = free-suc items k ∙ item_rises (slice_get items k) k s (sym (cost_is m items long k s (slice_get items k) refl) ∙ free) in
-      omega arith
-  rises (Ended end s) free = let one = cost_over m items long end s in absurd (omega arith)
-  rises Broken free = let one = cost_broken m items long in absurd (omega arith)
-
-  item_two : (o : Option Item) (k : ℕ) (s : W) → item_cost m items long o k s ≤ 2
-  item_two None k s = omega arith
-  item_two (Some item) k s = let most = item_most m items long item k s in let size = size_two (long k) item in omega arith
-
-  cost_two : (a : Config W E) → cost m items long a ≤ 2
-  cost_two (At k s) = let is = cost_is m items long k s (slice_get items k) refl in let most = item_two (slice_get items k) k s in omega arith
-  cost_two (Ended end s) = let one = cost_over m items long end s in omega arith
-  cost_two Broken = let one = cost_broken m items long in omega arith
-
   -- where fewer than b labels and marks stand in a row, and P holds wherever the machine is in a run of the items
   pub text_simulates : (P : Config W E → C → Type 0) → ((a : Config W E) (i : ℕ) (c : C) → IsAt words Stands IsOver items long i a c → P (item_step m items a) c) → (b : ℕ) → ((k : ℕ) → free_before items k < b)
       → Simulates (item_step m items) step (IsAlike words Stands IsOver items long) P (free_steps items) b 2
   text_simulates P proper b few = record {
-    below = λ a c alike. few_free b few a;
+    below = λ a c alike. few_free m items long b few a;
     step = λ a c alike.
         let one = any_step a c alike in
-        (cost m items long a, cost_two a, rises a, λ i lt. proper a i (iterate step i c) (one.0 i lt), one.1);
+        (cost m items long a, cost_two m items long a, rises m items long a, λ i lt. proper a i (iterate step i c) (one.0 i lt), one.1);
   }

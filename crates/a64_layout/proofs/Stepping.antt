@@ -31,7 +31,7 @@ use Rattle.a64_layout.specs.declared.branch.Test.{Test}
 use Rattle.a64_layout.specs.declared.branch.Test.TheVariants.{Holds, Zero, Bit}
 use Rattle.a64_layout.proofs.Least.{place-zero}
 use Rattle.a64_layout.proofs.Labels.{place_short}
-use Rattle.a64_layout.proofs.Simulation.{text_runs}
+use Rattle.a64_layout.proofs.Simulation.{run_forward, run_least, run_most, text_runs}
 use Rattle.a64_layout.proofs.Words.{words_length}
 
 -- ---- tests
@@ -177,9 +177,15 @@ module _ (items : List Item) (good : IsWellLabelled items) (marked : IsWellMarke
 
 -- words of the items run as they do
 pub runs_as_items : (items : List Item) → IsWellLabelled items → IsWellMarked items → (long : Set) → IsEnough items long → (words : List ℕ) → words ≡ words_before items long (length items) → RunsAsItems items long words
-runs_as_items items good marked long enough words words_are first n k c after ends below is =
-    let start : first ≡ first + 4 * (place items long 0 + 0) = let e = place-zero items long in omega arith in
-    let alike = text_runs (items_at first items long) items good marked long enough words words_are (StandsWith first) IsAnywhere (machine_step first words) (executes items good marked long enough words words_are first ends) n (At 0 c) (moved_to first c) (λ some. ap (λ a. moved_to a c) start) in
-    let there = subst (λ z. IsAlike words (StandsWith first) IsAnywhere items long z (iterate (machine_step first words) (run_cost (items_at first items long) items long n (At 0 c)) (moved_to first c))) is alike in
-    let at : first + 4 * (place items long k + 0) ≡ first + 4 * place items long k = omega arith in
-    there (omega arith) ∙ ap (λ a. moved_to a after) at
+runs_as_items items good marked long enough words words_are = record {
+  same = λ first n k c after ends below is.
+      let start : first ≡ first + 4 * (place items long 0 + 0) = let e = place-zero items long in omega arith in
+      let alike =
+      text_runs (items_at first items long) items good marked long enough words words_are (StandsWith first) IsAnywhere (machine_step first words) (executes items good marked long enough words words_are first ends) n (At 0 c) (moved_to first c) (λ some. ap (λ a. moved_to a c) start) in
+      let there = subst (λ z. IsAlike words (StandsWith first) IsAnywhere items long z (iterate (machine_step first words) (run_cost (items_at first items long) items long n (At 0 c)) (moved_to first c))) is alike in
+      let at : first + 4 * (place items long k + 0) ≡ first + 4 * place items long k = omega arith in
+      there (omega arith) ∙ ap (λ a. moved_to a after) at;
+  most = λ first n a. run_most (items_at first items long) items long n a;
+  least = λ first n b a few. run_least (items_at first items long) items long b few n a;
+  forward = λ first n a go. run_forward (items_at first items long) items long n a go;
+}

@@ -11,7 +11,7 @@ use Rattle.a64_inst.specs.declared.state.Outcome.{Outcome as Left}
 use Rattle.a64_inst.specs.declared.state.Outcome.TheVariants.{Next}
 use Rattle.a64_word.specs.Decode.{decode}
 use Rattle.a64_layout.specs.Layout.{IsLeast, IsShort, Set, place}
-use Rattle.a64_layout.specs.Run.{At, Ends, Goes, IsWellMarked, Meaning, Outcome, item_step, run_cost}
+use Rattle.a64_layout.specs.Run.{At, Config, Ends, GoForward, Goes, IsWellMarked, Meaning, Outcome, free_before, item_step, place_at, run_cost}
 use Rattle.a64_layout.specs.Text.{IsTextOf}
 use Rattle.a64_layout.specs.declared.branch.Test.{Test}
 use Rattle.a64_layout.specs.declared.branch.Test.TheVariants.{Holds, Zero, Bit}
@@ -75,14 +75,31 @@ items_at first items long = record {
   holds = test_holds;
 }
 
--- Wherever the words begin: where n items lead from the first one to item k, as many words as those items cost
--- lead from the first word to that item's place, with the same registers and memory.
-abbrev pub RunsAsItems : List Item → Set → List ℕ → Type 0
-RunsAsItems items long words =
-    (first n k : ℕ) (c after : Machine) → first + 4 * length words ≤ 2 ^ 64 → place items long k < length words
-    → iterate (item_step (items_at first items long) items) n (At 0 c) ≡ At k after
-    → iterate (machine_step first words) (run_cost (items_at first items long) items long n (At 0 c)) (moved_to first c)
-    ≡ moved_to (first + 4 * place items long k) after
+-- how many words are run for n items
+abbrev pub words_run : ℕ → List Item → Set → ℕ → Config Machine Inst → ℕ
+words_run first items long n a = run_cost (items_at first items long) items long n a
+
+abbrev pub items_run : ℕ → List Item → Set → ℕ → Config Machine Inst → Config Machine Inst
+items_run first items long n a = iterate (item_step (items_at first items long) items) n a
+
+-- words run as their items do, wherever they begin
+pub record RunsAsItems (items : List Item) (long : Set) (words : List ℕ) : Type 0 where
+  -- where n items lead from the first one to item k, the words that they cost lead from the first word to that
+  -- item's place, with the same registers and memory
+  pub same :
+      (first n k : ℕ) (c after : Machine) → first + 4 * length words ≤ 2 ^ 64 → place items long k < length words
+      → items_run first items long n (At 0 c) ≡ At k after
+      → iterate (machine_step first words) (words_run first items long n (At 0 c)) (moved_to first c)
+      ≡ moved_to (first + 4 * place items long k) after
+  -- an item costs two words at most, and where fewer than b labels and marks stand in a row b items cost one
+  pub most : (first n : ℕ) (a : Config Machine Inst) → words_run first items long n a ≤ n * 2
+  pub least :
+      (first n b : ℕ) (a : Config Machine Inst) → ((k : ℕ) → free_before items k < b)
+      → n / b ≤ words_run first items long n a
+  -- items that each go farther on cost no more words than they pass
+  pub forward :
+      (first n : ℕ) (a : Config Machine Inst) → GoForward (items_at first items long) items n a
+      → words_run first items long n a + place_at items long a ≤ place_at items long (items_run first items long n a)
 
 -- the text of the items where as few as can be are long; it runs as they do, where each mark stands right before
 -- an instruction
