@@ -7,13 +7,13 @@ use Rattle.std.proofs.lemmas.Option.{slice_get_within}
 use Rattle.a64_inst.specs.Fields.{bit}
 use Rattle.a64_inst.specs.declared.item.Item.{Item}
 use Rattle.a64_layout.specs.Branch.{branch_in, branch_of, reach, size_of, size_in}
-use Rattle.a64_layout.specs.Layout.{Set, place, position_of, label_place, FitsIn, IsIf, IsEnough, IsWithin}
+use Rattle.a64_layout.specs.Layout.{Set, place, position_of, label_place, IsIf, IsEnough, IsWithin}
 use Rattle.a64_layout.specs.Passes.{IsNearBack, TellsPositions, with_label}
 use Rattle.a64_layout.specs.Text.{chosen, label_count, IsWellLabelled}
 use Rattle.a64_layout.specs.declared.branch.Test.{Test}
 use Rattle.a64_layout.proofs.Flags.{true_or_false, no_both, at_or_not, chosen_at, chosen_set_same, chosen_set_other, one_more}
 use Rattle.a64_layout.proofs.Least.{no_branch, place-zero, place-next, same_place, fits_within}
-use Rattle.a64_layout.proofs.Putting.{ArePut, label_at, labels_numbered, none_put, put_again, all_put, label_put}
+use Rattle.a64_layout.proofs.Putting.{ArePut, label_at, labels_numbered, put_again, all_put, label_put}
 
 -- the first items are looked at: those that didn't reach a label before them are long now
 pub record IsPassBack (items : List Item) (old now : List Bool) (at here : ℕ) (places : List ℕ) : Type 0 where

@@ -5,10 +5,10 @@ use Rattle.std.proofs.lemmas.Bool.{cases_lt}
 use Rattle.std.proofs.lemmas.Option.{slice_get_within, get_or_from_slice_get}
 use Rattle.std.proofs.lemmas.List.Sums.{fails_before_first}
 use Rattle.std.proofs.lemmas.Bool.Decides.{nat_tests}
-use Rattle.a64_layout.specs.Checked.{IsGood, AreGood, AreThere}
-use Rattle.a64_layout.specs.Branch.{IsTest, branch_in, branch_of, size_of, size_in}
-use Rattle.a64_layout.specs.Layout.{IsIf, Set, place, is_label, position_of}
-use Rattle.a64_layout.specs.Text.{label_count, mark_count, IsWellLabelled}
+use Rattle.a64_layout.specs.Checked.{AreGood, IsGood, LabelsThere, MarksThere}
+use Rattle.a64_layout.specs.Branch.{IsTest, branch_in, size_of, size_in}
+use Rattle.a64_layout.specs.Layout.{Set, place, is_label, position_of}
+use Rattle.a64_layout.specs.Text.{is_mark, label_count, mark_count, mark_position_of, IsWellLabelled}
 use Rattle.a64_inst.specs.declared.item.Item.{Item}
 use Rattle.a64_inst.specs.declared.item.Item.TheVariants.{Plain, Jump, If, IfZero, IfBit, Label, Mark}
 use Rattle.a64_layout.specs.declared.branch.Test.{Test}
@@ -55,56 +55,74 @@ label_first items label k there =
     (cases_lt k (position_of items label))
 
 -- what is checked of a branch
-good_branch : (positions : List ℕ) (k : ℕ) (test : Test) (label : ℕ) (o : Option Item) → ((item : Item) → o ≡ Some item → IsGood positions k item) → branch_in o ≡ Some (test, label) → IsTest test × (label < length positions)
-good_branch positions k test label None good is = absurd (none_is_no_branch (test, label) is)
-good_branch positions k test label (Some (If cond to)) good is = subst (λ (b : Test × ℕ). IsTest b.0 × (b.1 < length positions)) (one_branch (Some (Holds cond, to)) (Holds cond, to) (test, label) refl is) (good (If cond to) refl)
-good_branch positions k test label (Some (IfZero width nonzero reg to)) good is = subst (λ (b : Test × ℕ). IsTest b.0 × (b.1 < length positions)) (one_branch (Some (Zero width nonzero reg, to)) (Zero width nonzero reg, to) (test, label) refl is) (good (IfZero width nonzero reg to) refl)
-good_branch positions k test label (Some (IfBit nonzero reg at to)) good is = subst (λ (b : Test × ℕ). IsTest b.0 × (b.1 < length positions)) (one_branch (Some (Bit nonzero reg at, to)) (Bit nonzero reg at, to) (test, label) refl is) (good (IfBit nonzero reg at to) refl)
-good_branch positions k test label (Some (Plain inst)) good is = absurd (none_is_no_branch (test, label) is)
-good_branch positions k test label (Some (Jump to)) good is = absurd (none_is_no_branch (test, label) is)
-good_branch positions k test label (Some (Label to)) good is = absurd (none_is_no_branch (test, label) is)
-good_branch positions k test label (Some (Mark to)) good is = absurd (none_is_no_branch (test, label) is)
+good_branch : (positions marks : List ℕ) (k : ℕ) (test : Test) (label : ℕ) (o : Option Item) → ((item : Item) → o ≡ Some item → IsGood positions marks k item) → branch_in o ≡ Some (test, label) → IsTest test × (label < length positions)
+good_branch positions marks k test label None good is = absurd (none_is_no_branch (test, label) is)
+good_branch positions marks k test label (Some (If cond to)) good is = subst (λ (b : Test × ℕ). IsTest b.0 × (b.1 < length positions)) (one_branch (Some (Holds cond, to)) (Holds cond, to) (test, label) refl is) (good (If cond to) refl)
+good_branch positions marks k test label (Some (IfZero width nonzero reg to)) good is = subst (λ (b : Test × ℕ). IsTest b.0 × (b.1 < length positions)) (one_branch (Some (Zero width nonzero reg, to)) (Zero width nonzero reg, to) (test, label) refl is) (good (IfZero width nonzero reg to) refl)
+good_branch positions marks k test label (Some (IfBit nonzero reg at to)) good is = subst (λ (b : Test × ℕ). IsTest b.0 × (b.1 < length positions)) (one_branch (Some (Bit nonzero reg at, to)) (Bit nonzero reg at, to) (test, label) refl is) (good (IfBit nonzero reg at to) refl)
+good_branch positions marks k test label (Some (Plain inst)) good is = absurd (none_is_no_branch (test, label) is)
+good_branch positions marks k test label (Some (Jump to)) good is = absurd (none_is_no_branch (test, label) is)
+good_branch positions marks k test label (Some (Label to)) good is = absurd (none_is_no_branch (test, label) is)
+good_branch positions marks k test label (Some (Mark to)) good is = absurd (none_is_no_branch (test, label) is)
 
-pub checked : (items : List Item) (positions : List ℕ) → length positions ≡ label_count items → mark_count items ≡ 0 → length items < 2 ^ 22 → AreGood items positions → AreThere items positions → IsWellLabelled items
-checked items positions count none few good there = record {
+-- the first position of a mark is no later than any
+mark_first : (items : List Item) (mark k : ℕ) → slice_get items k ≡ Some (Mark mark) → mark_position_of items mark ≤ k
+unfolding mark_position_of
+mark_first items mark k there =
+    ⊎_elim
+    (λ lt.
+    let fails = fails_before_first (is_mark mark) items k (Mark mark) lt in
+    let is : get_or items k (Mark mark) ≡ Mark mark = get_or_from_slice_get items k (Mark mark) (Mark mark) there in
+    let passes : is_mark mark (get_or items k (Mark mark)) ≡ true = ap (is_mark mark) is ∙ grind (arith, nat_tests) in
+    absurd (no_both (is_mark mark (get_or items k (Mark mark))) passes fails))
+    (λ le. le)
+    (cases_lt k (mark_position_of items mark))
+
+pub checked : (items : List Item) (labels marks : List ℕ) → length labels ≡ label_count items → length marks ≡ mark_count items → length items < 2 ^ 22 → AreGood items labels marks → LabelsThere items labels → MarksThere items marks → IsWellLabelled items
+checked items labels marks count mark_total few good there marks_there = record {
   insts = λ k inst is. good k (Plain inst) is;
-  tests = λ k test label is. (good_branch positions k test label (slice_get items k) (λ item there. good k item there) is).0;
+  tests = λ k test label is. (good_branch labels marks k test label (slice_get items k) (λ item there. good k item there) is).0;
   jumps = λ k label is. let lt = good k (Jump label) is in omega arith;
-  ifs = λ k test label is. let lt = (good_branch positions k test label (slice_get items k) (λ item there. good k item there) is).1 in omega arith;
+  ifs = λ k test label is. let lt = (good_branch labels marks k test label (slice_get items k) (λ item there. good k item there) is).1 in omega arith;
   labels = λ k label is. let lt = (good k (Label label) is).0 in omega arith;
   label_once = λ i j label is_i is_j. sym (good i (Label label) is_i).1 ∙ (good j (Label label) is_j).1;
   label_there = λ label lt.
       let stands = there label (omega arith) in
-      let within = slice_get_within items (slice_index positions label) (Label label) stands in
-      let first = label_first items label (slice_index positions label) stands in
+      let within = slice_get_within items (slice_index labels label) (Label label) stands in
+      let first = label_first items label (slice_index labels label) stands in
       omega arith;
-  marks = λ k mark is. absurd (good k (Mark mark) is);
-  mark_once = λ i j mark is_i is_j. absurd (good i (Mark mark) is_i);
-  mark_there = λ mark lt. absurd (omega arith);
+  marks = λ k mark is. let lt = (good k (Mark mark) is).0 in omega arith;
+  mark_once = λ i j mark is_i is_j. sym (good i (Mark mark) is_i).1 ∙ (good j (Mark mark) is_j).1;
+  mark_there = λ mark lt.
+      let stands = marks_there mark (omega arith) in
+      let within = slice_get_within items (slice_index marks mark) (Mark mark) stands in
+      let first = mark_first items mark (slice_index marks mark) stands in
+      omega arith;
   short = let most = place_most items (λ k. true) (length items) in omega arith;
 }
 
--- the same of the first items and labels
-abbrev pub AreGoodBefore : List Item → List ℕ → ℕ → Type 0
-AreGoodBefore items positions n = (k : ℕ) (item : Item) → k < n → slice_get items k ≡ Some item → IsGood positions k item
+-- the same of the first items, labels and marks
+abbrev pub AreGoodBefore : List Item → List ℕ → List ℕ → ℕ → Type 0
+AreGoodBefore items labels marks n = (k : ℕ) (item : Item) → k < n → slice_get items k ≡ Some item → IsGood labels marks k item
 
-abbrev pub AreThereBefore : List Item → List ℕ → ℕ → Type 0
-AreThereBefore items positions n = (label : ℕ) → label < n → slice_get items (slice_index positions label) ≡ Some (Label label)
+-- numbered items stand at these positions
+abbrev pub AreThereBefore : List Item → (ℕ → Item) → List ℕ → ℕ → Type 0
+AreThereBefore items kind positions n = (number : ℕ) → number < n → slice_get items (slice_index positions number) ≡ Some (kind number)
 
-pub good_more : (items : List Item) (positions : List ℕ) (n : ℕ) (item : Item) → AreGoodBefore items positions n → slice_get items n ≡ Some item → IsGood positions n item → AreGoodBefore items positions (n + 1)
-good_more items positions n item before there good k other lt is =
+pub good_more : (items : List Item) (labels marks : List ℕ) (n : ℕ) (item : Item) → AreGoodBefore items labels marks n → slice_get items n ≡ Some item → IsGood labels marks n item → AreGoodBefore items labels marks (n + 1)
+good_more items labels marks n item before there good k other lt is =
     ⊎_elim
     (λ lt. before k other lt is)
     (λ ge.
     let k_is : k ≡ n = omega arith in
     let both : Some item ≡ Some other = sym there ∙ subst (λ j. slice_get items j ≡ Some other) k_is is in
     let same : item ≡ other = cc in
-    subst (λ j. IsGood positions j other) (sym k_is) (subst (IsGood positions n) same good))
+    subst (λ j. IsGood labels marks j other) (sym k_is) (subst (IsGood labels marks n) same good))
     (cases_lt k n)
 
-pub there_more : (items : List Item) (positions : List ℕ) (n : ℕ) → AreThereBefore items positions n → slice_get items (slice_index positions n) ≡ Some (Label n) → AreThereBefore items positions (n + 1)
-there_more items positions n before there label lt =
+pub there_more : (items : List Item) (kind : ℕ → Item) (positions : List ℕ) (n : ℕ) → AreThereBefore items kind positions n → slice_get items (slice_index positions n) ≡ Some (kind n) → AreThereBefore items kind positions (n + 1)
+there_more items kind positions n before there number lt =
     ⊎_elim
-    (λ lt. before label lt)
-    (λ ge. let same : n ≡ label = omega arith in subst (λ j. slice_get items (slice_index positions j) ≡ Some (Label j)) same there)
-    (cases_lt label n)
+    (λ lt. before number lt)
+    (λ ge. let same : n ≡ number = omega arith in subst (λ j. slice_get items (slice_index positions j) ≡ Some (kind j)) same there)
+    (cases_lt number n)

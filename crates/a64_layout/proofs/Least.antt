@@ -11,7 +11,6 @@ use Rattle.a64_layout.specs.Layout.{Set, place, position_of, label_place, Fits, 
 use Rattle.a64_layout.specs.Passes.{NamesBelow}
 use Rattle.a64_layout.specs.declared.branch.Test.{Test}
 use Rattle.a64_layout.specs.declared.branch.Test.TheVariants.{Holds, Zero, Bit}
-use Rattle.a64_layout.proofs.Flags.{no_both}
 
 -- ---- branches
 -- each goes three words back at least

@@ -1,5 +1,5 @@
 -- A run of labelled code is a run of its text: an item is one word or two, labels and marks are none.
-use Rattle.std.proofs.Common.{◌≡◌, ℕ, zero, suc, ◌+◌, ◌*◌, ◌/◌, ◌<◌, ◌≤◌, ◌⊎◌, inl, inr, ⊎_elim, pos, Bool, true, false, not, if◌then◌else◌, Option, Some, None, List, length, refl, sym, ap, ◌∙◌, subst, arith, lit≤}
+use Rattle.std.proofs.Common.{◌≡◌, ℕ, zero, suc, ◌+◌, ◌*◌, ◌/◌, ◌<◌, ◌≤◌, ◌⊎◌, inl, inr, ⊎_elim, pos, Bool, true, false, not, if◌then◌else◌, Option, Some, None, List, length, refl, sym, ap, ◌∙◌, subst, arith}
 use Rattle.std.specs.Prelude.{slice_get}
 use Rattle.std.proofs.Math.Nat.{add-mul, one-mul, zero-mul, mul-le-mul_right}
 use Rattle.std.proofs.lemmas.Bool.{cases_lt}
@@ -7,19 +7,19 @@ use Rattle.std.proofs.lemmas.Nat.{div_below}
 use Rattle.std.proofs.lemmas.Int.{ints}
 use Rattle.std.proofs.lemmas.Option.{slice_get_within}
 use Rattle.b3_base.specs.Run.{iterate, Simulates}
-use Rattle.b3_base.proofs.Run.{iterate-zero, iterate-one, iterate-suc, iterate-add, run_simulated}
+use Rattle.b3_base.proofs.Run.{iterate-zero, iterate-one, iterate-suc, iterate-add}
 use Rattle.a64_inst.specs.declared.inst.Inst.{Inst}
 use Rattle.a64_inst.specs.declared.item.Item.{Item}
 use Rattle.a64_inst.specs.declared.item.Item.TheVariants.{Plain, Jump, If, IfZero, IfBit, Label, Mark}
 use Rattle.a64_layout.specs.Branch.{IsTest, branch_in, opposite, reach, size_in}
 use Rattle.a64_layout.specs.Layout.{Fits, IsIf, Set, place, position_of, label_place, IsEnough}
-use Rattle.a64_layout.specs.Run.{Config, At, Ended, Broken, Outcome, Goes, Ends, after, Meaning, IsWellMarked, IsMarked, mark_before, goes_if, item_does, item_step, branch_cost, item_cost, cost, run_cost, StandsAt, HasDone, IsAt, IsAlike, Executes, free_with, free_before, free_steps, GoesOn, GoForward, place_at}
-use Rattle.a64_layout.specs.Text.{distance, test_word, jump_word, if_words, words_of, words_in, words_before, IsWellLabelled}
+use Rattle.a64_layout.specs.Run.{Config, At, Ended, Broken, Outcome, Goes, Ends, after, Meaning, IsWellMarked, IsMarked, mark_before, item_does, item_step, branch_cost, item_cost, cost, run_cost, StandsAt, HasDone, IsAt, IsAlike, Executes, free_with, free_before, free_steps, GoesOn, GoForward, place_at}
+use Rattle.a64_layout.specs.Text.{distance, test_word, jump_word, if_words, words_of, words_before, IsWellLabelled}
 use Rattle.a64_layout.specs.declared.branch.Test.{Test}
 use Rattle.a64_layout.specs.declared.branch.Test.TheVariants.{Holds, Zero, Bit}
 use Rattle.a64_layout.proofs.Flags.{true_or_false}
 use Rattle.a64_layout.proofs.Labels.{place_short, label_short}
-use Rattle.a64_layout.proofs.Least.{no_branch, no_some, one_or_two, place-zero, place-next, place_mono, size_if}
+use Rattle.a64_layout.proofs.Least.{no_branch, no_some, one_or_two, place-next, place_mono, size_if}
 use Rattle.a64_layout.proofs.Marked.{branch_unmarked, inside_unmarked, instruction_marked}
 use Rattle.a64_layout.proofs.WordAt.{word_at}
 

@@ -1,13 +1,12 @@
 -- The machine runs the words as the run of the items asks.
-use Rattle.std.proofs.Common.{◌≡◌, ℕ, ℤ, pos, ◌+◌, ◌-◌, ◌*◌, ◌/◌, ◌%◌, ◌^◌, ◌<◌, ◌≤◌, ⊎_elim, Bool, true, false, not, ◌&&◌, Option, Some, None, List, length, refl, sym, ap, ◌∙◌, subst, arith, nat_eq, nat_le, if◌then◌else◌}
+use Rattle.std.proofs.Common.{◌≡◌, ℕ, ℤ, ◌+◌, ◌-◌, ◌*◌, ◌/◌, ◌%◌, ◌^◌, ◌<◌, ◌≤◌, Bool, true, false, not, ◌&&◌, Some, List, length, refl, sym, ap, ◌∙◌, subst, arith, nat_eq, nat_le, if◌then◌else◌}
 use Rattle.std.specs.Prelude.{slice_get}
-use Rattle.std.proofs.Math.IntN.{◌-ℤ◌}
-use Rattle.std.proofs.lemmas.Bool.{cases_lt, le-leb}
+use Rattle.std.proofs.lemmas.Bool.{le-leb}
 use Rattle.std.proofs.lemmas.Bool.Decides.{nat_tests}
 use Rattle.std.proofs.lemmas.Int.{ints}
 use Rattle.std.proofs.lemmas.Option.{slice_get_within}
 use Rattle.b3_base.specs.Run.{iterate}
-use Rattle.a64_inst.specs.Registers.{Registers, Bytes, Stepped, goes_on}
+use Rattle.a64_inst.specs.Registers.{Stepped}
 use Rattle.a64_inst.specs.Step.{step_of}
 use Rattle.a64_inst.specs.StepBranch.{branch, branch_bit, branch_if, branch_target, branch_zero, is_taken}
 use Rattle.a64_inst.specs.Values.{holds}
@@ -17,16 +16,14 @@ use Rattle.a64_inst.specs.declared.inst.Cond.TheVariants.{Eq, Ne, Hs, Lo, Mi, Pl
 use Rattle.a64_inst.specs.declared.inst.Inst.{Inst}
 use Rattle.a64_inst.specs.declared.inst.Inst.TheVariants.{Branch}
 use Rattle.a64_inst.specs.declared.item.Item.{Item}
-use Rattle.a64_inst.specs.declared.item.Item.TheVariants.{Plain}
 use Rattle.a64_inst.specs.declared.state.Flags.{Flags}
-use Rattle.a64_inst.specs.declared.state.Outcome.{Outcome as Left}
 use Rattle.a64_word.specs.Word.{word}
 use Rattle.a64_word.proofs.Inverse.{decode-word}
 use Rattle.a64_layout.specs.Branch.{IsTest, branch_by, opposite, opposite_cond, reach}
 use Rattle.a64_layout.specs.Layout.{Fits, IsEnough, Set, place}
-use Rattle.a64_layout.specs.Machine.{Machine, decoded, does_one, goes_on_at, instruction_does, is_next, items_at, machine_of, machine_step, moved_to, RunsAsItems, test_holds, word_at}
-use Rattle.a64_layout.specs.Run.{At, Ends, Executes, Goes, HasDone, IsAlike, IsWellMarked, Outcome, StandsAt, item_step, run_cost}
-use Rattle.a64_layout.specs.Text.{IsWellLabelled, distance, jump_word, test_word, words_before}
+use Rattle.a64_layout.specs.Machine.{Machine, decoded, does_one, goes_on_at, is_next, items_at, machine_of, machine_step, moved_to, RunsAsItems, test_holds, word_at}
+use Rattle.a64_layout.specs.Run.{At, Ends, Executes, Goes, HasDone, IsAlike, IsWellMarked, StandsAt, run_cost}
+use Rattle.a64_layout.specs.Text.{IsWellLabelled, distance, words_before}
 use Rattle.a64_layout.specs.declared.branch.Test.{Test}
 use Rattle.a64_layout.specs.declared.branch.Test.TheVariants.{Holds, Zero, Bit}
 use Rattle.a64_layout.proofs.Least.{place-zero}

@@ -2,11 +2,11 @@
 use Rattle.std.proofs.Common.{◌≡◌, ℕ, zero, suc, ◌+◌, ◌^◌, ◌<◌, ◌≤◌, Bool, true, false, Option, Some, None, List, [], ◌++◌, length, refl, sym, ap, ◌∙◌, arith, length-append}
 use Rattle.std.specs.Prelude.{slice_get, slice_index}
 use Rattle.std.proofs.lemmas.Option.{slice_get_within}
-use Rattle.a64_layout.specs.Layout.{Fits, IsIf, most_words, Set, place, label_place, IsEnough}
+use Rattle.a64_layout.specs.Layout.{IsIf, most_words, Set, place, label_place, IsEnough}
 use Rattle.a64_layout.specs.Text.{if_words, words_of, words_in, words_before, label_count, IsWellLabelled, TellsLabels}
 use Rattle.a64_inst.specs.declared.item.Item.{Item}
 use Rattle.a64_inst.specs.declared.item.Item.TheVariants.{Plain, Jump, If, IfZero, IfBit, Label, Mark}
-use Rattle.a64_layout.specs.Branch.{branch_in, reach, size_of, size_in}
+use Rattle.a64_layout.specs.Branch.{branch_in, size_of, size_in}
 use Rattle.a64_layout.specs.Passes.{CanBranch, CanStand, GoesBelow}
 use Rattle.a64_layout.specs.declared.branch.Test.{Test}
 use Rattle.a64_layout.specs.declared.branch.Test.TheVariants.{Holds, Zero, Bit}

@@ -1,5 +1,4 @@
-use Rattle.std.proofs.Common.{false, refl, sym, ap, ◌∙◌, subst, arith}
-use Rattle.a64_layout.specs.Layout.{IsLeast}
+use Rattle.std.proofs.Common.{refl, sym, subst, arith}
 use Rattle.a64_layout.specs.Text.{chosen}
 use Rattle.a64_layout.specs.Passes.{ReachBack}
 use Rattle.a64_layout.proofs.Flags.{flags_most, no_both}

@@ -1,12 +1,10 @@
-use Rattle.std.proofs.Common.{◌+◌, ◌∙◌, ap, sym, arith}
-use Rattle.std.proofs.lemmas.Option.{slice_get_within}
+use Rattle.std.proofs.Common.{◌∙◌, ap, arith}
 use Rattle.a64_layout.specs.Branch.{branch_in, branch_of}
 use Rattle.a64_layout.specs.Text.{chosen}
 use Rattle.a64_layout.proofs.Back.{back_first, back_kept, back_lengthened, back_whole}
 use Rattle.a64_layout.proofs.Flags.{no_both}
 use Rattle.a64_layout.proofs.Labels.{place_short}
 use Rattle.a64_layout.proofs.Least.{names_below}
-use Rattle.a64_layout.proofs.Putting.{label_below}
 use Rattle.a64_layout.proofs.layout.lengthen_back.Goals as goal
 use Rattle.a64_layout.proofs.layout.lengthen_back.Goals.{then-not-is_near_back, else-not-is_near_back}
 

@@ -1,6 +1,5 @@
 use Rattle.std.proofs.Common.{◌+◌, ◌-◌, ◌∙◌, ap, subst, length, arith}
 use Rattle.a64_layout.specs.Branch.{branch_in, branch_of}
-use Rattle.a64_layout.specs.Text.{chosen}
 use Rattle.a64_layout.proofs.Forward.{IsPassForward, forward_first, forward_kept, forward_lengthened, forward_whole, rest_short}
 use Rattle.a64_layout.proofs.Flags.{no_both}
 use Rattle.a64_layout.proofs.Least.{names_below}
