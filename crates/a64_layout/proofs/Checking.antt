@@ -55,11 +55,16 @@ label_first items label k there =
     (cases_lt k (position_of items label))
 
 -- what is checked of a branch
-good_branch : (positions marks : List ℕ) (k : ℕ) (test : Test) (label : ℕ) (o : Option Item) → ((item : Item) → o ≡ Some item → IsGood positions marks k item) → branch_in o ≡ Some (test, label) → IsTest test × (label < length positions)
+good_branch : (positions marks : List ℕ) (k : ℕ) (test : Test) (label : ℕ) (o : Option Item)
+    → ((item : Item) → o ≡ Some item → IsGood positions marks k item) → branch_in o ≡ Some (test, label) → IsTest test × (label < length positions)
 good_branch positions marks k test label None good is = absurd (none_is_no_branch (test, label) is)
-good_branch positions marks k test label (Some (If cond to)) good is = subst (λ (b : Test × ℕ). IsTest b.0 × (b.1 < length positions)) (one_branch (Some (Holds cond, to)) (Holds cond, to) (test, label) refl is) (good (If cond to) refl)
-good_branch positions marks k test label (Some (IfZero width nonzero reg to)) good is = subst (λ (b : Test × ℕ). IsTest b.0 × (b.1 < length positions)) (one_branch (Some (Zero width nonzero reg, to)) (Zero width nonzero reg, to) (test, label) refl is) (good (IfZero width nonzero reg to) refl)
-good_branch positions marks k test label (Some (IfBit nonzero reg at to)) good is = subst (λ (b : Test × ℕ). IsTest b.0 × (b.1 < length positions)) (one_branch (Some (Bit nonzero reg at, to)) (Bit nonzero reg at, to) (test, label) refl is) (good (IfBit nonzero reg at to) refl)
+good_branch positions marks k test label (Some (If cond to)) good is = subst (λ (b : Test × ℕ). IsTest b.0 × (b.1 < length positions))
+    (one_branch (Some (Holds cond, to)) (Holds cond, to) (test, label) refl is) (good (If cond to) refl)
+good_branch positions marks k test label (Some (IfZero width nonzero reg to)) good is = subst
+    (λ (b : Test × ℕ). IsTest b.0 × (b.1 < length positions))
+    (one_branch (Some (Zero width nonzero reg, to)) (Zero width nonzero reg, to) (test, label) refl is) (good (IfZero width nonzero reg to) refl)
+good_branch positions marks k test label (Some (IfBit nonzero reg at to)) good is = subst (λ (b : Test × ℕ). IsTest b.0 × (b.1 < length positions))
+    (one_branch (Some (Bit nonzero reg at, to)) (Bit nonzero reg at, to) (test, label) refl is) (good (IfBit nonzero reg at to) refl)
 good_branch positions marks k test label (Some (Plain inst)) good is = absurd (none_is_no_branch (test, label) is)
 good_branch positions marks k test label (Some (Jump to)) good is = absurd (none_is_no_branch (test, label) is)
 good_branch positions marks k test label (Some (Label to)) good is = absurd (none_is_no_branch (test, label) is)
@@ -78,7 +83,8 @@ mark_first items mark k there =
     (λ le. le)
     (cases_lt k (mark_position_of items mark))
 
-pub checked : (items : List Item) (labels marks : List ℕ) → length labels ≡ label_count items → length marks ≡ mark_count items → length items < 2 ^ 22 → AreGood items labels marks → LabelsThere items labels → MarksThere items marks → IsWellLabelled items
+pub checked : (items : List Item) (labels marks : List ℕ) → length labels ≡ label_count items → length marks ≡ mark_count items
+    → length items < 2 ^ 22 → AreGood items labels marks → LabelsThere items labels → MarksThere items marks → IsWellLabelled items
 checked items labels marks count mark_total few good there marks_there = record {
   insts = λ k inst is. good k (Plain inst) is;
   tests = λ k test label is. (good_branch labels marks k test label (slice_get items k) (λ item there. good k item there) is).0;
@@ -109,7 +115,8 @@ AreGoodBefore items labels marks n = (k : ℕ) (item : Item) → k < n → slice
 abbrev pub AreThereBefore : List Item → (ℕ → Item) → List ℕ → ℕ → Type 0
 AreThereBefore items kind positions n = (number : ℕ) → number < n → slice_get items (slice_index positions number) ≡ Some (kind number)
 
-pub good_more : (items : List Item) (labels marks : List ℕ) (n : ℕ) (item : Item) → AreGoodBefore items labels marks n → slice_get items n ≡ Some item → IsGood labels marks n item → AreGoodBefore items labels marks (n + 1)
+pub good_more : (items : List Item) (labels marks : List ℕ) (n : ℕ) (item : Item) → AreGoodBefore items labels marks n → slice_get items n ≡ Some item
+    → IsGood labels marks n item → AreGoodBefore items labels marks (n + 1)
 good_more items labels marks n item before there good k other lt is =
     ⊎_elim
     (λ lt. before k other lt is)
@@ -120,7 +127,8 @@ good_more items labels marks n item before there good k other lt is =
     subst (λ j. IsGood labels marks j other) (sym k_is) (subst (IsGood labels marks n) same good))
     (cases_lt k n)
 
-pub there_more : (items : List Item) (kind : ℕ → Item) (positions : List ℕ) (n : ℕ) → AreThereBefore items kind positions n → slice_get items (slice_index positions n) ≡ Some (kind n) → AreThereBefore items kind positions (n + 1)
+pub there_more : (items : List Item) (kind : ℕ → Item) (positions : List ℕ) (n : ℕ) → AreThereBefore items kind positions n
+    → slice_get items (slice_index positions n) ≡ Some (kind n) → AreThereBefore items kind positions (n + 1)
 there_more items kind positions n before there number lt =
     ⊎_elim
     (λ lt. before number lt)

@@ -7,7 +7,8 @@ use Rattle.std.proofs.lemmas.List.Sums.{count_by_more_yes, count_by_more_no}
 use Rattle.std.proofs.lemmas.Option.{slice_get_within, get_or_from_slice_get}
 use Rattle.a64_inst.specs.declared.item.Item.{Item}
 
-module _ (p : Item → Bool) (items : List Item) (at count : ℕ) (item : Item) (there : slice_get items at ≡ Some item) (before : count ≡ count_by p (take at items)) where
+module _ (p : Item → Bool) (items : List Item) (at count : ℕ) (item : Item) (there : slice_get items at ≡ Some item)
+    (before : count ≡ count_by p (take at items)) where
   own : (flag : Bool) → p item ≡ flag → p (get_or items at item) ≡ flag
   own flag is = ap p (get_or_from_slice_get items at item item there) ∙ is
 

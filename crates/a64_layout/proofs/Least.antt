@@ -70,7 +70,8 @@ names_below n None named = tt
 names_below n (Some (test, label)) named = named test label refl
 
 -- a short conditional item is one word
-pub place-short : (items : List Item) (long : Set) (k : ℕ) (b : Test × ℕ) → branch_in (slice_get items k) ≡ Some b → long k ≡ false → place items long (k + 1) ≡ place items long k + 1
+pub place-short : (items : List Item) (long : Set) (k : ℕ) (b : Test × ℕ) → branch_in (slice_get items k) ≡ Some b → long k ≡ false
+    → place items long (k + 1) ≡ place items long k + 1
 place-short items long k b is short =
     let size = size_if (long k) (slice_get items k) b is in
     let one : one_or_two (long k) ≡ 1 = ap one_or_two short in
@@ -107,7 +108,8 @@ place_mono items long i (suc j) le =
     (cases_lt i (suc j))
 
 -- between two positions there are no fewer words where more of the items there are long
-stretches_where : (items : List Item) (few more : Set) (i j : ℕ) → ((k : ℕ) → i ≤ k → k < j → few k ≡ true → more k ≡ true) → i ≤ j → place items few j + place items more i ≤ place items more j + place items few i
+stretches_where : (items : List Item) (few more : Set) (i j : ℕ) → ((k : ℕ) → i ≤ k → k < j → few k ≡ true → more k ≡ true) → i ≤ j
+    → place items few j + place items more i ≤ place items more j + place items few i
 stretches_where items few more i zero within le =
     let e : i ≡ zero = omega arith in
     let same_few = ap (place items few) e in
@@ -129,7 +131,8 @@ stretches_where items few more i (suc j) within le =
     (cases_lt i (suc j))
 
 -- between two positions there are as many words where the same items are long
-pub same_stretch : (items : List Item) (a b : Set) (i j : ℕ) → ((k : ℕ) → i ≤ k → k < j → a k ≡ b k) → i ≤ j → place items a j + place items b i ≡ place items b j + place items a i
+pub same_stretch : (items : List Item) (a b : Set) (i j : ℕ) → ((k : ℕ) → i ≤ k → k < j → a k ≡ b k) → i ≤ j
+    → place items a j + place items b i ≡ place items b j + place items a i
 same_stretch items a b i j same le =
     let up = stretches_where items a b i j (λ k ge lt is. sym (same k ge lt) ∙ is) le in
     let down = stretches_where items b a i j (λ k ge lt is. same k ge lt ∙ is) le in
@@ -148,7 +151,8 @@ module _ (items : List Item) (few more : Set) (within : IsWithin few more) where
   stretches i j le = stretches_where items few more i j (λ k ge lt. within k) le
 
   -- a distance that fits where more items are long fits
-  pub fits_within : (test : Test) (i j : ℕ) → Fits (reach test) (place items more i) (place items more j) → Fits (reach test) (place items few i) (place items few j)
+  pub fits_within : (test : Test) (i j : ℕ) → Fits (reach test) (place items more i) (place items more j)
+      → Fits (reach test) (place items few i) (place items few j)
   fits_within test i j fits =
       let some = some_reach test in
       let h0 = fits.0 in
@@ -182,19 +186,23 @@ never_at k e = grind (arith, nat_tests)
 
 module _ (items : List Item) where
   -- a set that is enough stays so without an item that fits, or that isn't conditional
-  without_enough : (long : Set) (at : ℕ) → IsEnough items long → ((test : Test) (label : ℕ) → IsIf items at test label → FitsIn items (without long at) at test label) → IsEnough items (without long at)
+  without_enough : (long : Set) (at : ℕ) → IsEnough items long
+      → ((test : Test) (label : ℕ) → IsIf items at test label → FitsIn items (without long at) at test label) → IsEnough items (without long at)
   without_enough long at enough fits k test label there out =
       ⊎_elim
       (λ no. fits_within items (without long at) long (without_within long at) test k (position_of items label) (enough k test label there no))
-      (λ no. let same : k ≡ at = same_at k at no in subst (λ j. FitsIn items (without long at) j test label) (sym same) (fits test label (subst (λ j. IsIf items j test label) same there)))
+      (λ no. let same : k ≡ at = same_at k at no in subst (λ j. FitsIn items (without long at) j test label) (sym same)
+      (fits test label (subst (λ j. IsIf items j test label) same there)))
       (and_false (long k) (not (k == at)) out)
 
   -- so the least set has no such item
-  least_without : (long : Set) (at : ℕ) → IsLeast items long → long at ≡ true → ((test : Test) (label : ℕ) → IsIf items at test label → FitsIn items (without long at) at test label) → ⊥
+  least_without : (long : Set) (at : ℕ) → IsLeast items long → long at ≡ true
+      → ((test : Test) (label : ℕ) → IsIf items at test label → FitsIn items (without long at) at test label) → ⊥
   least_without long at least there fits =
       never_at at (and_right (long at) (not (at == at)) (least.least (without long at) (without_enough long at least.enough fits) at there))
 
-  alone_does_not : (long : Set) (k : ℕ) (test : Test) (label : ℕ) → IsLeast items long → IsIf items k test label → long k ≡ true → FitsIn items (without long k) k test label → ⊥
+  alone_does_not : (long : Set) (k : ℕ) (test : Test) (label : ℕ) → IsLeast items long → IsIf items k test label → long k ≡ true
+      → FitsIn items (without long k) k test label → ⊥
   alone_does_not long k test label least there chosen fits =
       least_without long k least chosen
       (λ t l e.
@@ -205,7 +213,8 @@ module _ (items : List Item) where
   pub least_is_short : (long : Set) → IsLeast items long → IsShort items long
   least_is_short long least = record {
     short_fits = least.enough;
-    long_does_not = λ k test label there chosen fits. alone_does_not long k test label least there chosen (fits_within items (without long k) long (without_within long k) test k (position_of items label) fits);
+    long_does_not = λ k test label there chosen fits. alone_does_not long k test label least there chosen
+        (fits_within items (without long k) long (without_within long k) test k (position_of items label) fits);
     nor_alone = λ k test label there chosen fits. alone_does_not long k test label least there chosen fits;
     conditional = λ k chosen.
         ⊎_elim
@@ -215,16 +224,21 @@ module _ (items : List Item) where
   }
 
   -- where each short item reaches its label, before it or after it, all fit
-  pub reach_enough : (long : Set) → ((k : ℕ) (test : Test) (label : ℕ) → IsIf items k test label → position_of items label < k → long k ≡ false → place items long k ≤ label_place items long label + reach test)
-      → ((k : ℕ) (test : Test) (label : ℕ) → IsIf items k test label → k < position_of items label → long k ≡ false → label_place items long label < place items long k + reach test) → IsEnough items long
+  pub reach_enough : (long : Set)
+      → ((k : ℕ) (test : Test) (label : ℕ) → IsIf items k test label → position_of items label < k → long k ≡ false
+      → place items long k ≤ label_place items long label + reach test)
+      → ((k : ℕ) (test : Test) (label : ℕ) → IsIf items k test label → k < position_of items label → long k ≡ false
+      → label_place items long label < place items long k + reach test) → IsEnough items long
   reach_enough long back forward k test label there short =
       let some = some_reach test in
       ⊎_elim
-      (λ lt. let near = back k test label there lt short in let up = place_mono items long (position_of items label) k (omega arith) in (omega arith, omega arith))
+      (λ lt. let near = back k test label there lt short in let up = place_mono items long (position_of items label) k (omega arith) in
+      (omega arith, omega arith))
       (λ ge.
       let up = place_mono items long k (position_of items label) ge in
       ⊎_elim
       (λ gt. let near = forward k test label there gt short in (omega arith, omega arith))
-      (λ le. let e : k ≡ position_of items label = omega arith in let same : place items long k ≡ label_place items long label = ap (place items long) e in (omega arith, omega arith))
+      (λ le. let e : k ≡ position_of items label = omega arith in let same : place items long k ≡ label_place items long label = ap (place items long)
+      e in (omega arith, omega arith))
       (cases_lt k (position_of items label)))
       (cases_lt (position_of items label) k)

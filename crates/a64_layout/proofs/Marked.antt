@@ -30,7 +30,8 @@ some_none mark e = cc
 
 module _ (items : List Item) (good : IsWellLabelled items) (marked : IsWellMarked items) (long : Set) where
   -- a mark takes no word, and the instruction after it takes one
-  at_mark : (p mark : ℕ) → slice_get items p ≡ Some (Mark mark) → (place items long (p + 1) ≡ place items long p) × (place items long (p + 1 + 1) ≡ place items long p + 1)
+  at_mark : (p mark : ℕ) → slice_get items p ≡ Some (Mark mark)
+      → (place items long (p + 1) ≡ place items long p) × (place items long (p + 1 + 1) ≡ place items long p + 1)
   at_mark p mark there =
       let inst = marked p mark there in
       let first = place-next items long p in
@@ -46,7 +47,8 @@ module _ (items : List Item) (good : IsWellLabelled items) (marked : IsWellMarke
       good.mark_once (mark_position_of items mark) p mark (mark_stands items mark (good.mark_there mark below)) there
 
   -- a mark at the place of an item that takes words stands right before it, and it is an instruction
-  mark_at_place : (k mark : ℕ) → mark < mark_count items → place items long k < place items long (k + 1) → place items long (mark_position_of items mark) ≡ place items long k → mark_position_of items mark + 1 ≡ k
+  mark_at_place : (k mark : ℕ) → mark < mark_count items → place items long k < place items long (k + 1)
+      → place items long (mark_position_of items mark) ≡ place items long k → mark_position_of items mark + 1 ≡ k
   mark_at_place k mark below takes same =
       let p = mark_position_of items mark in
       let there = mark_stands items mark (good.mark_there mark below) in
@@ -62,7 +64,8 @@ module _ (items : List Item) (good : IsWellLabelled items) (marked : IsWellMarke
       (λ past.
       ⊎_elim
       (λ more. let up = place_mono items long (k + 1) p (omega arith) in absurd (omega arith))
-      (λ less. let e : p ≡ k = omega arith in let at_k : place items long (p + 1) ≡ place items long (k + 1) = ap (λ n. place items long (n + 1)) e in absurd (omega arith))
+      (λ less. let e : p ≡ k = omega arith in let at_k : place items long (p + 1) ≡ place items long (k + 1) = ap (λ n. place items long (n + 1)) e in
+      absurd (omega arith))
       (cases_lt k p))
       (cases_lt p k)
 
@@ -74,14 +77,16 @@ module _ (items : List Item) (good : IsWellLabelled items) (marked : IsWellMarke
       (λ ge. let up = place_mono items long (mark_position_of items mark) k ge in omega arith)
       (cases_lt k (mark_position_of items mark))
 
-  not_plain_unmarked : (k mark : ℕ) → mark < mark_count items → place items long k < place items long (k + 1) → ((inst : Inst) → slice_get items k ≡ Some (Plain inst) → ⊥) → place items long (mark_position_of items mark) ≢ place items long k
+  not_plain_unmarked : (k mark : ℕ) → mark < mark_count items → place items long k < place items long (k + 1)
+      → ((inst : Inst) → slice_get items k ≡ Some (Plain inst) → ⊥) → place items long (mark_position_of items mark) ≢ place items long k
   not_plain_unmarked k mark below takes other same =
       let next = mark_at_place k mark below takes same in
       let inst = marked (mark_position_of items mark) mark (mark_stands items mark (good.mark_there mark below)) in
       other inst.0 (ap (slice_get items) (sym next) ∙ inst.1)
 
   -- nor at a branch
-  pub branch_unmarked : (k : ℕ) → place items long k < place items long (k + 1) → ((inst : Inst) → slice_get items k ≡ Some (Plain inst) → ⊥) → IsMarked items long (place items long k) None
+  pub branch_unmarked : (k : ℕ) → place items long k < place items long (k + 1) → ((inst : Inst) → slice_get items k ≡ Some (Plain inst) → ⊥)
+      → IsMarked items long (place items long k) None
   branch_unmarked k takes other mark below = not_plain_unmarked k mark below takes other
 
   marked_by : (k : ℕ) (o : Option ℕ) → mark_before items k ≡ o → place items long k < place items long (k + 1) → IsMarked items long (place items long k) o

@@ -46,20 +46,26 @@ pub record ArePut (items : List Item) (kind : ℕ → Item) (count : ℕ) (value
   pub count_is : length put ≡ count
   pub told : (k number : ℕ) → Met k → slice_get items k ≡ Some (kind number) → slice_index put number ≡ value k
 
-pub none_put : (items : List Item) (kind : ℕ → Item) (count : ℕ) (value : ℕ → ℕ) (Met : ℕ → Type 0) (put : List ℕ) → ((k : ℕ) → Met k → k < length items → ⊥) → length put ≡ count
+pub none_put : (items : List Item) (kind : ℕ → Item) (count : ℕ) (value : ℕ → ℕ) (Met : ℕ → Type 0) (put : List ℕ)
+    → ((k : ℕ) → Met k → k < length items → ⊥) → length put ≡ count
     → ((k number : ℕ) → slice_get items k ≡ Some (kind number) → k < length items) → ArePut items kind count value Met put
-none_put items kind count value Met put none count_is within = record { count_is = count_is; told = λ k number met there. absurd (none k met (within k number there)) }
+none_put items kind count value Met put none count_is within = record
+    { count_is = count_is; told = λ k number met there. absurd (none k met (within k number there)) }
 
 -- where the values of what was met stay
-pub put_again : (items : List Item) (kind : ℕ → Item) (count : ℕ) (value other : ℕ → ℕ) (Met : ℕ → Type 0) (put : List ℕ) → ((k : ℕ) → Met k → value k ≡ other k) → ArePut items kind count value Met put → ArePut items kind count other Met put
-put_again items kind count value other Met put same done = record { count_is = done.count_is; told = λ k number met there. done.told k number met there ∙ same k met }
+pub put_again : (items : List Item) (kind : ℕ → Item) (count : ℕ) (value other : ℕ → ℕ) (Met : ℕ → Type 0) (put : List ℕ)
+    → ((k : ℕ) → Met k → value k ≡ other k) → ArePut items kind count value Met put → ArePut items kind count other Met put
+put_again items kind count value other Met put same done = record
+    { count_is = done.count_is; told = λ k number met there. done.told k number met there ∙ same k met }
 
 module _ (items : List Item) (kind : ℕ → Item) (count : ℕ) (position : ℕ → ℕ) (all : AreNumbered items kind count position) (value : ℕ → ℕ) where
-  pub all_put : (Met : ℕ → Type 0) (put : List ℕ) → ArePut items kind count value Met put → (number : ℕ) → number < count → Met (position number) → slice_index put number ≡ value (position number)
+  pub all_put : (Met : ℕ → Type 0) (put : List ℕ) → ArePut items kind count value Met put → (number : ℕ) → number < count → Met (position number)
+      → slice_index put number ≡ value (position number)
   all_put Met put done number below met = done.told (position number) number met (all.stands number below)
 
   -- one position more
-  module _ (Met Now : ℕ → Type 0) (at here : ℕ) (split : (k : ℕ) → Now k → Met k ⊎ (k ≡ at)) (new : Met at → ⊥) (here_is : here ≡ value at) (put : List ℕ) (done : ArePut items kind count value Met put) where
+  module _ (Met Now : ℕ → Type 0) (at here : ℕ) (split : (k : ℕ) → Now k → Met k ⊎ (k ≡ at)) (new : Met at → ⊥) (here_is : here ≡ value at)
+      (put : List ℕ) (done : ArePut items kind count value Met put) where
     pub put_one : (number : ℕ) → slice_get items at ≡ Some (kind number) → ArePut items kind count value Now (set put number here)
     put_one number there =
         let below : number < length put = subst (λ n. number < n) (sym done.count_is) (all.below at number there) in
@@ -90,28 +96,46 @@ module _ (items : List Item) (kind : ℕ → Item) (count : ℕ) (position : ℕ
           (split k now);
     }
 
-module _ (items : List Item) (good : IsWellLabelled items) (value : ℕ → ℕ) (Met Now : ℕ → Type 0) (at here : ℕ) (split : (k : ℕ) → Now k → Met k ⊎ (k ≡ at)) (new : Met at → ⊥) (here_is : here ≡ value at) (put : List ℕ) where
+module _ (items : List Item) (good : IsWellLabelled items) (value : ℕ → ℕ) (Met Now : ℕ → Type 0) (at here : ℕ)
+    (split : (k : ℕ) → Now k → Met k ⊎ (k ≡ at)) (new : Met at → ⊥) (here_is : here ≡ value at) (put : List ℕ) where
   -- a label's number is put, and nothing at another item
-  pub label_put : (item : Item) → slice_get items at ≡ Some item → ArePut items label_at (label_count items) value Met put → ArePut items label_at (label_count items) value Now (with_label item here put)
-  label_put (Label label) there done = put_one items label_at (label_count items) (position_of items) (labels_numbered items good) value Met Now at here split new here_is put done label there
-  label_put (Plain inst) there done = put_other items label_at (label_count items) (position_of items) (labels_numbered items good) value Met Now at here split new here_is put done (λ n is. cc)
-  label_put (Jump label) there done = put_other items label_at (label_count items) (position_of items) (labels_numbered items good) value Met Now at here split new here_is put done (λ n is. cc)
-  label_put (If cond label) there done = put_other items label_at (label_count items) (position_of items) (labels_numbered items good) value Met Now at here split new here_is put done (λ n is. cc)
-  label_put (IfZero width nonzero reg label) there done = put_other items label_at (label_count items) (position_of items) (labels_numbered items good) value Met Now at here split new here_is put done (λ n is. cc)
-  label_put (IfBit nonzero reg bit label) there done = put_other items label_at (label_count items) (position_of items) (labels_numbered items good) value Met Now at here split new here_is put done (λ n is. cc)
-  label_put (Mark mark) there done = put_other items label_at (label_count items) (position_of items) (labels_numbered items good) value Met Now at here split new here_is put done (λ n is. cc)
+  pub label_put : (item : Item) → slice_get items at ≡ Some item → ArePut items label_at (label_count items) value Met put
+      → ArePut items label_at (label_count items) value Now (with_label item here put)
+  label_put (Label label) there done = put_one items label_at (label_count items) (position_of items) (labels_numbered items good) value Met Now at
+      here split new here_is put done label there
+  label_put (Plain inst) there done = put_other items label_at (label_count items) (position_of items) (labels_numbered items good) value Met Now at
+      here split new here_is put done (λ n is. cc)
+  label_put (Jump label) there done = put_other items label_at (label_count items) (position_of items) (labels_numbered items good) value Met Now at
+      here split new here_is put done (λ n is. cc)
+  label_put (If cond label) there done = put_other items label_at (label_count items) (position_of items) (labels_numbered items good) value Met Now
+      at here split new here_is put done (λ n is. cc)
+  label_put (IfZero width nonzero reg label) there done = put_other items label_at (label_count items) (position_of items)
+      (labels_numbered items good) value Met Now at here split new here_is put done (λ n is. cc)
+  label_put (IfBit nonzero reg bit label) there done = put_other items label_at (label_count items) (position_of items) (labels_numbered items good)
+      value Met Now at here split new here_is put done (λ n is. cc)
+  label_put (Mark mark) there done = put_other items label_at (label_count items) (position_of items) (labels_numbered items good) value Met Now at
+      here split new here_is put done (λ n is. cc)
 
-  pub mark_put : (item : Item) → slice_get items at ≡ Some item → ArePut items mark_at (mark_count items) value Met put → ArePut items mark_at (mark_count items) value Now (with_mark item here put)
-  mark_put (Mark mark) there done = put_one items mark_at (mark_count items) (mark_position_of items) (marks_numbered items good) value Met Now at here split new here_is put done mark there
-  mark_put (Plain inst) there done = put_other items mark_at (mark_count items) (mark_position_of items) (marks_numbered items good) value Met Now at here split new here_is put done (λ n is. cc)
-  mark_put (Jump label) there done = put_other items mark_at (mark_count items) (mark_position_of items) (marks_numbered items good) value Met Now at here split new here_is put done (λ n is. cc)
-  mark_put (If cond label) there done = put_other items mark_at (mark_count items) (mark_position_of items) (marks_numbered items good) value Met Now at here split new here_is put done (λ n is. cc)
-  mark_put (IfZero width nonzero reg label) there done = put_other items mark_at (mark_count items) (mark_position_of items) (marks_numbered items good) value Met Now at here split new here_is put done (λ n is. cc)
-  mark_put (IfBit nonzero reg bit label) there done = put_other items mark_at (mark_count items) (mark_position_of items) (marks_numbered items good) value Met Now at here split new here_is put done (λ n is. cc)
-  mark_put (Label label) there done = put_other items mark_at (mark_count items) (mark_position_of items) (marks_numbered items good) value Met Now at here split new here_is put done (λ n is. cc)
+  pub mark_put : (item : Item) → slice_get items at ≡ Some item → ArePut items mark_at (mark_count items) value Met put
+      → ArePut items mark_at (mark_count items) value Now (with_mark item here put)
+  mark_put (Mark mark) there done = put_one items mark_at (mark_count items) (mark_position_of items) (marks_numbered items good) value Met Now at
+      here split new here_is put done mark there
+  mark_put (Plain inst) there done = put_other items mark_at (mark_count items) (mark_position_of items) (marks_numbered items good) value Met Now at
+      here split new here_is put done (λ n is. cc)
+  mark_put (Jump label) there done = put_other items mark_at (mark_count items) (mark_position_of items) (marks_numbered items good) value Met Now at
+      here split new here_is put done (λ n is. cc)
+  mark_put (If cond label) there done = put_other items mark_at (mark_count items) (mark_position_of items) (marks_numbered items good) value Met Now
+      at here split new here_is put done (λ n is. cc)
+  mark_put (IfZero width nonzero reg label) there done = put_other items mark_at (mark_count items) (mark_position_of items)
+      (marks_numbered items good) value Met Now at here split new here_is put done (λ n is. cc)
+  mark_put (IfBit nonzero reg bit label) there done = put_other items mark_at (mark_count items) (mark_position_of items) (marks_numbered items good)
+      value Met Now at here split new here_is put done (λ n is. cc)
+  mark_put (Label label) there done = put_other items mark_at (mark_count items) (mark_position_of items) (marks_numbered items good) value Met Now at
+      here split new here_is put done (λ n is. cc)
 
 -- what is put has a place in the list
-pub label_below : (items : List Item) → IsWellLabelled items → (at : ℕ) (put : List ℕ) → length put ≡ label_count items → (item : Item) → slice_get items at ≡ Some item → LabelBelow (length put) item
+pub label_below : (items : List Item) → IsWellLabelled items → (at : ℕ) (put : List ℕ) → length put ≡ label_count items → (item : Item)
+    → slice_get items at ≡ Some item → LabelBelow (length put) item
 label_below items good at put count (Label label) there = let lt = good.labels at label there in omega arith
 label_below items good at put count (Plain inst) there = tt
 label_below items good at put count (Jump label) there = tt
@@ -120,7 +144,8 @@ label_below items good at put count (IfZero width nonzero reg label) there = tt
 label_below items good at put count (IfBit nonzero reg bit label) there = tt
 label_below items good at put count (Mark mark) there = tt
 
-pub mark_below : (items : List Item) → IsWellLabelled items → (at : ℕ) (put : List ℕ) → length put ≡ mark_count items → (item : Item) → slice_get items at ≡ Some item → MarkBelow (length put) item
+pub mark_below : (items : List Item) → IsWellLabelled items → (at : ℕ) (put : List ℕ) → length put ≡ mark_count items → (item : Item)
+    → slice_get items at ≡ Some item → MarkBelow (length put) item
 mark_below items good at put count (Mark mark) there = let lt = good.marks at mark there in omega arith
 mark_below items good at put count (Plain inst) there = tt
 mark_below items good at put count (Jump label) there = tt

@@ -42,7 +42,8 @@ unfolding free_before
 free-suc items k = let e : k + 1 ≡ suc k = omega arith in ap (free_before items) e
 
 -- instructions are a word each
-pub instructions_place : (items : List Item) (long : Set) (k n : ℕ) → ((i : ℕ) → i < n → (inst : Inst) × (slice_get items (k + i) ≡ Some (Plain inst))) → place items long (k + n) ≡ place items long k + n
+pub instructions_place : (items : List Item) (long : Set) (k n : ℕ)
+    → ((i : ℕ) → i < n → (inst : Inst) × (slice_get items (k + i) ≡ Some (Plain inst))) → place items long (k + n) ≡ place items long k + n
 instructions_place items long k zero all = let e : k + zero ≡ k = omega arith in let same = ap (place items long) e in omega arith
 instructions_place items long k (suc n) all =
     let e : k + suc n ≡ k + n + 1 = omega arith in
@@ -142,7 +143,8 @@ module _ {W E : Type 0} (m : Meaning W E) (items : List Item) (long : Set) where
   goes_on_most k s Broken on = elim on [ ]
 
   -- a step that goes farther on costs at most the words that it passes
-  step_forward : (k : ℕ) (s : W) → GoesOn (At k s) (item_step m items (At k s)) → cost m items long (At k s) + place items long k ≤ place_at items long (item_step m items (At k s))
+  step_forward : (k : ℕ) (s : W) → GoesOn (At k s) (item_step m items (At k s))
+      → cost m items long (At k s) + place items long k ≤ place_at items long (item_step m items (At k s))
   step_forward k s on =
       ⊎_elim
       (λ found.
@@ -158,7 +160,8 @@ module _ {W E : Type 0} (m : Meaning W E) (items : List Item) (long : Set) where
   any_forward Broken on = elim on [ ]
 
   -- steps that each go farther on cost at most the words that they pass
-  pub run_forward : (n : ℕ) (a : Config W E) → GoForward m items n a → run_cost m items long n a + place_at items long a ≤ place_at items long (iterate (item_step m items) n a)
+  pub run_forward : (n : ℕ) (a : Config W E) → GoForward m items n a
+      → run_cost m items long n a + place_at items long a ≤ place_at items long (iterate (item_step m items) n a)
   run_forward zero a forward =
       let none = run_cost-zero a in
       let same = ap (place_at items long) (iterate-zero (item_step m items) a) in
@@ -241,7 +244,8 @@ module _ {W E : Type 0} (m : Meaning W E) (items : List Item) (long : Set) where
       let rest = run_most n (item_step m items a) in
       omega arith
 
-  run_price : (b : ℕ) → ((k : ℕ) → free_before items k < b) → (n : ℕ) (a : Config W E) → n + free_steps items a ≤ run_cost m items long n a * b + free_steps items (iterate (item_step m items) n a)
+  run_price : (b : ℕ) → ((k : ℕ) → free_before items k < b) → (n : ℕ) (a : Config W E)
+      → n + free_steps items a ≤ run_cost m items long n a * b + free_steps items (iterate (item_step m items) n a)
   run_price b few zero a =
       let none = ap (λ c. c * b) (run_cost-zero a) in
       let free : 0 * b ≡ 0 = zero-mul b in
@@ -250,7 +254,8 @@ module _ {W E : Type 0} (m : Meaning W E) (items : List Item) (long : Set) where
   run_price b few (suc n) a =
       let rest = run_price b few n (item_step m items a) in
       let sum = ap (λ c. c * b) (run_cost-suc n a) in
-      let split : (cost m items long a + run_cost m items long n (item_step m items a)) * b ≡ cost m items long a * b + run_cost m items long n (item_step m items a) * b = add-mul (cost m items long a) (run_cost m items long n (item_step m items a)) b in
+      let split : (cost m items long a + run_cost m items long n (item_step m items a)) * b ≡ cost m items long a * b + run_cost m items long n
+      (item_step m items a) * b = add-mul (cost m items long a) (run_cost m items long n (item_step m items a)) b in
       let same = ap (free_steps items) (iterate-suc (item_step m items) n a) in
       let below = few_free b few a in
       ⊎_elim
@@ -276,11 +281,14 @@ module _ {W E : Type 0} (m : Meaning W E) (items : List Item) (long : Set) where
       omega arith
 
 -- ---- steps of the items are steps of the machine
-module _ {W E C : Type 0} (m : Meaning W E) (items : List Item) (good : IsWellLabelled items) (marked : IsWellMarked items) (long : Set) (enough : IsEnough items long)
-    (words : List ℕ) (words_are : words ≡ words_before items long (length items)) (Stands : ℕ → W → C → Type 0) (IsOver : E → W → C → Type 0) (step : C → C) (runs : Executes words Stands IsOver m items long step) where
+module _ {W E C : Type 0} (m : Meaning W E) (items : List Item) (good : IsWellLabelled items) (marked : IsWellMarked items) (long : Set)
+    (enough : IsEnough items long)
+    (words : List ℕ) (words_are : words ≡ words_before items long (length items)) (Stands : ℕ → W → C → Type 0) (IsOver : E → W → C → Type 0)
+    (step : C → C) (runs : Executes words Stands IsOver m items long step) where
   -- the machine is at each word of an item as that is run, and then where the run of the items is
   abbrev IsStep : Config W E → C → Type 0
-  IsStep a c = ((i : ℕ) → i < cost m items long a → IsAt words Stands IsOver items long i a (iterate step i c)) × IsAlike words Stands IsOver items long (item_step m items a) (iterate step (cost m items long a) c)
+  IsStep a c = ((i : ℕ) → i < cost m items long a → IsAt words Stands IsOver items long i a (iterate step i c)) × IsAlike words Stands IsOver items
+      long (item_step m items a) (iterate step (cost m items long a) c)
 
   stands : (here other : ℕ) (s : W) (c : C) → here ≡ other → StandsAt words Stands IsOver here s c → StandsAt words Stands IsOver other s c
   stands here other s c e at = subst (λ p. StandsAt words Stands IsOver p s c) e at
@@ -290,91 +298,113 @@ module _ {W E C : Type 0} (m : Meaning W E) (items : List Item) (good : IsWellLa
   no_word_step a x c is free alike = (
     λ i lt. absurd (omega arith),
     subst (λ n. IsAlike words Stands IsOver items long (item_step m items a) (iterate step n c)) (sym free)
-        (subst (IsAlike words Stands IsOver items long (item_step m items a)) (sym (iterate-zero step c)) (subst (λ z. IsAlike words Stands IsOver items long z c) (sym is) alike)),
+        (subst (IsAlike words Stands IsOver items long (item_step m items a)) (sym (iterate-zero step c))
+        (subst (λ z. IsAlike words Stands IsOver items long z c) (sym is) alike)),
   )
 
   first_at : (a : Config W E) (c : C) (i : ℕ) → i ≡ 0 → IsAlike words Stands IsOver items long a c → IsAt words Stands IsOver items long i a (iterate step i c)
-  first_at a c i none alike = subst (λ n. IsAt words Stands IsOver items long n a (iterate step n c)) (sym none) (subst (IsAt words Stands IsOver items long 0 a) (sym (iterate-zero step c)) alike)
+  first_at a c i none alike = subst (λ n. IsAt words Stands IsOver items long n a (iterate step n c)) (sym none)
+      (subst (IsAt words Stands IsOver items long 0 a) (sym (iterate-zero step c)) alike)
 
-  one_word_step : (a x : Config W E) (c : C) → item_step m items a ≡ x → cost m items long a ≡ 1 → IsAlike words Stands IsOver items long a c → IsAlike words Stands IsOver items long x (step c) → IsStep a c
+  one_word_step : (a x : Config W E) (c : C) → item_step m items a ≡ x → cost m items long a ≡ 1 → IsAlike words Stands IsOver items long a c
+      → IsAlike words Stands IsOver items long x (step c) → IsStep a c
   one_word_step a x c is one before alike = (
     λ i lt. first_at a c i (omega arith) before,
     subst (λ n. IsAlike words Stands IsOver items long (item_step m items a) (iterate step n c)) (sym one)
-        (subst (IsAlike words Stands IsOver items long (item_step m items a)) (sym (iterate-one step c)) (subst (λ z. IsAlike words Stands IsOver items long z (step c)) (sym is) alike)),
+        (subst (IsAlike words Stands IsOver items long (item_step m items a)) (sym (iterate-one step c))
+        (subst (λ z. IsAlike words Stands IsOver items long z (step c)) (sym is) alike)),
   )
 
-  two_word_step : (a x : Config W E) (c : C) → item_step m items a ≡ x → cost m items long a ≡ 2 → IsAlike words Stands IsOver items long a c → IsAt words Stands IsOver items long 1 a (step c) → IsAlike words Stands IsOver items long x (step (step c)) → IsStep a c
+  two_word_step : (a x : Config W E) (c : C) → item_step m items a ≡ x → cost m items long a ≡ 2 → IsAlike words Stands IsOver items long a c
+      → IsAt words Stands IsOver items long 1 a (step c) → IsAlike words Stands IsOver items long x (step (step c)) → IsStep a c
   two_word_step a x c is two before between alike = (
     λ i lt.
         ⊎_elim
         (λ first. first_at a c i (omega arith) before)
         (λ second.
         let e : i ≡ 1 = omega arith in
-        subst (λ n. IsAt words Stands IsOver items long n a (iterate step n c)) (sym e) (subst (IsAt words Stands IsOver items long 1 a) (sym (iterate-one step c)) between))
+        subst (λ n. IsAt words Stands IsOver items long n a (iterate step n c)) (sym e)
+        (subst (IsAt words Stands IsOver items long 1 a) (sym (iterate-one step c)) between))
         (cases_lt i 1),
     subst (λ n. IsAlike words Stands IsOver items long (item_step m items a) (iterate step n c)) (sym two)
-        (subst (IsAlike words Stands IsOver items long (item_step m items a)) (sym (iterate-suc step 1 c ∙ iterate-one step (step c))) (subst (λ z. IsAlike words Stands IsOver items long z (step (step c))) (sym is) alike)),
+        (subst (IsAlike words Stands IsOver items long (item_step m items a)) (sym (iterate-suc step 1 c ∙ iterate-one step (step c)))
+        (subst (λ z. IsAlike words Stands IsOver items long z (step (step c))) (sym is) alike)),
   )
 
   -- ---- where things stand
-  word_of_item : (k j : ℕ) (item : Item) (w : ℕ) → slice_get items k ≡ Some item → slice_get (words_of (long k) (place items long k) (label_place items long) item) j ≡ Some w → slice_get words (place items long k + j) ≡ Some w
+  word_of_item : (k j : ℕ) (item : Item) (w : ℕ) → slice_get items k ≡ Some item
+      → slice_get (words_of (long k) (place items long k) (label_place items long) item) j ≡ Some w → slice_get words (place items long k + j) ≡ Some w
   word_of_item k j item w there is = ap (λ ws. slice_get ws (place items long k + j)) words_are ∙ word_at items long k j item w there is
 
-  first_word : (k : ℕ) (item : Item) (w : ℕ) → slice_get items k ≡ Some item → slice_get (words_of (long k) (place items long k) (label_place items long) item) 0 ≡ Some w → slice_get words (place items long k) ≡ Some w
+  first_word : (k : ℕ) (item : Item) (w : ℕ) → slice_get items k ≡ Some item
+      → slice_get (words_of (long k) (place items long k) (label_place items long) item) 0 ≡ Some w → slice_get words (place items long k) ≡ Some w
   first_word k item w there is =
       let e : place items long k ≡ place items long k + 0 = omega arith in
       ap (slice_get words) e ∙ word_of_item k 0 item w there is
 
-  next_is : (k : ℕ) (item : Item) (size : ℕ) → slice_get items k ≡ Some item → size_in (long k) (Some item) ≡ size → place items long (k + 1) ≡ place items long k + size
+  next_is : (k : ℕ) (item : Item) (size : ℕ) → slice_get items k ≡ Some item → size_in (long k) (Some item) ≡ size
+      → place items long (k + 1) ≡ place items long k + size
   next_is k item size there is =
       let next = place-next items long k in
       let same = ap (size_in (long k)) there ∙ is in
       omega arith
 
   -- where the machine stands before a word it stands there
-  stands_here : (k : ℕ) (s : W) (c : C) (w : ℕ) → slice_get words (place items long k) ≡ Some w → IsAlike words Stands IsOver items long (At k s) c → Stands (place items long k) s c
+  stands_here : (k : ℕ) (s : W) (c : C) (w : ℕ) → slice_get words (place items long k) ≡ Some w → IsAlike words Stands IsOver items long (At k s) c
+      → Stands (place items long k) s c
   stands_here k s c w is alike =
       let within = slice_get_within words (place items long k) w is in
       let e : place items long k + 0 ≡ place items long k = omega arith in
       stands (place items long k + 0) (place items long k) s c e alike within
 
   -- the machine stands at a place of the items
-  alike_at : (k here : ℕ) (s : W) (c : C) → here ≡ place items long k → StandsAt words Stands IsOver here s c → IsAlike {E = E} words Stands IsOver items long (At k s) c
+  alike_at : (k here : ℕ) (s : W) (c : C) → here ≡ place items long k → StandsAt words Stands IsOver here s c
+      → IsAlike {E = E} words Stands IsOver items long (At k s) c
   alike_at k here s c e at = stands here (place items long k + 0) s c (omega arith) at
 
-  alike_if : (b : Bool) (s : W) (k l from to : ℕ) (c : C) → from ≡ place items long k → to ≡ place items long l → StandsAt words Stands IsOver (if b then from else to) s c → IsAlike {E = E} words Stands IsOver items long (At (if b then k else l) s) c
+  alike_if : (b : Bool) (s : W) (k l from to : ℕ) (c : C) → from ≡ place items long k → to ≡ place items long l
+      → StandsAt words Stands IsOver (if b then from else to) s c → IsAlike {E = E} words Stands IsOver items long (At (if b then k else l) s) c
   alike_if true s k l from to c e f at = alike_at k from s c e at
   alike_if false s k l from to c e f at = alike_at l to s c f at
 
   -- ---- instructions and jumps
-  alike_after : (k : ℕ) (inst : Inst) (s : W) (o : Outcome W E) (c : C) → slice_get items k ≡ Some (Plain inst) → m.does k (mark_before items k) inst s ≡ o → HasDone words Stands IsOver (place items long k) o c → IsAlike words Stands IsOver items long (after k o) c
+  alike_after : (k : ℕ) (inst : Inst) (s : W) (o : Outcome W E) (c : C) → slice_get items k ≡ Some (Plain inst)
+      → m.does k (mark_before items k) inst s ≡ o → HasDone words Stands IsOver (place items long k) o c
+      → IsAlike words Stands IsOver items long (after k o) c
   alike_after k inst s (Goes passed t) c there does done =
       alike_at (k + passed) (place items long k + passed) t c (sym (instructions_place items long k passed (runs.passes k passed inst s t there does))) done
   alike_after k inst s (Ends end t) c there does done = done
 
-  plain_step : (k : ℕ) (s : W) (c : C) (inst : Inst) → slice_get items k ≡ Some (Plain inst) → IsAlike words Stands IsOver items long (At k s) c → IsStep (At k s) c
+  plain_step : (k : ℕ) (s : W) (c : C) (inst : Inst) → slice_get items k ≡ Some (Plain inst) → IsAlike words Stands IsOver items long (At k s) c
+      → IsStep (At k s) c
   plain_step k s c inst there alike =
       let first = first_word k (Plain inst) _ there refl in
-      let done = runs.plain k inst s c there (good.insts k inst there) (instruction_marked items good marked long k inst there) first (stands_here k s c _ first alike) in
-      one_word_step (At k s) (after k (m.does k (mark_before items k) inst s)) c (item_is m items long k s (Some (Plain inst)) there) (cost_is m items long k s (Some (Plain inst)) there) alike
+      let done = runs.plain k inst s c there (good.insts k inst there) (instruction_marked items good marked long k inst there) first
+      (stands_here k s c _ first alike) in
+      one_word_step (At k s) (after k (m.does k (mark_before items k) inst s)) c (item_is m items long k s (Some (Plain inst)) there)
+      (cost_is m items long k s (Some (Plain inst)) there) alike
       (alike_after k inst s (m.does k (mark_before items k) inst s) (step c) there refl done)
 
-  jump_step : (k : ℕ) (s : W) (c : C) (label : ℕ) → slice_get items k ≡ Some (Jump label) → IsAlike words Stands IsOver items long (At k s) c → IsStep (At k s) c
+  jump_step : (k : ℕ) (s : W) (c : C) (label : ℕ) → slice_get items k ≡ Some (Jump label) → IsAlike words Stands IsOver items long (At k s) c
+      → IsStep (At k s) c
   jump_step k s c label there alike =
       let within = slice_get_within items k (Jump label) there in
       let first = first_word k (Jump label) _ there refl in
       let next = next_is k (Jump label) 1 there refl in
       let unmarked = branch_unmarked items good marked long k (omega arith) (λ inst is. jump_is_no_instruction label inst (sym there ∙ is)) in
-      one_word_step (At k s) (At (position_of items label) s) c (item_is m items long k s (Some (Jump label)) there) (cost_is m items long k s (Some (Jump label)) there) alike
+      one_word_step (At k s) (At (position_of items label) s) c (item_is m items long k s (Some (Jump label)) there)
+      (cost_is m items long k s (Some (Jump label)) there) alike
       (alike_at (position_of items label) (label_place items long label) s (step c) refl
-      (runs.jump (place items long k) (label_place items long label) s c (place_short items good long k (omega arith)) (label_short items good long label (good.jumps k label there)) unmarked first (stands_here k s c _ first alike)))
+      (runs.jump (place items long k) (label_place items long label) s c (place_short items good long k (omega arith))
+      (label_short items good long label (good.jumps k label there)) unmarked first (stands_here k s c _ first alike)))
 
   -- ---- branches: an item with these words and this step
   pub record IsBranch (k : ℕ) (test : Test) (label : ℕ) (s : W) : Type 0 where
     pub is_if : IsIf items k test label
     pub does : item_step m items (At k s) ≡ At (if m.holds test s then position_of items label else k + 1) s
     pub costs : cost m items long (At k s) ≡ branch_cost m items (long k) (m.holds test s)
-    pub word_is : (j w : ℕ) → slice_get (if_words (long k) test (place items long k) (label_place items long label)) j ≡ Some w → slice_get words (place items long k + j) ≡ Some w
+    pub word_is : (j w : ℕ) → slice_get (if_words (long k) test (place items long k) (label_place items long label)) j ≡ Some w
+        → slice_get words (place items long k + j) ≡ Some w
     pub no_instruction : (inst : Inst) → slice_get items k ≡ Some (Plain inst) → ⊥
 
   module _ (k : ℕ) (test : Test) (label : ℕ) (s : W) (b : IsBranch k test label s) (c : C) (alike : IsAlike words Stands IsOver items long (At k s) c) where
@@ -388,7 +418,8 @@ module _ {W E C : Type 0} (m : Meaning W E) (items : List Item) (good : IsWellLa
     within_items : k < length items
     within_items = ⊎_elim (λ lt. lt) (λ ge. absurd (no_branch items k test label ge b.is_if)) (cases_lt k (length items))
 
-    word_here : (w : ℕ) → slice_get (if_words (long k) test (place items long k) (label_place items long label)) 0 ≡ Some w → slice_get words (place items long k) ≡ Some w
+    word_here : (w : ℕ) → slice_get (if_words (long k) test (place items long k) (label_place items long label)) 0 ≡ Some w
+        → slice_get words (place items long k) ≡ Some w
     word_here w is = let e : place items long k ≡ place items long k + 0 = omega arith in ap (slice_get words) e ∙ b.word_is 0 w is
 
     unmarked_here : IsMarked items long (place items long k) None
@@ -403,18 +434,23 @@ module _ {W E C : Type 0} (m : Meaning W E) (items : List Item) (good : IsWellLa
         let to = label_place items long label in
         let first = word_here (test_word test (distance here to)) (ap (λ f. slice_get (if_words f test here to) 0) short) in
         let size = size_is false short in
-        one_word_step (At k s) (At (if m.holds test s then position_of items label else k + 1) s) c b.does (b.costs ∙ ap (λ f. branch_cost m items f (m.holds test s)) short) alike
+        one_word_step (At k s) (At (if m.holds test s then position_of items label else k + 1) s) c b.does
+        (b.costs ∙ ap (λ f. branch_cost m items f (m.holds test s)) short) alike
         (alike_if (m.holds test s) s (position_of items label) (k + 1) to (here + 1) (step c) refl (sym size)
-        (runs.test test here to s c (good.tests k test label b.is_if) (enough k test label b.is_if short) unmarked_here first (stands_here k s c _ first alike)))
+        (runs.test test here to s c (good.tests k test label b.is_if) (enough k test label b.is_if short) unmarked_here first
+        (stands_here k s c _ first alike)))
 
     -- the first word of a long item goes over the B or to it
-    over_step : (holds : Bool) → long k ≡ true → m.holds test s ≡ holds → StandsAt words Stands IsOver (if not holds then place items long k + 2 else place items long k + 1) s (step c)
+    over_step : (holds : Bool) → long k ≡ true → m.holds test s ≡ holds
+        → StandsAt words Stands IsOver (if not holds then place items long k + 2 else place items long k + 1) s (step c)
     over_step holds is_long holds_is =
         let here = place items long k in
         let to = label_place items long label in
-        let first = word_here (test_word (opposite test) (distance here (here + 2))) (ap (λ f. slice_get (if_words f test here to) 0) is_long ∙ ap (λ d. Some (test_word (opposite test) d)) (sym (two_on here))) in
+        let first = word_here (test_word (opposite test) (distance here (here + 2)))
+        (ap (λ f. slice_get (if_words f test here to) 0) is_long ∙ ap (λ d. Some (test_word (opposite test) d)) (sym (two_on here))) in
         subst (λ f. StandsAt words Stands IsOver (if f then here + 2 else here + 1) s (step c)) (runs.opposite test s ∙ ap not holds_is)
-        (runs.test (opposite test) here (here + 2) s c (opposite_test test (good.tests k test label b.is_if)) (over_fits test here) unmarked_here first (stands_here k s c _ first alike))
+        (runs.test (opposite test) here (here + 2) s c (opposite_test test (good.tests k test label b.is_if)) (over_fits test here) unmarked_here
+        first (stands_here k s c _ first alike))
 
     long_step : long k ≡ true → IsStep (At k s) c
     long_step is_long =
@@ -430,12 +466,14 @@ module _ {W E C : Type 0} (m : Meaning W E) (items : List Item) (good : IsWellLa
         (λ holds.
         let at = over_step true is_long holds in
         two_word_step (At k s) (At (position_of items label) s) c
-        (b.does ∙ ap (λ f. At (if f then position_of items label else k + 1) s) holds) (b.costs ∙ (ap (λ f. branch_cost m items f (m.holds test s)) is_long ∙ ap (branch_cost m items true) holds)) alike at
+        (b.does ∙ ap (λ f. At (if f then position_of items label else k + 1) s) holds)
+        (b.costs ∙ (ap (λ f. branch_cost m items f (m.holds test s)) is_long ∙ ap (branch_cost m items true) holds)) alike at
         (alike_at (position_of items label) to s (step (step c)) refl
         (runs.jump (here + 1) to s (step c) (omega arith) to_short unmarked second (at (slice_get_within words (here + 1) _ second)))))
         (λ fails.
         one_word_step (At k s) (At (k + 1) s) c
-        (b.does ∙ ap (λ f. At (if f then position_of items label else k + 1) s) fails) (b.costs ∙ (ap (λ f. branch_cost m items f (m.holds test s)) is_long ∙ ap (branch_cost m items true) fails)) alike
+        (b.does ∙ ap (λ f. At (if f then position_of items label else k + 1) s) fails)
+        (b.costs ∙ (ap (λ f. branch_cost m items f (m.holds test s)) is_long ∙ ap (branch_cost m items true) fails)) alike
         (alike_at (k + 1) (here + 2) s (step c) (sym size) (over_step false is_long fails)))
         (true_or_false (m.holds test s))
 
@@ -443,7 +481,9 @@ module _ {W E C : Type 0} (m : Meaning W E) (items : List Item) (good : IsWellLa
     branch_step = ⊎_elim (λ is. long_step is) (λ is. short_step is) (true_or_false (long k))
 
   -- a label or a mark
-  free_step : (k : ℕ) (s : W) (c : C) (item : Item) → slice_get items k ≡ Some item → size_in (long k) (Some item) ≡ 0 → item_does m items (Some item) k s ≡ At (k + 1) s → item_cost m items long (Some item) k s ≡ 0 → IsAlike words Stands IsOver items long (At k s) c → IsStep (At k s) c
+  free_step : (k : ℕ) (s : W) (c : C) (item : Item) → slice_get items k ≡ Some item → size_in (long k) (Some item) ≡ 0
+      → item_does m items (Some item) k s ≡ At (k + 1) s → item_cost m items long (Some item) k s ≡ 0
+      → IsAlike words Stands IsOver items long (At k s) c → IsStep (At k s) c
   free_step k s c item there size goes free alike =
       let next = next_is k item 0 there size in
       no_word_step (At k s) (At (k + 1) s) c (item_is m items long k s (Some item) there ∙ goes) (cost_is m items long k s (Some item) there ∙ free)
@@ -488,21 +528,27 @@ module _ {W E C : Type 0} (m : Meaning W E) (items : List Item) (good : IsWellLa
   any_step Broken c alike = one_word_step Broken Broken c refl (cost_broken m items long) alike tt
 
   -- n steps of the items are as many steps of the machine as they cost
-  pub text_runs : (n : ℕ) (a : Config W E) (c : C) → IsAlike words Stands IsOver items long a c → IsAlike words Stands IsOver items long (iterate (item_step m items) n a) (iterate step (run_cost m items long n a) c)
+  pub text_runs : (n : ℕ) (a : Config W E) (c : C) → IsAlike words Stands IsOver items long a c
+      → IsAlike words Stands IsOver items long (iterate (item_step m items) n a) (iterate step (run_cost m items long n a) c)
   text_runs zero a c alike =
       subst (λ z. IsAlike words Stands IsOver items long z (iterate step (run_cost m items long 0 a) c)) (sym (iterate-zero (item_step m items) a))
-      (subst (λ n. IsAlike words Stands IsOver items long a (iterate step n c)) (sym (run_cost-zero m items long a)) (subst (IsAlike words Stands IsOver items long a) (sym (iterate-zero step c)) alike))
+      (subst (λ n. IsAlike words Stands IsOver items long a (iterate step n c)) (sym (run_cost-zero m items long a))
+      (subst (IsAlike words Stands IsOver items long a) (sym (iterate-zero step c)) alike))
   text_runs (suc n) a c alike =
       let one = any_step a c alike in
       let rest = text_runs n (item_step m items a) (iterate step (cost m items long a) c) one.1 in
       let first = cost m items long a in
       let later = run_cost m items long n (item_step m items a) in
       subst (λ z. IsAlike words Stands IsOver items long z (iterate step (run_cost m items long (suc n) a) c)) (sym (iterate-suc (item_step m items) n a))
-      (subst (λ j. IsAlike words Stands IsOver items long (iterate (item_step m items) n (item_step m items a)) (iterate step j c)) (sym (run_cost-suc m items long n a))
-      (subst (IsAlike words Stands IsOver items long (iterate (item_step m items) n (item_step m items a))) (sym (iterate-add step (cost m items long a) (run_cost m items long n (item_step m items a)) c)) rest))
+      (subst (λ j. IsAlike words Stands IsOver items long (iterate (item_step m items) n (item_step m items a)) (iterate step j c))
+      (sym (run_cost-suc m items long n a))
+      (subst (IsAlike words Stands IsOver items long (iterate (item_step m items) n (item_step m items a)))
+      (sym (iterate-add step (cost m items long a) (run_cost m items long n (item_step m items a)) c)) rest))
 
   -- where fewer than b labels and marks stand in a row, and P holds wherever the machine is in a run of the items
-  pub text_simulates : (P : Config W E → C → Type 0) → ((a : Config W E) (i : ℕ) (c : C) → IsAt words Stands IsOver items long i a c → P (item_step m items a) c) → (b : ℕ) → ((k : ℕ) → free_before items k < b)
+  pub text_simulates : (P : Config W E → C → Type 0)
+      → ((a : Config W E) (i : ℕ) (c : C) → IsAt words Stands IsOver items long i a c → P (item_step m items a) c) → (b : ℕ)
+      → ((k : ℕ) → free_before items k < b)
       → Simulates (item_step m items) step (IsAlike words Stands IsOver items long) P (free_steps items) b 2
   text_simulates P proper b few = record {
     below = λ a c alike. few_free m items long b few a;

@@ -70,13 +70,15 @@ there_at first here words =
     rw (above, whole, index) refl
 
 -- the machine does the instruction whose word stands there
-step_is : (first here : ℕ) (words : List ℕ) (inst : Inst) (c : Machine) → IsWellFormed inst → slice_get words here ≡ Some (word inst) → machine_step first words (moved_to (first + 4 * here) c) ≡ machine_of (step_of inst (moved_to (first + 4 * here) c).registers c.memory)
+step_is : (first here : ℕ) (words : List ℕ) (inst : Inst) (c : Machine) → IsWellFormed inst → slice_get words here ≡ Some (word inst)
+    → machine_step first words (moved_to (first + 4 * here) c) ≡ machine_of (step_of inst (moved_to (first + 4 * here) c).registers c.memory)
 step_is first here words inst c good there =
     let read : decoded (word_at first words (first + 4 * here)) ≡ Some inst = ap decoded (there_at first here words ∙ there) ∙ decode-word inst good in
     ap (λ o. does_one o (moved_to (first + 4 * here) c)) read
 
 -- ---- branches
-target_is : (first here to : ℕ) → first + 4 * here < 2 ^ 64 → first + 4 * to < 2 ^ 64 → here < 2 ^ 24 → to < 2 ^ 24 → branch_target (first + 4 * here) (distance here to) ≡ first + 4 * to
+target_is : (first here to : ℕ) → first + 4 * here < 2 ^ 64 → first + 4 * to < 2 ^ 64 → here < 2 ^ 24 → to < 2 ^ 24
+    → branch_target (first + 4 * here) (distance here to) ≡ first + 4 * to
 target_is first here to before after near far = omega (arith, ints)
 
 jump_good : (here to : ℕ) → here < 2 ^ 24 → to < 2 ^ 24 → IsWellFormed (Branch (distance here to))
@@ -87,7 +89,8 @@ test_good (Holds cond) here to is fits = let a = fits.0 in let b = fits.1 in (om
 test_good (Zero width nonzero reg) here to is fits = let a = fits.0 in let b = fits.1 in (is, omega (arith, ints), omega (arith, ints))
 test_good (Bit nonzero reg at) here to is fits = let a = fits.0 in let b = fits.1 in (is.0, is.1, omega (arith, ints), omega (arith, ints))
 
-jumps : (offset : ℤ) (address : ℕ) (c : Machine) → machine_of (step_of (Branch offset) (moved_to address c).registers c.memory) ≡ moved_to (branch_target address offset) c
+jumps : (offset : ℤ) (address : ℕ) (c : Machine)
+    → machine_of (step_of (Branch offset) (moved_to address c).registers c.memory) ≡ moved_to (branch_target address offset) c
 unfolding step_of branch
 jumps offset address c = refl
 
@@ -96,7 +99,8 @@ either true x y = refl
 either false x y = refl
 
 branches : (test : Test) (offset : ℤ) (address : ℕ) (c : Machine)
-    → machine_of (step_of (branch_by test offset) (moved_to address c).registers c.memory) ≡ (if test_holds test c then moved_to (branch_target address offset) c else moved_to ((address + 4) % 2 ^ 64) c)
+    → machine_of (step_of (branch_by test offset) (moved_to address c).registers c.memory) ≡
+    (if test_holds test c then moved_to (branch_target address offset) c else moved_to ((address + 4) % 2 ^ 64) c)
 unfolding step_of branch_if branch_zero branch_bit branch
 branches (Holds cond) offset address c = either (test_holds (Holds cond) c) _ _
 branches (Zero width nonzero reg) offset address c = either (test_holds (Zero width nonzero reg) c) _ _
@@ -127,9 +131,11 @@ passed_one : (b : Bool) (inst : Inst) (s after : Machine) (passed : ℕ) → (if
 passed_one true inst s after passed e = cc
 passed_one false inst s after passed e = cc
 
-module _ (items : List Item) (good : IsWellLabelled items) (marked : IsWellMarked items) (long : Set) (enough : IsEnough items long) (words : List ℕ) (words_are : words ≡ words_before items long (length items))
+module _ (items : List Item) (good : IsWellLabelled items) (marked : IsWellMarked items) (long : Set) (enough : IsEnough items long) (words : List ℕ)
+    (words_are : words ≡ words_before items long (length items))
     (first : ℕ) (ends : first + 4 * length words ≤ 2 ^ 64) where
-  done_if : (b : Bool) (here : ℕ) (inst : Inst) (s c : Machine) → (b ≡ true → StandsAt words (StandsWith first) IsAnywhere (here + 1) s c) → HasDone words (StandsWith first) IsAnywhere here (if b then Goes 1 s else Ends inst s) c
+  done_if : (b : Bool) (here : ℕ) (inst : Inst) (s c : Machine) → (b ≡ true → StandsAt words (StandsWith first) IsAnywhere (here + 1) s c)
+      → HasDone words (StandsWith first) IsAnywhere here (if b then Goes 1 s else Ends inst s) c
   done_if true here inst s c goes = goes refl
   done_if false here inst s c goes = tt
 
@@ -140,7 +146,8 @@ module _ (items : List Item) (good : IsWellLabelled items) (marked : IsWellMarke
       omega arith
 
   branched : (b : Bool) (here to : ℕ) (offset : ℤ) (s : Machine) → offset ≡ distance here to → here < length words
-      → StandsAt words (StandsWith first) IsAnywhere (if b then to else here + 1) s (if b then moved_to (branch_target (first + 4 * here) offset) s else moved_to ((first + 4 * here + 4) % 2 ^ 64) s)
+      → StandsAt words (StandsWith first) IsAnywhere (if b then to else here + 1) s
+      (if b then moved_to (branch_target (first + 4 * here) offset) s else moved_to ((first + 4 * here + 4) % 2 ^ 64) s)
   branched true here to offset s is within below =
       let few = few_words_here in
       ap (λ a. moved_to a s) (ap (branch_target (first + 4 * here)) is ∙ target_is first here to (omega arith) (omega arith) (omega arith) (omega arith))
@@ -151,35 +158,44 @@ module _ (items : List Item) (good : IsWellLabelled items) (marked : IsWellMarke
     plain = λ k inst s c there wf mark word_is stands.
         let here = place items long k in
         let after = step_of inst (moved_to (first + 4 * place items long k) s).registers s.memory in
-        let step : machine_step first words c ≡ machine_of (step_of inst (moved_to (first + 4 * place items long k) s).registers s.memory) = ap (machine_step first words) stands ∙ step_is first (place items long k) words inst s wf word_is in
-        done_if (goes_on_at (first + 4 * place items long k + 4) (step_of inst (moved_to (first + 4 * place items long k) s).registers s.memory)) (place items long k) inst (machine_of (step_of inst (moved_to (first + 4 * place items long k) s).registers s.memory)) (machine_step first words c)
+        let step : machine_step first words c ≡ machine_of (step_of inst (moved_to (first + 4 * place items long k) s).registers s.memory) = ap
+        (machine_step first words) stands ∙ step_is first (place items long k) words inst s wf word_is in
+        done_if (goes_on_at (first + 4 * place items long k + 4) (step_of inst (moved_to (first + 4 * place items long k) s).registers s.memory))
+        (place items long k) inst (machine_of (step_of inst (moved_to (first + 4 * place items long k) s).registers s.memory))
+        (machine_step first words c)
         (λ goes below.
         let pc = pc_is (first + 4 * place items long k + 4) (step_of inst (moved_to (first + 4 * place items long k) s).registers s.memory) goes in
-        step ∙ stands_at_pc (first + 4 * (place items long k + 1)) (machine_of (step_of inst (moved_to (first + 4 * place items long k) s).registers s.memory)) (omega arith));
+        step ∙ stands_at_pc (first + 4 * (place items long k + 1))
+        (machine_of (step_of inst (moved_to (first + 4 * place items long k) s).registers s.memory)) (omega arith));
     passes = λ k passed inst s after there does i lt.
         let one : passed ≡ 1 = passed_one _ inst _ after passed does in
         let e : k ≡ k + i = omega arith in
         (inst, ap (slice_get items) (sym e) ∙ there);
     jump = λ here to s c near far mark word_is stands below.
         let within = slice_get_within words here _ word_is in
-        ap (machine_step first words) stands ∙ step_is first here words (Branch (distance here to)) s (jump_good here to near far) word_is ∙ jumps (distance here to) (first + 4 * here) s
+        ap (machine_step first words) stands ∙ step_is first here words (Branch (distance here to)) s (jump_good here to near far) word_is
+        ∙ jumps (distance here to) (first + 4 * here) s
         ∙ ap (λ a. moved_to a s) (target_is first here to (omega arith) (omega arith) near far);
     test = λ test here to s c is fits mark word_is stands below.
         let within = slice_get_within words here _ word_is in
-        ap (machine_step first words) stands ∙ step_is first here words (branch_by test (distance here to)) s (test_good test here to is fits) word_is ∙ branches test (distance here to) (first + 4 * here) s
+        ap (machine_step first words) stands ∙ step_is first here words (branch_by test (distance here to)) s (test_good test here to is fits) word_is
+        ∙ branches test (distance here to) (first + 4 * here) s
         ∙ branched (test_holds test s) here to (distance here to) s refl within below;
     opposite = test_opposite;
     over = λ inst s c is. tt;
   }
 
 -- words of the items run as they do
-pub runs_as_items : (items : List Item) → IsWellLabelled items → IsWellMarked items → (long : Set) → IsEnough items long → (words : List ℕ) → words ≡ words_before items long (length items) → RunsAsItems items long words
+pub runs_as_items : (items : List Item) → IsWellLabelled items → IsWellMarked items → (long : Set) → IsEnough items long → (words : List ℕ)
+    → words ≡ words_before items long (length items) → RunsAsItems items long words
 runs_as_items items good marked long enough words words_are = record {
   same = λ first n k c after ends below is.
       let start : first ≡ first + 4 * (place items long 0 + 0) = let e = place-zero items long in omega arith in
       let alike =
-      text_runs (items_at first items long) items good marked long enough words words_are (StandsWith first) IsAnywhere (machine_step first words) (executes items good marked long enough words words_are first ends) n (At 0 c) (moved_to first c) (λ some. ap (λ a. moved_to a c) start) in
-      let there = subst (λ z. IsAlike words (StandsWith first) IsAnywhere items long z (iterate (machine_step first words) (run_cost (items_at first items long) items long n (At 0 c)) (moved_to first c))) is alike in
+      text_runs (items_at first items long) items good marked long enough words words_are (StandsWith first) IsAnywhere (machine_step first words)
+      (executes items good marked long enough words words_are first ends) n (At 0 c) (moved_to first c) (λ some. ap (λ a. moved_to a c) start) in
+      let there = subst (λ z. IsAlike words (StandsWith first) IsAnywhere items long z
+      (iterate (machine_step first words) (run_cost (items_at first items long) items long n (At 0 c)) (moved_to first c))) is alike in
       let at : first + 4 * (place items long k + 0) ≡ first + 4 * place items long k = omega arith in
       there (omega arith) ∙ ap (λ a. moved_to a after) at;
   most = λ first n a. run_most (items_at first items long) items long n a;

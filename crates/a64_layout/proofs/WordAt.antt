@@ -27,15 +27,20 @@ module _ (items : List Item) (long : Set) where
       (λ before.
       let up = place_mono items long k n (omega arith) in
       let count = words_length items long n in
-      ap (λ ws. slice_get ws i) (words-suc items long n) ∙ (get_append_left (words_before items long n) (words_in (long n) (place items long n) (label_place items long) (slice_get items n)) i (omega arith) ∙ words_stay k n i (omega arith) lt))
+      ap (λ ws. slice_get ws i) (words-suc items long n)
+      ∙ (get_append_left (words_before items long n) (words_in (long n) (place items long n) (label_place items long) (slice_get items n)) i
+      (omega arith) ∙ words_stay k n i (omega arith) lt))
       (λ after. let e : k ≡ suc n = omega arith in ap (λ j. slice_get (words_before items long j) i) (sym e))
       (cases_lt k (suc n))
 
   -- word j of an item stands j words after the item's place
-  pub word_at : (k j : ℕ) (item : Item) (w : ℕ) → slice_get items k ≡ Some item → slice_get (words_of (long k) (place items long k) (label_place items long) item) j ≡ Some w → slice_get (words_before items long (length items)) (place items long k + j) ≡ Some w
+  pub word_at : (k j : ℕ) (item : Item) (w : ℕ) → slice_get items k ≡ Some item
+      → slice_get (words_of (long k) (place items long k) (label_place items long) item) j ≡ Some w
+      → slice_get (words_before items long (length items)) (place items long k + j) ≡ Some w
   word_at k j item w there is =
       let ws = words_in (long k) (place items long k) (label_place items long) (slice_get items k) in
-      let own : ws ≡ words_of (long k) (place items long k) (label_place items long) item = ap (words_in (long k) (place items long k) (label_place items long)) there in
+      let own : ws ≡ words_of (long k) (place items long k) (label_place items long) item = ap
+      (words_in (long k) (place items long k) (label_place items long)) there in
       let get : slice_get ws j ≡ Some w = ap (λ l. slice_get l j) own ∙ is in
       let within = slice_get_within items k item there in
       let size = size_in_words (long k) (place items long k) (label_place items long) (slice_get items k) in

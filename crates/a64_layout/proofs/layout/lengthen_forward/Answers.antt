@@ -16,22 +16,38 @@ is_near_forward-requires-clause-named c =
 
 pub overflow_add-rest : goal.overflow_add-rest
 overflow_add-rest c =
-    omega (arith, rest_short c.args.code.now c.requires.good (length c.args.code.now - c.loop-done.done) c.args.long.now c.loop-done.long c.loop-done.rest c.loop-done.places c.loop-done.changed c.loop-done.invariant, c.size-rest.ensures.most)
+    omega (
+      arith,
+      rest_short c.args.code.now c.requires.good (length c.args.code.now - c.loop-done.done) c.args.long.now c.loop-done.long
+          c.loop-done.rest c.loop-done.places c.loop-done.changed c.loop-done.invariant,
+      c.size-rest.ensures.most,
+    )
 
 pub loop-done-preserved : goal.loop-done-preserved
 loop-done-preserved c =
-    subst (λ n. IsPassForward c.args.code.now c.args.long.now c.if-not-is_near_forward.long n (c.loop-done.rest + c.size-rest.result) c.put_label.new.places c.if-not-is_near_forward.changed) (omega arith)
+    subst (λ n. IsPassForward c.args.code.now c.args.long.now c.if-not-is_near_forward.long n (c.loop-done.rest + c.size-rest.result)
+    c.put_label.new.places c.if-not-is_near_forward.changed) (omega arith)
     (elim c.if-not-is_near_forward.branch [
       | then-not-is_near_forward w ↦
-          forward_lengthened c.args.code.now c.requires.good c.args.positions.now c.requires.positions c.requires.told c.args.long.now c.loop-done.long (c.len.result - 1 - c.loop-done.done) (length c.args.code.now - c.loop-done.done) c.loop-done.rest c.loop-done.places c.loop-done.changed (omega arith)
-          c.loop-done.invariant c.get-item.result.now c.get-item.ensures c.get.result.now c.get.ensures (λ near. no_both c.is_near_forward.result (c.is_near_forward.ensures.1 near) w.if-not-is_near_forward.true) c.size-rest.result c.get-in-loop-done.result.now c.put_label.new.places
-          c.if-not-is_near_forward.long c.if-not-is_near_forward.changed (w.long-is ∙ w.set.ensures) w.changed-is c.get-in-loop-done.ensures c.size-rest.ensures.value c.put_label.ensures
+          forward_lengthened c.args.code.now c.requires.good c.args.positions.now c.requires.positions c.requires.told c.args.long.now
+          c.loop-done.long (c.len.result - 1 - c.loop-done.done) (length c.args.code.now - c.loop-done.done) c.loop-done.rest c.loop-done.places
+          c.loop-done.changed (omega arith)
+          c.loop-done.invariant c.get-item.result.now c.get-item.ensures c.get.result.now c.get.ensures
+          (λ near. no_both c.is_near_forward.result (c.is_near_forward.ensures.1 near) w.if-not-is_near_forward.true) c.size-rest.result
+          c.get-in-loop-done.result.now c.put_label.new.places
+          c.if-not-is_near_forward.long c.if-not-is_near_forward.changed (w.long-is ∙ w.set.ensures) w.changed-is c.get-in-loop-done.ensures
+          c.size-rest.ensures.value c.put_label.ensures
       | else-not-is_near_forward w ↦
-          forward_kept c.args.code.now c.requires.good c.args.positions.now c.requires.positions c.requires.told c.args.long.now c.loop-done.long (c.len.result - 1 - c.loop-done.done) (length c.args.code.now - c.loop-done.done) c.loop-done.rest c.loop-done.places c.loop-done.changed (omega arith)
-          c.loop-done.invariant c.get-item.result.now c.get-item.ensures c.get.result.now c.get.ensures (c.is_near_forward.ensures.0 w.if-not-is_near_forward.false) c.size-rest.result c.get-in-loop-done.result.now c.put_label.new.places
-          c.if-not-is_near_forward.long c.if-not-is_near_forward.changed w.long-is w.changed-is c.get-in-loop-done.ensures c.size-rest.ensures.value c.put_label.ensures
+          forward_kept c.args.code.now c.requires.good c.args.positions.now c.requires.positions c.requires.told c.args.long.now c.loop-done.long
+          (c.len.result - 1 - c.loop-done.done) (length c.args.code.now - c.loop-done.done) c.loop-done.rest c.loop-done.places
+          c.loop-done.changed (omega arith)
+          c.loop-done.invariant c.get-item.result.now c.get-item.ensures c.get.result.now c.get.ensures
+          (c.is_near_forward.ensures.0 w.if-not-is_near_forward.false) c.size-rest.result c.get-in-loop-done.result.now c.put_label.new.places
+          c.if-not-is_near_forward.long c.if-not-is_near_forward.changed w.long-is w.changed-is c.get-in-loop-done.ensures c.size-rest.ensures.value
+          c.put_label.ensures
     ])
 
 pub returns-clause-reach : goal.returns-clause-reach
 returns-clause-reach c = λ k test label is past short.
-    forward_whole c.args.code.now _ c.args.long.now c.loop-done.long c.loop-done.rest c.loop-done.places c.loop-done.changed (omega arith) c.loop-done.invariant k test label is past short
+    forward_whole c.args.code.now _ c.args.long.now c.loop-done.long c.loop-done.rest c.loop-done.places c.loop-done.changed (omega arith)
+    c.loop-done.invariant k test label is past short

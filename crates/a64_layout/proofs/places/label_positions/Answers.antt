@@ -8,4 +8,5 @@ pub returns-clause-told : goal.returns-clause-told
 returns-clause-told c = λ label below.
     let named : label < label_count c.args.code.now = subst (λ n. label < n) c.loop-at.invariant.count_is below in
     let there = c.requires.label_there label named in
-    all_put c.args.code.now label_at (label_count c.args.code.now) (position_of c.args.code.now) (labels_numbered c.args.code.now c.requires) (λ k. k) (λ k. k < c.loop-at.at) c.loop-at.positions c.loop-at.invariant label named (omega arith)
+    all_put c.args.code.now label_at (label_count c.args.code.now) (position_of c.args.code.now) (labels_numbered c.args.code.now c.requires) (λ k. k)
+    (λ k. k < c.loop-at.at) c.loop-at.positions c.loop-at.invariant label named (omega arith)
