@@ -114,23 +114,3 @@ AreGoodBefore items labels marks n = (k : ℕ) (item : Item) → k < n → slice
 -- numbered items stand at these positions
 abbrev pub AreThereBefore : List Item → (ℕ → Item) → List ℕ → ℕ → Type 0
 AreThereBefore items kind positions n = (number : ℕ) → number < n → slice_get items (slice_index positions number) ≡ Some (kind number)
-
-pub good_more : (items : List Item) (labels marks : List ℕ) (n : ℕ) (item : Item) → AreGoodBefore items labels marks n → slice_get items n ≡ Some item
-    → IsGood labels marks n item → AreGoodBefore items labels marks (n + 1)
-good_more items labels marks n item before there good k other lt is =
-    ⊎_elim
-    (λ lt. before k other lt is)
-    (λ ge.
-    let k_is : k ≡ n = omega arith in
-    let both : Some item ≡ Some other = sym there ∙ subst (λ j. slice_get items j ≡ Some other) k_is is in
-    let same : item ≡ other = cc in
-    subst (λ j. IsGood labels marks j other) (sym k_is) (subst (IsGood labels marks n) same good))
-    (cases_lt k n)
-
-pub there_more : (items : List Item) (kind : ℕ → Item) (positions : List ℕ) (n : ℕ) → AreThereBefore items kind positions n
-    → slice_get items (slice_index positions n) ≡ Some (kind n) → AreThereBefore items kind positions (n + 1)
-there_more items kind positions n before there number lt =
-    ⊎_elim
-    (λ lt. before number lt)
-    (λ ge. let same : n ≡ number = omega arith in subst (λ j. slice_get items (slice_index positions j) ≡ Some (kind j)) same there)
-    (cases_lt number n)

@@ -46,12 +46,6 @@ pub record ArePut (items : List Item) (kind : ℕ → Item) (count : ℕ) (value
   pub count_is : length put ≡ count
   pub told : (k number : ℕ) → Met k → slice_get items k ≡ Some (kind number) → slice_index put number ≡ value k
 
-pub none_put : (items : List Item) (kind : ℕ → Item) (count : ℕ) (value : ℕ → ℕ) (Met : ℕ → Type 0) (put : List ℕ)
-    → ((k : ℕ) → Met k → k < length items → ⊥) → length put ≡ count
-    → ((k number : ℕ) → slice_get items k ≡ Some (kind number) → k < length items) → ArePut items kind count value Met put
-none_put items kind count value Met put none count_is within = record
-    { count_is = count_is; told = λ k number met there. absurd (none k met (within k number there)) }
-
 -- where the values of what was met stay
 pub put_again : (items : List Item) (kind : ℕ → Item) (count : ℕ) (value other : ℕ → ℕ) (Met : ℕ → Type 0) (put : List ℕ)
     → ((k : ℕ) → Met k → value k ≡ other k) → ArePut items kind count value Met put → ArePut items kind count other Met put
@@ -132,24 +126,3 @@ module _ (items : List Item) (good : IsWellLabelled items) (value : ℕ → ℕ)
       value Met Now at here split new here_is put done (λ n is. cc)
   mark_put (Label label) there done = put_other items mark_at (mark_count items) (mark_position_of items) (marks_numbered items good) value Met Now at
       here split new here_is put done (λ n is. cc)
-
--- what is put has a place in the list
-pub label_below : (items : List Item) → IsWellLabelled items → (at : ℕ) (put : List ℕ) → length put ≡ label_count items → (item : Item)
-    → slice_get items at ≡ Some item → LabelBelow (length put) item
-label_below items good at put count (Label label) there = let lt = good.labels at label there in omega arith
-label_below items good at put count (Plain inst) there = tt
-label_below items good at put count (Jump label) there = tt
-label_below items good at put count (If cond label) there = tt
-label_below items good at put count (IfZero width nonzero reg label) there = tt
-label_below items good at put count (IfBit nonzero reg bit label) there = tt
-label_below items good at put count (Mark mark) there = tt
-
-pub mark_below : (items : List Item) → IsWellLabelled items → (at : ℕ) (put : List ℕ) → length put ≡ mark_count items → (item : Item)
-    → slice_get items at ≡ Some item → MarkBelow (length put) item
-mark_below items good at put count (Mark mark) there = let lt = good.marks at mark there in omega arith
-mark_below items good at put count (Plain inst) there = tt
-mark_below items good at put count (Jump label) there = tt
-mark_below items good at put count (If cond label) there = tt
-mark_below items good at put count (IfZero width nonzero reg label) there = tt
-mark_below items good at put count (IfBit nonzero reg bit label) there = tt
-mark_below items good at put count (Label label) there = tt

@@ -26,7 +26,7 @@ use Rattle.a64_layout.specs.Run.{At, Ends, Executes, Goes, HasDone, IsAlike, IsW
 use Rattle.a64_layout.specs.Text.{IsWellLabelled, distance, words_before}
 use Rattle.a64_layout.specs.declared.branch.Test.{Test}
 use Rattle.a64_layout.specs.declared.branch.Test.TheVariants.{Holds, Zero, Bit}
-use Rattle.a64_layout.proofs.Least.{place-zero}
+use Rattle.a64_layout.proofs.Least.{and_right, place-zero}
 use Rattle.a64_layout.proofs.Labels.{place_short}
 use Rattle.a64_layout.proofs.Simulation.{run_forward, run_least, run_most, text_runs}
 use Rattle.a64_layout.proofs.Words.{words_length}
@@ -114,13 +114,9 @@ StandsWith first here s c = c ≡ moved_to (first + 4 * here) s
 abbrev pub IsAnywhere : Inst → Machine → Machine → Type 0
 IsAnywhere inst s c = Unit {0}
 
-and_true : (a b : Bool) → (a && b) ≡ true → b ≡ true
-and_true true b e = e
-and_true false b e = let no : false ≡ true = e in cc
-
 pc_is : (address : ℕ) (after : Stepped) → goes_on_at address after ≡ true → after.registers.pc ≡ address
 pc_is address after goes =
-    let same : nat_eq after.registers.pc address ≡ true = and_true (is_next after.outcome) (nat_eq after.registers.pc address) goes in
+    let same : nat_eq after.registers.pc address ≡ true = and_right (is_next after.outcome) (nat_eq after.registers.pc address) goes in
     grind (arith, nat_tests)
 
 -- the machine stands where its pc is
