@@ -1,11 +1,11 @@
 -- Numbers that a pass over the items puts at its labels, or at its marks.
-use Rattle.std.proofs.Common.{◌≡◌, ◌≢◌, ℕ, ◌<◌, ◌⊎◌, ⊎_elim, Some, List, length, set, sym, ap, ◌∙◌, subst, arith, get_or-set_same, get_or-set_other}
+use Rattle.std.proofs.Common.{◌≡◌, ◌≢◌, ℕ, ◌<◌, ◌⊎◌, ⊎_elim, Some, List, length, set, sym, ap, ◌∙◌, subst, get_or-set_same, get_or-set_other}
 use Rattle.std.specs.Prelude.{slice_get, slice_index}
 use Rattle.std.proofs.lemmas.List.{length-set}
 use Rattle.a64_inst.specs.declared.item.Item.{Item}
 use Rattle.a64_inst.specs.declared.item.Item.TheVariants.{Plain, Jump, If, IfZero, IfBit, Label, Mark}
 use Rattle.a64_layout.specs.Layout.{position_of}
-use Rattle.a64_layout.specs.Passes.{with_label, with_mark, LabelBelow, MarkBelow}
+use Rattle.a64_layout.specs.Passes.{with_label, with_mark}
 use Rattle.a64_layout.specs.Text.{label_count, mark_count, mark_position_of, IsWellLabelled}
 use Rattle.a64_layout.proofs.Labels.{label_stands, mark_stands}
 
