@@ -11,3 +11,4 @@ pub mod WordAt
 pub mod Marked
 pub mod Simulation
 pub mod Stepping
+pub mod Listed

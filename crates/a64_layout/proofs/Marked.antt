@@ -12,7 +12,7 @@ use Rattle.a64_layout.specs.Text.{mark_count, mark_position_of, IsWellLabelled}
 use Rattle.a64_layout.proofs.Labels.{mark_stands}
 use Rattle.a64_layout.proofs.Least.{place_mono, place-next}
 
-mark_in_is : (o : Option Item) (mark : ℕ) → mark_in o ≡ Some mark → o ≡ Some (Mark mark)
+pub mark_in_is : (o : Option Item) (mark : ℕ) → mark_in o ≡ Some mark → o ≡ Some (Mark mark)
 mark_in_is None mark e = cc
 mark_in_is (Some (Mark other)) mark e = let same : other ≡ mark = cc in ap (λ n. Some (Mark n)) same
 mark_in_is (Some (Plain inst)) mark e = cc
@@ -22,7 +22,7 @@ mark_in_is (Some (IfZero width nonzero reg label)) mark e = cc
 mark_in_is (Some (IfBit nonzero reg at label)) mark e = cc
 mark_in_is (Some (Label label)) mark e = cc
 
-none_some : (mark : ℕ) → None ≡ Some mark → ⊥
+pub none_some : (mark : ℕ) → None ≡ Some mark → ⊥
 none_some mark e = cc
 
 some_none : (mark : ℕ) → Some mark ≡ None → ⊥
@@ -30,7 +30,7 @@ some_none mark e = cc
 
 module _ (items : List Item) (good : IsWellLabelled items) (marked : IsWellMarked items) (long : Set) where
   -- a mark takes no word, and the instruction after it takes one
-  at_mark : (p mark : ℕ) → slice_get items p ≡ Some (Mark mark)
+  pub at_mark : (p mark : ℕ) → slice_get items p ≡ Some (Mark mark)
       → (place items long (p + 1) ≡ place items long p) × (place items long (p + 1 + 1) ≡ place items long p + 1)
   at_mark p mark there =
       let inst = marked p mark there in
@@ -47,7 +47,7 @@ module _ (items : List Item) (good : IsWellLabelled items) (marked : IsWellMarke
       good.mark_once (mark_position_of items mark) p mark (mark_stands items mark (good.mark_there mark below)) there
 
   -- a mark at the place of an item that takes words stands right before it, and it is an instruction
-  mark_at_place : (k mark : ℕ) → mark < mark_count items → place items long k < place items long (k + 1)
+  pub mark_at_place : (k mark : ℕ) → mark < mark_count items → place items long k < place items long (k + 1)
       → place items long (mark_position_of items mark) ≡ place items long k → mark_position_of items mark + 1 ≡ k
   mark_at_place k mark below takes same =
       let p = mark_position_of items mark in
