@@ -12,3 +12,4 @@ pub mod Marked
 pub mod Simulation
 pub mod Stepping
 pub mod Listed
+pub mod Example

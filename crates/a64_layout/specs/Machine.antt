@@ -35,10 +35,13 @@ abbrev pub decoded : Option ℕ → Option Inst
 decoded (Some word) = decode word
 decoded None = None
 
+-- a number that is below a count
+abbrev pub number_below : ℕ → ℕ → Option ℕ
+number_below count number = if nat_lt number count then Some number else None
+
 -- the mark at a place, by the list of the marks' places
 abbrev pub mark_at : List ℕ → ℕ → Option ℕ
-mark_at marks here =
-    if nat_lt (position_or_len (nat_eq here) marks) (length marks) then Some (position_or_len (nat_eq here) marks) else None
+mark_at marks here = number_below (length marks) (position_or_len (nat_eq here) marks)
 
 -- the machine after a step, with pc aside where it is moved
 abbrev pub machine_of : Stepped → Machine
@@ -129,7 +132,8 @@ pub record RunsAsItems (items : List Item) (long : Set) (words marks : List ℕ)
       (first n k : ℕ) (outside : Outside) (c after : Machine) → PassesInstructions items outside
       → first + 4 * length words ≤ 2 ^ 64 → place items long k < length words
       → items_run first outside items long n (At 0 c) ≡ At k after
-      → iterate (machine_step first words marks outside) (words_run first outside items long n (At 0 c)) (moved_to first c)
+      → iterate (machine_step first words marks outside) (words_run first outside items long n (At 0 c))
+      (moved_to first c)
       ≡ moved_to (first + 4 * place items long k) after
   -- an item costs two words at most, and where fewer than b labels and marks stand in a row b items cost one
   pub most :
