@@ -21,6 +21,7 @@ use Rattle.elf_obj.specs.declared.object.Symbol.{Symbol}
 use Rattle.a64_word.specs.Word.{word}
 use Rattle.a64_run.specs.Agrees.{Agrees}
 use Rattle.a64_run.specs.CodeOf.{IsCodeOf, IsCodeOfOne}
+use Rattle.b3_rules.specs.Valid.{IsValid}
 use Rattle.a64_baseline.specs.Code.{ids_of, places_of, entry_code, begins_of, blocks_code, code_of}
 use Rattle.a64_baseline.specs.Object.{frame_of, object_of, symbol_at, symbols_from, words_of}
 use Rattle.a64_baseline.proofs.Agreement.{agrees}
@@ -148,5 +149,5 @@ each_code ps all k p q symbol frame there also its own =
       sites = λ j row listed within. absurd (nothing_listed j row listed);
     }
 
-pub object_is_code : (ps : List Procedure) → AreSupported ps → All (λ w. w < 2 ^ 32) (flat_map words_of ps) → IsCodeOf ps ps (object_of ps)
-object_is_code ps all narrow = record { good = object_good ps all narrow; names = their_names 0 ps; count = refl; each = each_code ps all }
+pub object_is_code : (ps : List Procedure) → IsValid ps → AreSupported ps → All (λ w. w < 2 ^ 32) (flat_map words_of ps) → IsCodeOf ps ps (object_of ps)
+object_is_code ps valid all narrow = record { valid = valid; good = object_good ps all narrow; names = their_names 0 ps; count = refl; each = each_code ps all }

@@ -1,31 +1,45 @@
 -- What has come about at an ending, put together; and that bytes spell one module alone.
-use Rattle.std.proofs.Common.{◌≡◌, ◌≤◌, ℕ, List, length, Some, refl, sym, subst, ◌∙◌}
+use Rattle.std.proofs.Common.{◌≡◌, ◌≤◌, ℕ, List, length, Some, sym, subst, ◌∙◌}
 use Rattle.b3_ir.specs.Procedure.{Procedure}
 use Rattle.b3_module.specs.Limits.{IsFirstLimit, KeepsLimits}
 use Rattle.b3_module.specs.Texts.{BadLine, Spells}
 use Rattle.b3_module.specs.declared.fault.LimitName.{LimitName}
 use Rattle.b3_module.proofs.BadLines.{text_is_good}
 use Rattle.b3_lines.specs.Lines.{lines_of}
+use Rattle.b3_rules.specs.Valid.{IsValid}
 use Rattle.b3_supported.specs.Faults.{IsFaultLine}
 use Rattle.b3_supported.specs.Supported.{AreSupported}
 use Rattle.b3c_core.specs.declared.command.Command.{Command}
 use Rattle.b3c_core.specs.declared.ending.Ending.{Ending}
-use Rattle.b3c_core.specs.declared.ending.Ending.TheVariants.{Written, Usage, ReadFault, WriteFault, TooLong, Syntax, Limit, NotBuilt, NoMemory}
+use Rattle.b3c_core.specs.declared.ending.Ending.TheVariants.{Written, Usage, ReadFault, TrialReadFault, WriteFault, TooLong, TrialTooLong, Syntax, Limit, Invalid, BadObject, BadTrial, Misplaced, NotBuilt, NoMemory}
 use Rattle.b3c_core.specs.Compiled.{IsNoText, IsNotBuilt, IsPastLimit, IsTextOf, ReadsWhole}
-use Rattle.b3c_core.specs.Tool.{Call, HasAnswered, HasEnded, cause_of, command_of, output_of, text_limit}
+use Rattle.b3c_core.specs.Tool.{Call, HasAnswered, HasEnded, HasRead, HasReadTrial, cause_of, command_of, limit_of, output_of, takes_trial}
 
--- an ending that follows once the input was read
-pub ended_after : (call : Call) (ending : Ending) (command : Command) (text : List ℕ) → command_of call.words ≡ Some command → ReadsWhole call.left call.left' text → length text ≤ text_limit
-    → HasAnswered (output_of command) (cause_of command) text call ending → HasEnded call ending
-ended_after call Written command text named read small h = record { command = command; named = named; text = text; read = read; small = small; answered = h }
-ended_after call WriteFault command text named read small h = record { command = command; named = named; text = text; read = read; small = small; answered = h }
-ended_after call (Syntax line) command text named read small h = record { command = command; named = named; text = text; read = read; small = small; answered = h }
-ended_after call (Limit which line) command text named read small h = record { command = command; named = named; text = text; read = read; small = small; answered = h }
-ended_after call (NotBuilt line) command text named read small h = record { command = command; named = named; text = text; read = read; small = small; answered = h }
-ended_after call NoMemory command text named read small h = tt
-ended_after call Usage command text named read small h = absurd h
-ended_after call ReadFault command text named read small h = absurd h
-ended_after call TooLong command text named read small h = absurd h
+-- an ending that follows once all was read
+has_read : (call : Call) (ending : Ending) (command : Command) (input trial : List ℕ) → command_of call.words ≡ Some command
+    → ReadsWhole call.left call.left' input → length input ≤ limit_of command → HasReadTrial (takes_trial command) call trial
+    → HasAnswered (output_of command input trial) (cause_of command input trial) call ending → HasRead call ending
+has_read call ending command input trial named read small tried h =
+    record { command = command; named = named; input = input; read = read; small = small; trial = trial; tried = tried; answered = h }
+
+pub ended_after : (call : Call) (ending : Ending) (command : Command) (input trial : List ℕ) → command_of call.words ≡ Some command
+    → ReadsWhole call.left call.left' input → length input ≤ limit_of command → HasReadTrial (takes_trial command) call trial
+    → HasAnswered (output_of command input trial) (cause_of command input trial) call ending → HasEnded call ending
+ended_after call Written command input trial named read small tried h = has_read call Written command input trial named read small tried h
+ended_after call WriteFault command input trial named read small tried h = has_read call WriteFault command input trial named read small tried h
+ended_after call (Syntax line) command input trial named read small tried h = has_read call (Syntax line) command input trial named read small tried h
+ended_after call (Limit which line) command input trial named read small tried h = has_read call (Limit which line) command input trial named read small tried h
+ended_after call (Invalid rule line) command input trial named read small tried h = has_read call (Invalid rule line) command input trial named read small tried h
+ended_after call (BadObject code byte) command input trial named read small tried h = has_read call (BadObject code byte) command input trial named read small tried h
+ended_after call (BadTrial line) command input trial named read small tried h = has_read call (BadTrial line) command input trial named read small tried h
+ended_after call Misplaced command input trial named read small tried h = has_read call Misplaced command input trial named read small tried h
+ended_after call (NotBuilt line) command input trial named read small tried h = has_read call (NotBuilt line) command input trial named read small tried h
+ended_after call NoMemory command input trial named read small tried h = tt
+ended_after call Usage command input trial named read small tried h = absurd h
+ended_after call ReadFault command input trial named read small tried h = absurd h
+ended_after call TrialReadFault command input trial named read small tried h = absurd h
+ended_after call TooLong command input trial named read small tried h = absurd h
+ended_after call TrialTooLong command input trial named read small tried h = absurd h
 
 -- ---- one module
 
@@ -46,10 +60,12 @@ past_limit text which line m spells first = record {
   none = λ others h. (subst KeepsLimits (one_module text others m h.spells spells) h.within) which line first.passes;
 }
 
-pub not_built : (text : List ℕ) (line : ℕ) (m : List Procedure) → IsTextOf text m → IsFaultLine m line → ¬ (AreSupported m) → IsNotBuilt text line
-not_built text line m is fault refused = record {
+pub not_built : (text : List ℕ) (line : ℕ) (m : List Procedure) → IsTextOf text m → IsValid m → IsFaultLine m line → ¬ (AreSupported m)
+    → IsNotBuilt text line
+not_built text line m is valid fault refused = record {
   procedures = m;
   text_of = is;
+  valid = valid;
   fault = fault;
   none = λ others h supported. refused (subst AreSupported (one_module text others m h.spells is.spells) supported);
 }

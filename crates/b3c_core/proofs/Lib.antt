@@ -1,1 +1,5 @@
 pub mod Endings
+pub mod Beginning
+pub mod Evaluating
+pub mod Completeness
+pub mod Agreement

@@ -7,33 +7,41 @@ use Rattle.b3_module.specs.Limits.{IsFirstLimit, KeepsLimits}
 use Rattle.b3_module.specs.Texts.{BadLine, Spells}
 use Rattle.b3_module.specs.declared.fault.LimitName.{LimitName}
 use Rattle.b3_print.specs.Printed.{canonical}
+use Rattle.b3_rules.specs.Breaches.{Breach, IsFirstBreach}
+use Rattle.b3_rules.specs.Numbers.{number_of}
+use Rattle.b3_rules.specs.Valid.{IsValid}
 use Rattle.b3_supported.specs.Faults.{IsFaultLine}
 use Rattle.b3_supported.specs.Supported.{AreSupported}
 use Rattle.elf_obj.specs.declared.object.Object.{Object}
 use Rattle.elf_obj.specs.Elf.{Holds}
 use Rattle.a64_run.specs.CodeOf.{IsCodeOf}
 use Rattle.b3c_core.specs.declared.compiler.Fault.{Fault}
-use Rattle.b3c_core.specs.declared.compiler.Fault.TheVariants.{Syntax, Limit, NotBuilt, NoMemory}
+use Rattle.b3c_core.specs.declared.compiler.Fault.TheVariants.{Syntax, Limit, Invalid, NotBuilt, NoMemory}
 
--- the bytes of a file hold one object, which is the code of some procedures: the code and the frame of
+-- the bytes of a file hold an object, which is the code of some procedures: the code and the frame of
 -- each agree with it, so from each machine start that may begin it the machine shows the same as the run
 -- of B3. The sites obey the values of the procedures that these were reduced to
-pub record IsFileOf (procedures : List Procedure) (file : List ℕ) : Type 0 where
-  pub object : Object
+pub record IsFileWith (procedures : List Procedure) (object : Object) (file : List ℕ) : Type 0 where
   pub reduced : List Procedure
   pub holds : Holds file object
   pub small : length file ≤ 134_217_728
   pub code : IsCodeOf procedures reduced object
+
+-- it holds one such object
+pub record IsFileOf (procedures : List Procedure) (file : List ℕ) : Type 0 where
+  pub object : Object
+  pub is : IsFileWith procedures object file
 
 -- a text spells procedures within the limits
 pub record IsTextOf (text : List ℕ) (procedures : List Procedure) : Type 0 where
   pub spells : Spells text procedures
   pub within : KeepsLimits procedures
 
--- a text spells procedures that are supported, and this is the file of their object
+-- a text spells the procedures of a valid module, all of which are supported, and this is the file of their object
 pub record IsCompiled (text file : List ℕ) : Type 0 where
   pub procedures : List Procedure
   pub text_of : IsTextOf text procedures
+  pub valid : IsValid procedures
   pub supported : AreSupported procedures
   pub file_of : IsFileOf procedures file
 
@@ -55,10 +63,22 @@ pub record IsPastLimit (text : List ℕ) (which : LimitName) (line : ℕ) : Type
   pub first : IsFirstLimit procedures which line
   pub none : (others : List Procedure) → IsTextOf text others → ⊥
 
--- the bytes are a text of procedures that aren't all supported, and this is the line of their first fault
+-- the bytes are a text that breaks the rule of this number first, on this line
+pub record IsInvalid (text : List ℕ) (rule line : ℕ) : Type 0 where
+  pub procedures : List Procedure
+  pub text_of : IsTextOf text procedures
+  pub breach : Breach
+  pub first : IsFirstBreach procedures breach
+  pub number : rule ≡ number_of breach.rule
+  pub on_line : line ≡ breach.line
+  pub none : (others : List Procedure) → IsTextOf text others → IsValid others → ⊥
+
+-- the bytes are a text of a valid module whose procedures aren't all supported, and this is the line of their first
+-- fault
 pub record IsNotBuilt (text : List ℕ) (line : ℕ) : Type 0 where
   pub procedures : List Procedure
   pub text_of : IsTextOf text procedures
+  pub valid : IsValid procedures
   pub fault : IsFaultLine procedures line
   pub none : (others : List Procedure) → IsTextOf text others → AreSupported others → ⊥
 
@@ -66,11 +86,13 @@ pub record IsNotBuilt (text : List ℕ) (line : ℕ) : Type 0 where
 abbrev pub IsTextCause : List ℕ → Fault → Type 0
 IsTextCause text (Syntax line) = IsNoText text line
 IsTextCause text (Limit which line) = IsPastLimit text which line
+IsTextCause text (Invalid rule line) = ⊥
 IsTextCause text (NotBuilt line) = ⊥
 IsTextCause text NoMemory = Unit {0}
 
--- why a text was not compiled
+-- why a text was not compiled: it wasn't read, it breaks a rule, or not all of it is supported
 abbrev pub IsCause : List ℕ → Fault → Type 0
+IsCause text (Invalid rule line) = IsInvalid text rule line
 IsCause text (NotBuilt line) = IsNotBuilt text line
 IsCause text fault = IsTextCause text fault
 

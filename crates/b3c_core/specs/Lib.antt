@@ -1,2 +1,3 @@
 pub mod Compiled
+pub mod Tried
 pub mod Tool

@@ -3,13 +3,16 @@
 ghost use Rattle.std.specs.Prelude.{◌≡◌, ◌-◌, ◌^◌, ◌<◌, length, IfOk, IfErr};
 ghost use Rattle.b3_ir.specs.Procedure.{procedures};
 ghost use Rattle.b3_supported.specs.Supported.{AreSupported};
-ghost use Rattle.b3c_core.specs.Compiled.{IsCause, IsCompiled, IsFileOf, IsPrinted, IsTextCause, IsTextOf};
+ghost use Rattle.b3_rules.specs.Valid.{IsValid};
+ghost use Rattle.b3c_core.specs.Compiled.{IsCause, IsCompiled, IsFileWith, IsPrinted, IsTextCause, IsTextOf};
 
 use a64_baseline::module_object;
 use b3_base::{Bytes, NoMemory};
 use b3_ir::Module;
 use b3_module::{LimitName, TextFault};
 use b3_supported::fault_line;
+use b3_validate::{ValidateFault, validate};
+use elf_obj::Object;
 use std::alloc::Global;
 
 /// Why a text is refused. Lines are counted from 1.
@@ -19,9 +22,11 @@ pub enum Fault {
     Syntax { line: u32 },
     /// The bytes are a text that passes a limit; `line` is the first line that passes one.
     Limit { which: LimitName, line: u32 },
-    /// The bytes are a text of procedures that aren't all supported; `line` is that of the first header,
-    /// slot, heading or value of another form or, where there is none, of the first value that breaks a
-    /// rule.
+    /// The bytes are a text that breaks a rule; `line` is the first line that breaks one, and `rule` the least
+    /// number of a rule that is broken there.
+    Invalid { rule: u8, line: u32 },
+    /// The bytes are a text of a valid module that isn't all supported; `line` is the first line of a form that
+    /// isn't.
     NotBuilt { line: u32 },
     /// Want of memory.
     NoMemory,
@@ -38,21 +43,42 @@ impl From<NoMemory> for Fault {
     }
 }
 
-/// The bytes of the object of the text. It is refused where the bytes are no text of procedures that are
-/// supported, and for want of memory.
+/// The bytes of the object of the text. It is refused where the bytes are no text within the limits, where the text
+/// breaks a rule, where not all of it is supported, in this order, and for want of memory.
 pub fn compile(alloc: Global, bytes: &[u8]) -> Result<Bytes, Fault>
     requires { length bytes.now < 2 ^ 32 - 1 }
     ensures object { IfOk result (IsCompiled bytes.now) }
+    ensures cause { IfErr result (IsCause bytes.now) }
+{
+    let module = match supported_module(alloc, bytes) {
+        Ok(module) => module,
+        Err(fault) => return Err(fault),
+    };
+    let made = module_file(alloc, &module)?;
+    Ok(made.file)
+}
+
+/// The valid and supported module that the bytes spell.
+pub(crate) fn supported_module(alloc: Global, bytes: &[u8]) -> Result<Module, Fault>
+    requires { length bytes.now < 2 ^ 32 - 1 }
+    ensures text { IfOk result (λ made. IsTextOf bytes.now (procedures made)) }
+    ensures valid { IfOk result (λ made. IsValid (procedures made)) }
+    ensures supported { IfOk result (λ made. AreSupported (procedures made)) }
     ensures cause { IfErr result (IsCause bytes.now) }
 {
     let module = match read(alloc, bytes) {
         Ok(module) => module,
         Err(fault) => return Err(fault),
     };
-    if let Some(line) = fault_line(alloc, &module)? {
+    let valid = match validate(alloc, module) {
+        Ok(valid) => valid,
+        Err(ValidateFault::Invalid { rule, line, .. }) => return Err(Fault::Invalid { rule, line }),
+        Err(ValidateFault::NoMemory) => return Err(Fault::NoMemory),
+    };
+    if let Some(line) = fault_line(valid.module()) {
         return Err(Fault::NotBuilt { line });
     }
-    Ok(module_file(alloc, &module)?)
+    Ok(valid.into_module())
 }
 
 /// The canonical text of the text. It is refused where the bytes are no text within the limits, and for want
@@ -83,11 +109,20 @@ fn read(alloc: Global, bytes: &[u8]) -> Result<Module, Fault>
     }
 }
 
-/// The file of the object of a module. It is refused for want of memory alone.
-fn module_file(alloc: Global, module_: &Module) -> Result<Bytes, NoMemory>
-    requires { AreSupported (procedures module_.now) }
-    ensures { IfOk result (IsFileOf (procedures module_.now)) }
+/// An object, and its file.
+#[derive(Drop)]
+pub(crate) struct Made {
+    pub(crate) object: Object,
+    pub(crate) file: Bytes,
+}
+
+/// The object of a module, and its file. It is refused for want of memory alone.
+pub(crate) fn module_file(alloc: Global, module_: &Module) -> Result<Made, NoMemory>
+    requires valid { IsValid (procedures module_.now) }
+    requires supported { AreSupported (procedures module_.now) }
+    ensures { IfOk result (λ made. IsFileWith (procedures module_.now) made.object made.file) }
 {
     let object = module_object(alloc, module_)?;
-    elf_obj::write(alloc, &object)
+    let file = elf_obj::write(alloc, &object)?;
+    Ok(Made { object, file })
 }

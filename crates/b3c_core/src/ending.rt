@@ -1,7 +1,7 @@
 //! How a call of the tool ends: its status, and its line on the error stream.
 
 ghost use Rattle.std.specs.Prelude.{◌≡◌, ◌++◌, ◌+◌, ◌≤◌, length, take};
-ghost use Rattle.b3c_core.specs.Tool.{TakesLine, at_line, limit_name, line_of, status_of};
+ghost use Rattle.b3c_core.specs.Tool.{TakesLine, at_line, at_place, limit_name, line_of, status_of};
 
 use b3_base::NoMemory;
 use b3_io::{Sink, WriteFault, write_all};
@@ -17,14 +17,26 @@ pub enum Ending {
     Usage,
     /// A read of the input failed.
     ReadFault,
+    /// A read of the trial failed.
+    TrialReadFault,
     /// A write of the output failed.
     WriteFault,
-    /// The input has more bytes than a text may have.
+    /// The input has more bytes than it may have.
     TooLong,
+    /// The trial has more bytes than it may have.
+    TrialTooLong,
     /// The input is no text; this is its bad line.
     Syntax { line: u32 },
     /// The text passes a limit, first on this line.
     Limit { which: LimitName, line: u32 },
+    /// The text breaks the rule of this number, first on this line.
+    Invalid { rule: u8, line: u32 },
+    /// The input is no good object: its first fault has this number, and stands at this byte.
+    BadObject { code: u8, byte: u64 },
+    /// The bytes are no trial; this is their bad line.
+    BadTrial { line: u32 },
+    /// The trial may not begin the procedure that it names, or names none.
+    Misplaced,
     /// A form of the text, on this line, is not built yet.
     NotBuilt { line: u32 },
     /// Want of memory.
@@ -50,10 +62,12 @@ impl Ending {
         match self {
             Ending::Written => 0,
             Ending::Usage => 2,
-            Ending::ReadFault => 3,
+            Ending::ReadFault | Ending::TrialReadFault => 3,
             Ending::WriteFault => 4,
             Ending::Syntax { .. } => 5,
-            Ending::TooLong | Ending::Limit { .. } => 7,
+            Ending::Invalid { .. } => 6,
+            Ending::TooLong | Ending::TrialTooLong | Ending::Limit { .. } => 7,
+            Ending::BadObject { .. } | Ending::BadTrial { .. } | Ending::Misplaced => 8,
             Ending::NoMemory => 9,
             Ending::NotBuilt { .. } => 10,
         }
@@ -67,11 +81,31 @@ impl Ending {
             Ending::Written => write_line(err, b""),
             Ending::Usage => write_line(err, b"b3c: usage\n"),
             Ending::ReadFault => write_line(err, b"b3c: input: read fault\n"),
+            Ending::TrialReadFault => write_line(err, b"b3c: trial: read fault\n"),
             Ending::WriteFault => write_line(err, b"b3c: write fault\n"),
             Ending::TooLong => write_line(err, b"b3c: input: limit bytes\n"),
+            Ending::TrialTooLong => write_line(err, b"b3c: trial: limit bytes\n"),
+            Ending::Misplaced => write_line(err, b"b3c: trial: placement\n"),
             Ending::NoMemory => write_line(err, b"b3c: out of memory\n"),
             Ending::Syntax { line } => report_line(err, line, b"syntax", b""),
+            Ending::Invalid { rule, line } => {
+                let mut buffer = Buffer::new();
+                report_line(err, line, b"invalid rule ", buffer.format(rule).as_bytes())
+            }
             Ending::Limit { which, line } => report_line(err, line, b"limit ", limit_name(which)),
+            Ending::BadObject { code, byte } => {
+                let mut buffer = Buffer::new();
+                report_place(
+                    err,
+                    b"b3c: byte ",
+                    byte,
+                    b"bad object ",
+                    buffer.format(code).as_bytes(),
+                )
+            }
+            Ending::BadTrial { line } => {
+                report_place(err, b"b3c: trial line ", u64::from(line), b"syntax", b"")
+            }
             Ending::NotBuilt { line } => report_line(err, line, b"not built", b""),
         }
     }
@@ -110,10 +144,20 @@ fn report_line<E: Sink>(err: &mut E, line: u32, what: &[u8], more: &[u8])
     requires more { length more.now ≤ 18 }
     ensures { TakesLine (at_line line (what.now ++ more.now)) (E.held err.old) (E.held err.new) (E.faults err.old) (E.faults err.new) }
 {
+    report_place(err, b"b3c: line ", u64::from(line), what, more)
+}
+
+/// Writes the line that names a place by its number, and says two pieces of it.
+fn report_place<E: Sink>(err: &mut E, front: &[u8], number: u64, what: &[u8], more: &[u8])
+    requires front { length front.now ≤ 16 }
+    requires what { length what.now ≤ 18 }
+    requires more { length more.now ≤ 18 }
+    ensures { TakesLine (at_place front.now number (what.now ++ more.now)) (E.held err.old) (E.held err.new) (E.faults err.old) (E.faults err.new) }
+{
     let mut buffer = Buffer::new();
-    let digits = buffer.format(line).as_bytes();
-    let mut text = [0; 80];
-    let end = put(&mut text, 0, b"b3c: line ");
+    let digits = buffer.format(number).as_bytes();
+    let mut text = [0; 120];
+    let end = put(&mut text, 0, front);
     let end = put(&mut text, end, digits);
     let end = put(&mut text, end, b": ");
     let end = put(&mut text, end, what);

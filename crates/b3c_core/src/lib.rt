@@ -4,11 +4,15 @@
 mod command;
 mod compiler;
 mod ending;
+mod laws;
 #[cfg(test)]
 mod tests;
 mod tool;
+mod trying;
 
-pub use command::Command;
+pub use command::{Command, command_of};
 pub use compiler::{Fault, compile, print};
 pub use ending::Ending;
-pub use tool::{TEXT_LIMIT, run_tool};
+pub use laws::evaluated_runs_agree;
+pub use tool::{OBJECT_LIMIT, TEXT_LIMIT, run_tool};
+pub use trying::{EvalFault, Evaluated, RunFault, eval_text, run_file};

@@ -1,6 +1,6 @@
 use Rattle.std.proofs.Common.{subst, sym}
-use Rattle.b3c_core.specs.Compiled.{IsNoText, IsPastLimit}
-use Rattle.b3c_core.proofs.Endings.{no_text, past_limit}
+use Rattle.b3c_core.specs.Compiled.{IsNoText}
+use Rattle.b3c_core.proofs.Endings.{no_text}
 use Rattle.b3c_core.proofs.compiler.read.Goals as goal
 
 pub returns-in-Err-Syntax-clause-cause : goal.returns-in-Err-Syntax-clause-cause

@@ -1,11 +1,16 @@
 use Rattle.std.proofs.Common.{sym, subst}
-use Rattle.std.specs.Prelude.{IfErr, IfOk}
 use Rattle.b3c_core.specs.declared.command.Command.{Command}
-use Rattle.b3c_core.specs.Tool.{cause_of, output_of}
+use Rattle.b3c_core.specs.Tool.{output_of}
 use Rattle.b3c_core.proofs.tool.answer.Goals as goal
 
-pub returns-in-Compile-clause-output : goal.returns-in-Compile-clause-output
-returns-in-Compile-clause-output c = subst (λ (command : Command). IfOk c.compile.result (output_of command c.args.bytes.now)) (sym c.in-Compile.is) c.compile.ensures.object
+pub returns-in-Ok-clause-output : goal.returns-in-Ok-clause-output
+returns-in-Ok-clause-output c =
+    subst (λ (command : Command). output_of command c.args.bytes.now c.args.trial.now c.in-Ok.file) (sym c.in-Compile.is) c.in-Ok.ensures.object
 
-pub returns-in-Print-clause-output : goal.returns-in-Print-clause-output
-returns-in-Print-clause-output c = subst (λ (command : Command). IfOk c.print.result (output_of command c.args.bytes.now)) (sym c.in-Print.is) c.print.ensures.text
+pub returns-in-Ok-print-clause-output : goal.returns-in-Ok-print-clause-output
+returns-in-Ok-print-clause-output c =
+    subst (λ (command : Command). output_of command c.args.bytes.now c.args.trial.now c.in-Ok-print.text) (sym c.in-Print.is) c.in-Ok-print.ensures.text
+
+pub returns-in-Ok-run_file-clause-output : goal.returns-in-Ok-run_file-clause-output
+returns-in-Ok-run_file-clause-output c =
+    subst (λ (command : Command). output_of command c.args.bytes.now c.args.trial.now c.in-Ok-run_file.shown) (sym c.in-Run.is) c.in-Ok-run_file.ensures.run

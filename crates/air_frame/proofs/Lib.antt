@@ -1,0 +1,4 @@
+pub mod Snoc
+pub mod Targets
+pub mod Stacked
+pub mod Laid

@@ -1,0 +1,5 @@
+pub mod Needs
+pub mod Frames
+pub mod Placing
+pub mod Targets
+pub mod Marks

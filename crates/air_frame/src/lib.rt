@@ -1,0 +1,12 @@
+//! The frame of a procedure of Air: where its stack slots, its spill places and the registers that it saves
+//! stand.
+#![tactic(auto)]
+
+mod frame;
+mod placing;
+mod registers;
+mod spills;
+#[cfg(test)]
+mod tests;
+
+pub use frame::layout;

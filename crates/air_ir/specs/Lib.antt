@@ -1,0 +1,13 @@
+pub mod Operands
+pub mod Kinds
+pub mod Words
+pub mod Meaning
+pub mod Steps
+pub mod Blocks
+pub mod Run
+pub mod Forms
+pub mod WellFormed
+pub mod Weight
+pub mod Expressed
+pub mod Renaming
+pub mod Related
