@@ -1,0 +1,4 @@
+pub mod Flow
+pub mod Living
+pub mod Interfere
+pub mod Proper
