@@ -1,17 +1,16 @@
 -- The entries of ids, value after value.
-use Rattle.std.proofs.Common.{◌≡◌, ◌≢◌, ℕ, zero, suc, ◌+◌, ◌<◌, ◌≤◌, ◌⊎◌, inl, inr, Bool, true, false, cond, List, [], ◌∷◌, length, Option, None, Some, refl, sym, ap, subst, ◌∙◌, arith, eqb}
-use Rattle.std.specs.Prelude.{◌↔◌, IsTrue, is_some, nat_eq, slice_get}
-use Rattle.std.proofs.lemmas.Bool.{cases_Bool, cases_order, eq-eqb, eqb-true, false≢true, ne_eqb}
+use Rattle.std.proofs.Common.{◌≡◌, ℕ, ◌+◌, ◌⊎◌, inl, inr, Bool, true, false, cond, length, Option, None, Some, refl, sym, ap, subst, ◌∙◌, arith}
+use Rattle.std.specs.Prelude.{◌↔◌, IsTrue, is_some, nat_eq}
+use Rattle.std.proofs.lemmas.Bool.{cases_Bool, cases_order, eq-eqb, eqb-true, false≢true}
 use Rattle.std.proofs.lemmas.Option.{slice_get_within}
 use Rattle.b3_ir.specs.Naming.{type_of, type_or_void, value_named}
 use Rattle.b3_ir.specs.Procedure.{IsAt, IsWhole, Kept, Procedure, StandsAt, values_of}
-use Rattle.b3_ir.specs.declared.opcode.Ty.{Ty}
 use Rattle.b3_ir.specs.declared.opcode.Ty.TheVariants.{Void}
 use Rattle.b3_ir.specs.declared.value.Value.{Value}
 use Rattle.b3_ir.proofs.Numbering.{in_blocks}
 use Rattle.b3_rules.specs.Rules.{HasNewId, IsEarlier, IsId}
 use Rattle.b3_validate.specs.declared.index.Named.{Named}
-use Rattle.b3_validate.specs.Index.{IsFirstBy, IsNamed, IsNamedAt, IsNamedBefore, NoneBefore, NonePasses, has_id}
+use Rattle.b3_validate.specs.Index.{IsNamed, IsNamedAt, IsNamedBefore, NoneBefore, NonePasses, has_id}
 use Rattle.b3_validate.proofs.Finding.{named_first, named_none}
 
 -- ---- places

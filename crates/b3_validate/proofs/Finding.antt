@@ -1,9 +1,9 @@
 -- The first value of a procedure that passes a test, by its place and in the list of all values.
-use Rattle.std.proofs.Common.{◌≡◌, ℕ, zero, suc, ◌+◌, ◌<◌, ◌≤◌, ◌⊎◌, inl, inr, Bool, true, false, List, [], ◌∷◌, ◌++◌, length, Option, None, Some, refl, sym, ap, subst, ◌∙◌, arith}
+use Rattle.std.proofs.Common.{◌≡◌, ℕ, zero, suc, ◌<◌, inl, inr, Bool, true, false, List, [], ◌∷◌, ◌++◌, Option, None, Some, refl, ap, ◌∙◌, arith}
 use Rattle.std.specs.Prelude.{if◌then◌else◌, nat_eq, slice_get, slice_index_or}
 use Rattle.std.specs.List.{flat_map}
 use Rattle.b3_ir.specs.Naming.{all_values, value_named, with_id}
-use Rattle.b3_ir.specs.Procedure.{Block, Procedure, StandsAt, no_block}
+use Rattle.b3_ir.specs.Procedure.{Block, Procedure, no_block}
 use Rattle.b3_ir.specs.declared.opcode.Opcode.{Opcode}
 use Rattle.b3_ir.specs.declared.opcode.Opcode.TheVariants.{Return}
 use Rattle.b3_ir.specs.declared.value.Value.{Value}

@@ -1,18 +1,16 @@
 -- The first breach of the procedures of a module, one after the other.
-use Rattle.std.proofs.Common.{◌≡◌, ◌≢◌, ◌↔◌, ℕ, ◌+◌, ◌<◌, ◌≤◌, ◌⊎◌, inl, inr, Bool, true, false, cond, List, length, Option, None, Some, refl, sym, ap, subst, ◌∙◌, arith}
+use Rattle.std.proofs.Common.{◌≡◌, ◌↔◌, ℕ, ◌+◌, ◌<◌, ◌≤◌, ◌⊎◌, inl, inr, Bool, true, false, cond, List, length, Option, None, Some, refl, sym, ap, subst, ◌∙◌, arith}
 use Rattle.std.specs.Prelude.{IsTrue, IfSome, bytes_eq, if◌then◌else◌, not, option_map, slice_get}
-use Rattle.std.proofs.lemmas.Bool.{cases_Bool, cases_lt, cases_order, false≢true}
-use Rattle.std.proofs.lemmas.List.{length-map}
+use Rattle.std.proofs.lemmas.Bool.{cases_Bool, cases_order, false≢true}
 use Rattle.std.proofs.lemmas.Option.{slice_get_within, slice_get-map}
 use Rattle.std.proofs.lemmas.Slice.Eq.{bytes_eq-Decides}
 use denote.Ref.{Bor}
-use Rattle.b3_ir.specs.Procedure.{Kept, Procedure, StandsAt, procedures}
-use Rattle.b3_ir.specs.declared.value.Value.{Value}
-use Rattle.b3_rules.specs.Breaches.{Breach, BreaksRule, Counts, IsBreach, IsFirstBreach, IsNoLater, RepeatsName}
-use Rattle.b3_rules.specs.Least.{CoversAll, IsFirstUncovered, KeepsAllButUses}
+use Rattle.b3_ir.specs.Procedure.{Kept, Procedure, procedures}
+use Rattle.b3_rules.specs.Breaches.{Breach, IsBreach, IsNoLater}
+use Rattle.b3_rules.specs.Least.{CoversAll, IsFirstUncovered}
 use Rattle.b3_rules.specs.Numbers.{number_of}
-use Rattle.b3_rules.specs.Rules.{CoversUses, HasNewName}
-use Rattle.b3_rules.specs.Valid.{IsPartOf, IsValid, IsValidProcedure, Keeps, Part, Header, SlotAt, HeadingAt, ValueAt, line_of}
+use Rattle.b3_rules.specs.Rules.{HasNewName}
+use Rattle.b3_rules.specs.Valid.{IsPartOf, IsValid, Keeps, Part, Header, SlotAt, HeadingAt, ValueAt, line_of}
 use Rattle.b3_rules.specs.declared.rule.Rule.{Rule}
 use Rattle.b3_rules.specs.declared.rule.Rule.TheVariants as rule
 use Rattle.b3_validate.specs.declared.found.Found.{Found}
@@ -20,7 +18,7 @@ use Rattle.b3_validate.specs.declared.spot.Spot.{Spot}
 use Rattle.b3_validate.specs.Spots.{BreaksAt, IsAny, IsBeforeSpot, IsLeast, IsLeastIn, IsNoLaterSpot, IsSooner, PartsKeep}
 use Rattle.b3_validate.specs.Firsts.{IsEarlierOf, IsFirstAt, IsFirstBelow, IsOther, IsUses, KeepBelow, KeepsSome, breach_at, breach_of}
 use Rattle.b3_validate.specs.Faults.{IsInvalid}
-use Rattle.b3_validate.proofs.Leasts.{join, no_later}
+use Rattle.b3_validate.proofs.Leasts.{join}
 use Rattle.b3_validate.proofs.RuleNumbers.{same_rule, uses_or_other}
 
 -- a procedure of a module as it is kept

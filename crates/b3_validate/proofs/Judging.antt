@@ -1,5 +1,5 @@
 -- The rules of a value, test after test.
-use Rattle.std.proofs.Common.{◌≡◌, ◌≢◌, ◌↔◌, ℕ, ◌+◌, ◌<◌, ◌≤◌, Bool, true, false, List, [], ◌∷◌, Option, None, Some, refl, sym, ap, subst, ◌∙◌}
+use Rattle.std.proofs.Common.{◌≡◌, ◌↔◌, ℕ, Bool, true, false, List, [], ◌∷◌, None, Some, refl, sym, ap, ◌∙◌}
 use Rattle.std.specs.Prelude.{IsTrue}
 use Rattle.std.proofs.lemmas.Bool.{false≢true}
 use Rattle.b3_ir.specs.Naming.{all_values, value_named}
@@ -10,7 +10,7 @@ use Rattle.b3_ir.specs.declared.opcode.Ty.{Ty}
 use Rattle.b3_ir.specs.declared.value.Value.{Value}
 use Rattle.b3_rules.specs.Rules.{IsPhiOf, ReturnsAlike, first_return, types_of}
 use Rattle.b3_validate.specs.declared.index.Named.{Named}
-use Rattle.b3_validate.specs.Index.{AreReturned, IsNamed, IsNamedAt, IsReturned, NonePasses, has_id, is_return, returns}
+use Rattle.b3_validate.specs.Index.{AreReturned, IsNamedAt, NonePasses, has_id, is_return, returns}
 use Rattle.b3_validate.proofs.Finding.{named_first, named_none, returned_first, returned_none}
 
 -- ---- two tests one after the other

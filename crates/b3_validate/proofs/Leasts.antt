@@ -1,12 +1,7 @@
 -- The first of the spots at which something is broken.
-use Rattle.std.proofs.Common.{◌≡◌, ◌≢◌, ℕ, ◌+◌, ◌<◌, ◌≤◌, ◌⊎◌, inl, inr, Bool, true, false, Option, None, Some, refl, sym, ap, subst, ◌∙◌, arith}
-use Rattle.std.specs.Prelude.{option_map}
+use Rattle.std.proofs.Common.{◌⊎◌, inl, inr, Option, None, Some, sym, subst, arith}
 use Rattle.b3_ir.specs.Procedure.{Procedure}
-use Rattle.b3_rules.specs.Least.{IsLeastBroken, IsWithin}
-use Rattle.b3_rules.specs.Numbers.{number_of}
-use Rattle.b3_rules.specs.Valid.{IsPartOf, Keeps, Part, line_of}
-use Rattle.b3_rules.specs.declared.rule.Rule.{Rule}
-use Rattle.b3_rules.specs.declared.rule.Rule.TheVariants as rule
+use Rattle.b3_rules.specs.Valid.{IsPartOf, Part}
 use Rattle.b3_validate.specs.declared.spot.Spot.{Spot}
 use Rattle.b3_validate.specs.Spots.{BreaksAt, IsBeforeSpot, IsLeast, IsLeastIn, IsNoLaterSpot, IsSooner, PartsKeep}
 

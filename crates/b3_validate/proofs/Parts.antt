@@ -1,5 +1,5 @@
 -- Parts of a procedure, one after the other.
-use Rattle.std.proofs.Common.{◌≡◌, ◌≢◌, ℕ, ◌+◌, ◌<◌, ◌≤◌, ◌⊎◌, inl, inr, List, length, Option, None, Some, refl, sym, ap, subst, ◌∙◌, arith}
+use Rattle.std.proofs.Common.{◌≡◌, ◌≢◌, ℕ, ◌+◌, ◌<◌, ◌⊎◌, inl, inr, length, Option, None, Some, refl, sym, ap, subst, ◌∙◌, arith}
 use Rattle.std.specs.Prelude.{option_map, slice_get}
 use Rattle.std.proofs.lemmas.Bool.{cases_lt, cases_order}
 use Rattle.std.proofs.lemmas.Option.{slice_get_within}
@@ -13,7 +13,7 @@ use Rattle.b3_rules.specs.Valid.{IsPartOf, Keeps, Part, Header, SlotAt, HeadingA
 use Rattle.b3_rules.specs.declared.rule.Rule.{Rule}
 use Rattle.b3_rules.specs.declared.rule.Rule.TheVariants as rule
 use Rattle.b3_validate.specs.declared.spot.Spot.{Spot}
-use Rattle.b3_validate.specs.Spots.{BreaksAt, IsAny, IsHeader, IsInBlock, IsLeastIn, IsNoLaterSpot, IsOfBlocksBelow, IsSlotBelow, IsSooner, PartsKeep}
+use Rattle.b3_validate.specs.Spots.{IsAny, IsInBlock, IsLeastIn, IsOfBlocksBelow, IsSlotBelow, IsSooner}
 use Rattle.b3_validate.proofs.Leasts.{join_parts}
 use Rattle.b3_validate.proofs.RuleNumbers.{uses_or_other}
 

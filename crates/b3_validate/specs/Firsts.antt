@@ -1,10 +1,9 @@
 -- The first breach of some procedures of a module. No public clause cites this module.
-use Rattle.std.specs.Prelude.{◌≡◌, ◌≢◌, ℕ, ◌<◌, ◌≤◌, ◌⊎◌, ◌↔◌, bytes_eq, Bool, IsTrue, List, Option, Some, None, slice_get}
+use Rattle.std.specs.Prelude.{◌≡◌, ◌≢◌, ℕ, ◌<◌, ◌⊎◌, ◌↔◌, bytes_eq, Bool, IsTrue, List, Option, Some, None, slice_get}
 use denote.Ref.{Bor}
 use Rattle.indexmap.specs.IndexSet as set
 use Rattle.b3_ir.specs.Procedure.{Procedure}
 use Rattle.b3_rules.specs.Breaches.{Breach, IsBreach, IsNoLater}
-use Rattle.b3_rules.specs.Least.{KeepsAllButUses}
 use Rattle.b3_rules.specs.Rules.{HasNewName}
 use Rattle.b3_rules.specs.Valid.{IsPartOf, Keeps, Part}
 use Rattle.b3_rules.specs.declared.rule.Rule.{Rule}

@@ -1,8 +1,6 @@
-use Rattle.std.proofs.Common.{◌≡◌, ℕ, length, Option, arith, sym, ap, subst, ◌∙◌}
-use Rattle.std.specs.Prelude.{option_map}
+use Rattle.std.proofs.Common.{◌≡◌, ℕ, length, arith, subst, ◌∙◌}
 use Rattle.indexmap.specs.IndexSet.{contains}
-use Rattle.b3_ir.specs.Procedure.{Kept, procedures}
-use Rattle.b3_rules.specs.declared.rule.Rule.{Rule}
+use Rattle.b3_ir.specs.Procedure.{procedures}
 use Rattle.b3_validate.specs.Firsts.{IsFirstBelow, IsOther, same_bytes}
 use Rattle.b3_validate.proofs.Firsts.{first_next, more_names, new_name, others_first, procedure_at, spot_of_name}
 use Rattle.b3_validate.proofs.found.other_breach.Goals as goal

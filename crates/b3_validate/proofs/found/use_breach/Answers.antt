@@ -1,8 +1,5 @@
-use Rattle.std.proofs.Common.{◌≡◌, ◌<◌, ℕ, length, Option, arith, sym, subst}
-use Rattle.std.proofs.lemmas.List.{length-map}
-use Rattle.std.proofs.lemmas.Option.{slice_get_within}
-use Rattle.b3_ir.specs.Procedure.{Kept, procedures}
-use Rattle.b3_validate.specs.declared.spot.Spot.{Spot}
+use Rattle.std.proofs.Common.{sym, subst}
+use Rattle.b3_ir.specs.Procedure.{procedures}
 use Rattle.b3_validate.specs.Firsts.{IsFirstAt, IsUses}
 use Rattle.b3_validate.proofs.Firsts.{first_next, procedure_at, uses_first}
 use Rattle.b3_validate.proofs.found.use_breach.Goals as goal

@@ -1,9 +1,9 @@
-use Rattle.std.proofs.Common.{◌≡◌, ℕ, ◌+◌, Bool, true, false, refl, sym, ap, subst, ◌∙◌}
-use Rattle.std.specs.Prelude.{is_some, nat_eq}
+use Rattle.std.proofs.Common.{◌+◌, refl, sym, ◌∙◌}
+use Rattle.std.specs.Prelude.{nat_eq}
 use Rattle.indexmap.specs.IndexMap.{get}
-use Rattle.b3_validate.specs.Index.{AreNamedBefore, IsNamedBefore}
+use Rattle.b3_validate.specs.Index.{AreNamedBefore}
 use Rattle.b3_validate.proofs.Entries.{block_noted, id_added, id_known}
-use Rattle.b3_validate.proofs.Walking.{here, less_left, reached_all, reached_next}
+use Rattle.b3_validate.proofs.Walking.{here, reached_all, reached_next}
 use Rattle.b3_validate.proofs.index.note_block.Goals as goal
 use Rattle.b3_validate.proofs.index.note_block.Goals.{then-not-contains_key+in_ok-insert, else-not-contains_key}
 

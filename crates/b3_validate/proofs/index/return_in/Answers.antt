@@ -1,7 +1,7 @@
-use Rattle.std.proofs.Common.{◌≡◌, ℕ, ◌∙◌, sym}
+use Rattle.std.proofs.Common.{◌∙◌, sym}
 use Rattle.b3_validate.specs.Index.{NoneBefore, returns}
 use Rattle.b3_validate.proofs.Entries.{none_block, none_next}
-use Rattle.b3_validate.proofs.Walking.{here, less_left, reached_all, reached_next}
+use Rattle.b3_validate.proofs.Walking.{here, reached_all, reached_next}
 use Rattle.b3_validate.proofs.index.return_in.Goals as goal
 
 pub returns-then-is_return-clause-first : goal.returns-then-is_return-clause-first

@@ -1,4 +1,3 @@
-use Rattle.b3_validate.specs.Index.{IsNamed}
 use Rattle.b3_validate.proofs.Entries.{type_is, void_is}
 use Rattle.b3_validate.proofs.index.type_of.Goals as goal
 

@@ -1,9 +1,9 @@
-use Rattle.std.proofs.Common.{◌≡◌, ℕ, List, length, Option, None, Some, arith, sym, subst}
+use Rattle.std.proofs.Common.{ℕ, List, length, Option, None, Some, sym, subst}
 use Rattle.b3_rules.specs.declared.rule.Rule.{Rule}
 use Rattle.b3_validate.specs.declared.found.Found.{Found}
 use Rattle.std.proofs.lemmas.List.{length-map}
 use Rattle.b3_ir.specs.Procedure.{Kept, procedures}
-use Rattle.b3_validate.specs.Firsts.{IsFirstBelow, IsOther, IsUses, KeepBelow}
+use Rattle.b3_validate.specs.Firsts.{IsFirstBelow, IsOther, IsUses}
 use Rattle.b3_validate.specs.Faults.{IsFault}
 use Rattle.b3_validate.proofs.Firsts.{all_valid, other_invalid, use_invalid}
 use Rattle.b3_validate.proofs.judge.validate.Goals as goal

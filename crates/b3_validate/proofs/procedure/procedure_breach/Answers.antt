@@ -1,4 +1,3 @@
-use Rattle.std.proofs.Common.{sym}
 use Rattle.b3_rules.specs.Valid.{Header}
 use Rattle.b3_validate.proofs.Parts.{front, one_part, whole_procedure}
 use Rattle.b3_validate.proofs.procedure.procedure_breach.Goals as goal

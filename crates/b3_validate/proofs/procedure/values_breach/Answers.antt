@@ -1,4 +1,4 @@
-use Rattle.std.proofs.Common.{length, None, refl}
+use Rattle.std.proofs.Common.{None, refl}
 use Rattle.b3_rules.specs.Valid.{ValueAt}
 use Rattle.b3_validate.specs.Spots.{IsInBlock, IsLeastIn}
 use Rattle.b3_validate.proofs.Parts.{no_values, one_part, value_more}

@@ -1,5 +1,4 @@
-use Rattle.std.proofs.Common.{◌≡◌, ◌≤◌, ℕ, false, true, arith, refl, sym, ap, subst, ◌∙◌}
-use Rattle.std.specs.Prelude.{◌↔◌, IsTrue}
+use Rattle.std.proofs.Common.{ℕ, arith, refl, sym, ap, subst, ◌∙◌}
 use Rattle.b3_ir.specs.Procedure.{Kept}
 use Rattle.b3_ir.specs.declared.opcode.Ty.{Ty}
 use Rattle.b3_ir.specs.declared.value.Value.{Value}
@@ -8,7 +7,7 @@ use Rattle.b3_rules.specs.Valid.{ValueKeeps}
 use Rattle.b3_rules.specs.declared.rule.Rule.{Rule}
 use Rattle.b3_rules.specs.declared.rule.Rule.TheVariants as rule
 use Rattle.b3_validate.proofs.Judging.{refutes}
-use Rattle.b3_validate.proofs.RuleNumbers.{KeptBelow, broken, ended, extended, finished, none_yet, one_more}
+use Rattle.b3_validate.proofs.RuleNumbers.{broken, ended, extended, finished, none_yet, one_more}
 use Rattle.b3_validate.proofs.values.value_breach.Goals as goal
 
 abbrev keeps_at : Kept → ℕ → ℕ → Value → Rule → Type 0

@@ -1,0 +1,15 @@
+pub mod Flags
+pub mod Least
+pub mod Labels
+pub mod Putting
+pub mod Back
+pub mod Forward
+pub mod Words
+pub mod Counting
+pub mod Checking
+pub mod WordAt
+pub mod Marked
+pub mod Simulation
+pub mod Stepping
+pub mod Listed
+pub mod Example
