@@ -10,3 +10,4 @@ pub mod Good
 pub mod Lighter
 pub mod SpillNames
 pub mod Sites
+pub mod NewPlaces

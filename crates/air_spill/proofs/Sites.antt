@@ -60,7 +60,7 @@ module _ (p : AirProc) (a : Assignment) where
     pub there : slice_get p.blocks block ≡ Some of
     pub at : Origin (rewritten_inst (home_by a)) of.insts place j
 
-  from : (block place : ℕ) (j : AirInst) → StandsAt (rewritten p a) block place j → From block place j
+  pub from : (block place : ℕ) (j : AirInst) → StandsAt (rewritten p a) block place j → From block place j
   unfolding rewritten_block
   from block place j at =
       let was = unmapped (rewritten_block (home_by a)) p.blocks block at.of at.block_there in
@@ -71,7 +71,7 @@ module _ (p : AirProc) (a : Assignment) where
             (ap (λ (b : AirBlock). slice_get b.insts place) was.2 ∙ at.inst_there);
       }
 
-  stood : (block place : ℕ) (j : AirInst) (f : From block place j) → StandsAt p block f.at.at f.at.from
+  pub stood : (block place : ℕ) (j : AirInst) (f : From block place j) → StandsAt p block f.at.at f.at.from
   stood block place j f = record { of = f.of; block_there = f.there; inst_there = f.at.there }
 
   like : (i j : AirInst) → rewritten_inst (home_by a) i ≡ j ∷ [] → IsLike i j

@@ -6,7 +6,7 @@ ghost use Rattle.air_ir.specs.Run.{HasSameBlocks};
 ghost use Rattle.air_ir.specs.Weight.{weight};
 ghost use Rattle.air_ir.specs.WellFormed.{HasOneSiteEach, IsWellFormed, NamesSpillsBelow};
 ghost use Rattle.air_spill.specs.Rewritten.{home_by, is_copy, rewritten, rewritten_block, rewritten_inst};
-ghost use Rattle.air_spill.specs.Stays.{ComesFromEach};
+ghost use Rattle.air_spill.specs.Stays.{AddsPlaces, ComesFromEach};
 
 use crate::operands::{kept_operands, renamed_operands};
 use air_ir::{AirBlock, AirBlocks, AirInst, AirInsts, AirOp, AirProc, Assignment, Operands};
@@ -105,6 +105,7 @@ pub fn rewrite(alloc: Global, p: AirProc, assignment: &Assignment) -> Result<Air
     ensures no_tmps { IfOk result (λ q. q.tmps ≡ 0) }
     ensures kept { IfOk result (λ q. (q.slots ≡ p.slots) × (q.returns ≡ p.returns)) }
     ensures spills { IfOk result (λ q. NamesSpillsBelow (56 + p.tmps) q) }
+    ensures places { IfOk result (λ q. AddsPlaces p assignment.now q) }
     ensures lighter { IfOk result (λ q. weight q ≤ weight p) }
     ensures sites { HasOneSiteEach p → IfOk result (λ q. HasOneSiteEach q) }
     ensures comes { IfOk result (λ q. ComesFromEach p q) }

@@ -152,12 +152,7 @@ fn two_temporaries_share_a_register(rt: HostRuntime) -> Result<(), Fail> {
     assignment.give(0, Reg(9));
     assignment.give(1, Reg(9));
     let s2 = Home::Spill(58);
-    let pairs = [
-        reads(x(0)),
-        writes(s2),
-        reads(Home::Spill(3)),
-        writes(x(1)),
-    ];
+    let pairs = [reads(x(0)), writes(s2), reads(Home::Spill(3)), writes(x(1))];
     let expected: [&[Operand]; 4] = [
         &[seven(), writes(x(9))],
         &pairs,

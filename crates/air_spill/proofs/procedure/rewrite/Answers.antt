@@ -3,13 +3,14 @@ use Rattle.air_ir.specs.Run.{HasSameBlocks}
 use Rattle.air_ir.specs.declared.procedure.AirBlock.{AirBlock}
 use Rattle.air_ir.specs.declared.procedure.AirProc.{AirProc}
 use Rattle.air_spill.specs.Rewritten.{home_by, rewritten_block}
-use Rattle.air_spill.specs.Stays.{ComesFromEach}
+use Rattle.air_spill.specs.Stays.{AddsPlaces, ComesFromEach}
 use Rattle.air_ir.specs.Weight.{weight}
 use Rattle.air_ir.specs.WellFormed.{HasOneSiteEach, IsWellFormed, NamesSpillsBelow}
 use Rattle.air_spill.proofs.Good.{well}
 use Rattle.air_spill.proofs.Lighter.{lighter}
 use Rattle.air_spill.proofs.Sites.{comes_from_each, one_site_each}
 use Rattle.air_spill.proofs.SpillNames.{names_low}
+use Rattle.air_spill.proofs.NewPlaces.{adds_places}
 use Rattle.air_spill.proofs.SameRun.{same_blocks}
 use Rattle.air_spill.proofs.procedure.rewrite.Goals as goal
 
@@ -43,3 +44,7 @@ returns-clause-sites c once =
 pub returns-clause-comes : goal.returns-clause-comes
 returns-clause-comes c =
     subst (ComesFromEach c.args.p) (sym (returns-clause-is c)) (comes_from_each c.args.p c.args.assignment.now c.requires.proper c.requires.well)
+
+pub returns-clause-places : goal.returns-clause-places
+returns-clause-places c =
+    subst (AddsPlaces c.args.p c.args.assignment.now) (sym (returns-clause-is c)) (adds_places c.args.p c.args.assignment.now)
