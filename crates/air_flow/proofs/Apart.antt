@@ -57,7 +57,7 @@ module _ (p : AirProc) (a : Assignment) (block place : ℕ) (i : AirInst) (good 
   own : (x : Home) → IsTarget x (targets i.operands) → IsOf p x
   own x is = named_of p i.operands x (owns_of p block place i good at) (target_is_named i.operands x is)
 
-  defined : (x : Home) (reg : Register) → IsTarget x (targets i.operands) → register_of a x ≡ Some reg → IsDefinedBy p i x
+  pub defined : (x : Home) (reg : Register) → IsTarget x (targets i.operands) → register_of a x ≡ Some reg → IsDefinedBy p i x
   defined (Tmp k) reg is e = (
     k,
     (own (Tmp k) is, refl),

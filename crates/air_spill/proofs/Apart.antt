@@ -23,7 +23,7 @@ use Rattle.air_flow.specs.Interfere.{IsCopied, IsPair}
 use Rattle.air_flow.specs.Living.{IsDefinedBy, IsKept, IsKeptAfter, IsNamedIn}
 use Rattle.air_flow.specs.Proper.{IsProper, register_of}
 use Rattle.air_flow.proofs.Among.{contains_among}
-use Rattle.air_flow.proofs.Apart.{writes_apart}
+use Rattle.air_flow.proofs.Apart.{defined, writes_apart}
 use Rattle.air_flow.proofs.Lives.{spot}
 use Rattle.air_flow.proofs.Names.{all_at, named_of, owns_of}
 use Rattle.air_flow.proofs.Touching.{target_is_defined, target_is_named}
@@ -116,25 +116,12 @@ module _ (p : AirProc) (a : Assignment) (good : IsWellFormed p) (proper : IsProp
     )
 
     -- two homes that are written stand apart
-    defined : (x : Home) (reg : Register) → IsTarget x (targets i.operands) → register_of a x ≡ Some reg → IsDefinedBy p i x
-    defined (Tmp k) reg is e = (
-      k,
-      (named_of p i.operands (Tmp k) (owns_of p block place i good at) (target_is_named i.operands (Tmp k) is), refl),
-      contains_among (touch.Def k) (touches_of p.tmps i.operands) (target_is_defined p.tmps i.operands (Tmp k) k refl is),
-    )
-    defined (Reg r) reg is e = (
-      p.tmps + r.0,
-      (named_of p i.operands (Reg r) (owns_of p block place i good at) (target_is_named i.operands (Reg r) is), refl),
-      contains_among (touch.Def (p.tmps + r.0)) (touches_of p.tmps i.operands)
-          (target_is_defined p.tmps i.operands (Reg r) (p.tmps + r.0) refl is),
-    )
-    defined (Spill k) reg is e = absurd (cc)
-
     pub written_apart : (x y : Home) → IsTarget x (targets i.operands) → IsTarget y (targets i.operands) → x ≢ y → home_by a x ≢ home_by a y
     written_apart x y is_x is_y ne e =
+        let is_defined = defined p a block place i good proper at in
         elim (become_one a x y (target_below x is_x) (target_below y is_y) e) [
           | inl same ↦ ne same
           | inr one ↦
               proper.apart x y one.0
-              (ne, inr (spot block place, i, at, inl (defined x one.0 is_x one.1, inr (inr (inr (defined y one.0 is_y one.2)))))) one.1 one.2
+              (ne, inr (spot block place, i, at, inl (is_defined x one.0 is_x one.1, inr (inr (inr (is_defined y one.0 is_y one.2)))))) one.1 one.2
         ]

@@ -158,7 +158,8 @@ module _ (loc : Home → Home) where
       )
 
   -- each home that is left to be written was written before it was renamed
-  kept_target : (cs : List Copy) (h : Home) → IsTarget h (targets (copy_operands (kept loc cs))) → (g : Home) × IsTarget g (targets (copy_operands cs)) × (h ≡ loc g)
+  kept_target : (cs : List Copy) (h : Home) → IsTarget h (targets (copy_operands (kept loc cs)))
+      → (g : Home) × IsTarget g (targets (copy_operands cs)) × (h ≡ loc g)
   unfolding copy_operands kept targets IsTarget
   kept_target [] h is = absurd is
   kept_target (c ∷ cs) h is = by (is_joined loc c.from c.to) is (kept_target cs h)
@@ -170,7 +171,8 @@ module _ (loc : Home → Home) where
       by false (inl e) rest = (c.to, inl refl, e)
       by false (inr is) rest = let r = rest is in (r.0, inr r.1, r.2)
 
-  kept_differ : (cs : List Copy) → ToDiffer cs → ((x y : Home) → IsTarget x (targets (copy_operands cs)) → IsTarget y (targets (copy_operands cs)) → x ≢ y → loc x ≢ loc y)
+  kept_differ : (cs : List Copy) → ToDiffer cs
+      → ((x y : Home) → IsTarget x (targets (copy_operands cs)) → IsTarget y (targets (copy_operands cs)) → x ≢ y → loc x ≢ loc y)
       → ToDiffer (kept loc cs)
   unfolding copy_operands kept targets IsTarget ToDiffer
   kept_differ [] differ apart = tt
@@ -226,7 +228,8 @@ module _ (p : AirProc) (a : Assignment) (good : IsWellFormed p) (proper : IsProp
       names = all_names p a proper i.operands good_inst.names;
     }
 
-    copy_has : (form : CopyForm i.operands) → is_copy i.op ≡ true → (ks : List Copy) → ks ≡ kept (home_by a) form.copies → (c : Copy) (rest : List Copy) → ks ≡ c ∷ rest
+    copy_has : (form : CopyForm i.operands) → is_copy i.op ≡ true → (ks : List Copy) → ks ≡ kept (home_by a) form.copies
+        → (c : Copy) (rest : List Copy) → ks ≡ c ∷ rest
         → HasOperands p.returns i.op (copy_operands ks)
     copy_has form e ks is c rest f =
         elim (copying_op i.op e) [
@@ -239,7 +242,8 @@ module _ (p : AirProc) (a : Assignment) (good : IsWellFormed p) (proper : IsProp
               let pairs = pairs_of p.returns i.op i.operands e good_inst.operands in
               let written : (x : Home) → IsTarget x (targets (copy_operands form.copies)) → IsTarget x (targets i.operands) =
               λ x t. subst (λ (os : List Operand). IsTarget x (targets os)) (sym form.are) t in
-              let apart : (x y : Home) → IsTarget x (targets (copy_operands form.copies)) → IsTarget y (targets (copy_operands form.copies)) → x ≢ y → home_by a x ≢ home_by a y =
+              let apart : (x y : Home) → IsTarget x (targets (copy_operands form.copies)) → IsTarget y (targets (copy_operands form.copies))
+              → x ≢ y → home_by a x ≢ home_by a y =
               λ x y u v ne. written_apart p a good proper named block place i at x y (written x u) (written y v) ne in
               let left : HasOperands p.returns op.Shuffle (copy_operands (kept (home_by a) form.copies)) = (
                 kept_pairs (home_by a) form.copies (subst ArePairs form.are pairs.0),
@@ -252,9 +256,11 @@ module _ (p : AirProc) (a : Assignment) (good : IsWellFormed p) (proper : IsProp
     copy_names : (form : CopyForm i.operands) → All (λ (o : Operand). NamesOwn (rewritten p a) o.role o.arg) (copy_operands (kept (home_by a) form.copies))
     copy_names form =
         kept_all (home_by a) (λ (o : Operand). NamesOwn (rewritten p a) o.role o.arg) form.copies
-        (subst (λ (os : List Operand). All (λ (o : Operand). NamesOwn (rewritten p a) o.role o.arg) (map (rename (home_by a)) os)) form.are (all_names p a proper i.operands good_inst.names))
+        (subst (λ (os : List Operand). All (λ (o : Operand). NamesOwn (rewritten p a) o.role o.arg) (map (rename (home_by a)) os))
+        form.are (all_names p a proper i.operands good_inst.names))
 
-    copies_good : (form : CopyForm i.operands) → is_copy i.op ≡ true → (ks : List Copy) → ks ≡ kept (home_by a) form.copies → All (IsGoodInst (rewritten p a)) (copy_inst i ks)
+    copies_good : (form : CopyForm i.operands) → is_copy i.op ≡ true → (ks : List Copy) → ks ≡ kept (home_by a) form.copies
+        → All (IsGoodInst (rewritten p a)) (copy_inst i ks)
     copies_good form e [] is = All-nil (IsGoodInst (rewritten p a))
     copies_good form e (c ∷ ks) is =
         All-cons (IsGoodInst (rewritten p a)) (record i { operands = copy_operands (c ∷ ks) }) [] (record {
@@ -288,7 +294,8 @@ module _ (p : AirProc) (a : Assignment) (good : IsWellFormed p) (proper : IsProp
     last_alone : rewritten_inst (home_by a) was_good.last ≡ rename_inst (home_by a) was_good.last ∷ []
     last_alone = rewritten-other (home_by a) was_good.last (ends_no_copy was_good.last.op (length of.targets) was_good.ends)
 
-    parts_after : flat_map (rewritten_inst (home_by a)) of.insts ≡ flat_map (rewritten_inst (home_by a)) was_good.body ++ rename_inst (home_by a) was_good.last ∷ []
+    parts_after : flat_map (rewritten_inst (home_by a)) of.insts
+        ≡ flat_map (rewritten_inst (home_by a)) was_good.body ++ rename_inst (home_by a) was_good.last ∷ []
     parts_after =
         ap (flat_map (rewritten_inst (home_by a))) was_good.parts
         ∙ flat_map-append (rewritten_inst (home_by a)) was_good.body (was_good.last ∷ [])
@@ -296,7 +303,8 @@ module _ (p : AirProc) (a : Assignment) (good : IsWellFormed p) (proper : IsProp
 
     insts_after : All (IsGoodInst (rewritten p a)) (flat_map (rewritten_inst (home_by a)) of.insts)
     insts_after =
-        all_flat (λ (i : AirInst). All (IsGoodInst (rewritten p a)) (rewritten_inst (home_by a) i)) (IsGoodInst (rewritten p a)) (rewritten_inst (home_by a)) of.insts (λ i all. all)
+        all_flat (λ (i : AirInst). All (IsGoodInst (rewritten p a)) (rewritten_inst (home_by a) i))
+        (IsGoodInst (rewritten p a)) (rewritten_inst (home_by a)) of.insts (λ i all. all)
         (λ k d lt. insts_good block k (get_or of.insts k d) (record { of = of; block_there = there; inst_there = slice_get-get_or of.insts k d lt }))
 
     abbrev IsInner : AirInst → Type 0
@@ -305,7 +313,8 @@ module _ (p : AirProc) (a : Assignment) (good : IsWellFormed p) (proper : IsProp
     inner_after : All IsInner (flat_map (rewritten_inst (home_by a)) was_good.body)
     inner_after =
         all_flat IsInner IsInner (rewritten_inst (home_by a)) was_good.body
-        (λ i none. All-weaker (IsLike i) IsInner (λ j like. ap target_count like.op ∙ none) (rewritten_inst (home_by a) i) (like_each (home_by a) i)) was_good.inner
+        (λ i none. All-weaker (IsLike i) IsInner (λ j like. ap target_count like.op ∙ none)
+        (rewritten_inst (home_by a) i) (like_each (home_by a) i)) was_good.inner
 
     block_good : IsGoodBlock (rewritten p a) (rewritten_block (home_by a) of)
     unfolding rewritten_block

@@ -39,7 +39,8 @@ module _ (loc : Home → Home) (os : List Operand) (k : ℕ) (d : Operand) (belo
       let one : suc (2 * k) ≡ 2 * k + 1 = omega arith in
       let two : suc (2 * k + 1) ≡ 2 * (k + 1) = omega arith in
       drop-cons os (2 * k) d (omega arith)
-      ∙ ap (λ xs. get_or os (2 * k) d ∷ xs) (ap (λ j. drop j os) one ∙ drop-cons os (2 * k + 1) d (omega arith) ∙ ap (λ j. get_or os (2 * k + 1) d ∷ drop j os) two)
+      ∙ ap (λ xs. get_or os (2 * k) d ∷ xs)
+      (ap (λ j. drop j os) one ∙ drop-cons os (2 * k + 1) d (omega arith) ∙ ap (λ j. get_or os (2 * k + 1) d ∷ drop j os) two)
 
   module _ (list : List Operand) (u v : Operand) (is_u : u ≡ rename loc (get_or os (2 * k) d)) (is_v : v ≡ rename loc (get_or os (2 * k + 1) d))
       (so_far : list ++ kept_operands loc (drop (2 * k) os) ≡ kept_operands loc os) where
@@ -66,7 +67,8 @@ short_kept loc [] h = refl
 short_kept loc (u ∷ []) h = refl
 short_kept loc (u ∷ v ∷ os) h = absurd (omega arith)
 
-pub kept_all : (loc : Home → Home) (os list : List Operand) (k : ℕ) → length os / 2 ≤ k → list ++ kept_operands loc (drop (2 * k) os) ≡ kept_operands loc os → list ≡ kept_operands loc os
+pub kept_all : (loc : Home → Home) (os list : List Operand) (k : ℕ) → length os / 2 ≤ k
+    → list ++ kept_operands loc (drop (2 * k) os) ≡ kept_operands loc os → list ≡ kept_operands loc os
 kept_all loc os list k h so_far =
     let short : length (drop (2 * k) os) < 2 = omega (arith, length-drop (2 * k) os) in
     let none = short_kept loc (drop (2 * k) os) short in

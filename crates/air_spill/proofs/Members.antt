@@ -4,7 +4,8 @@ use Rattle.std.specs.Prelude.{slice_get}
 use Rattle.std.proofs.lemmas.List.Elements.{All-append, All-cons, All-head, All-nil, All-tail}
 
 -- what holds of all that each element becomes
-pub all_flat : {A B : Type 0} (P : A → Type 0) (Q : B → Type 0) (f : A → List B) (xs : List A) → ((x : A) → P x → All Q (f x)) → All P xs → All Q (flat_map f xs)
+pub all_flat : {A B : Type 0} (P : A → Type 0) (Q : B → Type 0) (f : A → List B) (xs : List A) → ((x : A) → P x → All Q (f x)) → All P xs
+    → All Q (flat_map f xs)
 all_flat P Q f [] h all = All-nil Q
 all_flat P Q f (x ∷ xs) h all =
     All-append Q (f x) (flat_map f xs) (h x (All-head P x xs all)) (all_flat P Q f xs h (All-tail P x xs all))
@@ -26,7 +27,8 @@ pub record Origin {A B : Type 0} (f : A → List B) (xs : List A) (k : ℕ) (y :
 module _ {A B : Type 0} (f : A → List B) where
   later : (x : A) (xs : List A) (k j : ℕ) (y : B) → Origin f xs j y → k ≡ length (f x) + j → Origin f (x ∷ xs) k y
   later x xs k j y o e =
-      let long : length (f x ++ flat_map f (take o.at xs)) ≡ length (f x) + length (flat_map f (take o.at xs)) = length-append (f x) (flat_map f (take o.at xs)) in
+      let long : length (f x ++ flat_map f (take o.at xs)) ≡ length (f x) + length (flat_map f (take o.at xs)) =
+      length-append (f x) (flat_map f (take o.at xs)) in
       record {
         at = suc o.at;
         from = o.from;

@@ -61,7 +61,8 @@ module _ (loc : Home → Home) where
       by false (inr (inl is)) rest = was_behind h o (u ∷ os) (was_first h u os is)
       by false (inr (inr is)) rest = was_behind h o (u ∷ os) (was_behind h u os (rest is))
 
-  was_with : (h : Home) (i j : AirInst) (os : List Operand) → with_operands i os ≡ j ∷ [] → (IsNamedIn h os → Was h i.operands) → IsNamedIn h j.operands → Was h i.operands
+  was_with : (h : Home) (i j : AirInst) (os : List Operand) → with_operands i os ≡ j ∷ [] → (IsNamedIn h os → Was h i.operands)
+      → IsNamedIn h j.operands → Was h i.operands
   was_with h i j [] e rest is = absurd (cc)
   was_with h i j (o ∷ os) e rest is =
       let same : record i { operands = o ∷ os } ≡ j = cc in rest (subst (λ (k : AirInst). IsNamedIn h k.operands) (sym same) is)

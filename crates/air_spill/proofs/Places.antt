@@ -15,7 +15,8 @@ abbrev pub InOneRegister : Assignment → Home → Home → Type 0
 InOneRegister a h g = (reg : Register) × (register_of a h ≡ Some reg) × (register_of a g ≡ Some reg)
 
 module _ (a : Assignment) where
-  standing_register : (k : ℕ) (x : Option (Option Register)) (reg : Register) → slice_get a.homes k ≡ x → standing k x ≡ Reg reg → register_of a (Tmp k) ≡ Some reg
+  standing_register : (k : ℕ) (x : Option (Option Register)) (reg : Register) → slice_get a.homes k ≡ x → standing k x ≡ Reg reg
+      → register_of a (Tmp k) ≡ Some reg
   standing_register k (Some (Some r)) reg e f =
       let same : r ≡ reg = cc in get_or_from_slice_get a.homes k (Some r) None e ∙ ap (λ (r : Register). Some r) same
   standing_register k (Some None) reg e f = absurd (cc)

@@ -115,7 +115,8 @@ module _ (loc : Home → Home) (fixes : FixesOthers loc) where
   changed-renamed : (o : Operand) → IsChanged o → IsChanged (rename loc o)
   changed-renamed o is = subst IsChanged (sym (changed-stays o is)) is
 
-  one-renamed : (there : Bool) (Is : Operand → Type 0) (os : List Operand) → ((o : Operand) → Is o → Is (rename loc o)) → OneIs there Is os → OneIs there Is (map (rename loc) os)
+  one-renamed : (there : Bool) (Is : Operand → Type 0) (os : List Operand) → ((o : Operand) → Is o → Is (rename loc o)) → OneIs there Is os
+      → OneIs there Is (map (rename loc) os)
   one-renamed true Is (o ∷ []) h is = h o is
   one-renamed true Is [] h is = is
   one-renamed true Is (o ∷ p ∷ os) h is = is
@@ -174,7 +175,8 @@ module _ (loc : Home → Home) (fixes : FixesOthers loc) where
       ap (λ (h : Home). record { role = Clobber; width = W64; arg = At h } ∷ map (rename loc) (spills_changed (n + 1) widths)) (fixes.spills n)
       ∙ ap (λ (l : List Operand). record { role = Clobber; width = W64; arg = At (Spill n) } ∷ l) (spills-stay (n + 1) widths)
 
-  result-stays : (typed : Bool) (width : Width) → map (rename loc) (if typed then operand_in Def width 0 ∷ [] else []) ≡ (if typed then operand_in Def width 0 ∷ [] else [])
+  result-stays : (typed : Bool) (width : Width)
+      → map (rename loc) (if typed then operand_in Def width 0 ∷ [] else []) ≡ (if typed then operand_in Def width 0 ∷ [] else [])
   result-stays true width = ap (λ (o : Operand). o ∷ []) (in_register-stays Def width 0)
   result-stays false width = refl
 
@@ -184,11 +186,13 @@ module _ (loc : Home → Home) (fixes : FixesOthers loc) where
   abbrev result_of : Bool → Width → List Operand
   result_of typed width = if typed then operand_in Def width 0 ∷ [] else []
 
-  call-parts : (o : Operand) (us cs ss rs : List Operand) → map (rename loc) us ≡ us → map (rename loc) cs ≡ cs → map (rename loc) ss ≡ ss → map (rename loc) rs ≡ rs
+  call-parts : (o : Operand) (us cs ss rs : List Operand) → map (rename loc) us ≡ us → map (rename loc) cs ≡ cs → map (rename loc) ss ≡ ss
+      → map (rename loc) rs ≡ rs
       → map (rename loc) (o ∷ us ++ cs ++ ss ++ rs) ≡ rename loc o ∷ us ++ cs ++ ss ++ rs
   call-parts o us cs ss rs a c s r =
       append-stays (o ∷ us ++ cs ++ ss) (rename loc o ∷ us ++ cs ++ ss) rs
-      (append-stays (o ∷ us ++ cs) (rename loc o ∷ us ++ cs) ss (append-stays (o ∷ us) (rename loc o ∷ us) cs (ap (λ (l : List Operand). rename loc o ∷ l) a) c) s) r
+      (append-stays (o ∷ us ++ cs) (rename loc o ∷ us ++ cs) ss
+      (append-stays (o ∷ us) (rename loc o ∷ us) cs (ap (λ (l : List Operand). rename loc o ∷ l) a) c) s) r
 
   pub call-renamed : (typed : Bool) (os : List Operand) → OfCall typed os → OfCall typed (map (rename loc) os)
   call-renamed typed os call = record {
@@ -198,7 +202,8 @@ module _ (loc : Home → Home) (fixes : FixesOthers loc) where
     few = call.few;
     parts =
         ap (map (rename loc)) call.parts
-        ∙ call-parts call.callee (arguments_from 0 call.widths) (map (operand_in Clobber W64) call_clobbers) (spills_changed 0 (drop 8 call.widths)) (result_of typed call.width)
+        ∙ call-parts call.callee (arguments_from 0 call.widths) (map (operand_in Clobber W64) call_clobbers)
+        (spills_changed 0 (drop 8 call.widths)) (result_of typed call.width)
         (arguments-stay 0 call.widths) (registers-stay Clobber W64 call_clobbers) (spills-stay 0 (drop 8 call.widths)) (result-stays typed call.width);
     fits = fits-renamed loc (home W64) call.callee call.fits;
   }

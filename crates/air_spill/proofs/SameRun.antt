@@ -46,7 +46,8 @@ pub rewritten-other : (loc : Home → Home) (i : AirInst) → is_copy i.op ≡ f
 unfolding rewritten_inst
 rewritten-other loc i e = ap (λ (b : Bool). if b then with_operands i (kept_operands loc i.operands) else rename_inst loc i ∷ []) e
 
-pub rewritten-copies : (loc : Home → Home) (i : AirInst) (cs : List Copy) → is_copy i.op ≡ true → i.operands ≡ copy_operands cs → rewritten_inst loc i ≡ copy_inst i (kept loc cs)
+pub rewritten-copies : (loc : Home → Home) (i : AirInst) (cs : List Copy) → is_copy i.op ≡ true → i.operands ≡ copy_operands cs
+    → rewritten_inst loc i ≡ copy_inst i (kept loc cs)
 unfolding rewritten_inst
 rewritten-copies loc i cs e ops =
     ap (λ (b : Bool). if b then with_operands i (kept_operands loc i.operands) else rename_inst loc i ∷ []) e
@@ -59,7 +60,8 @@ module _ (p : AirProc) (a : Assignment) (good : IsWellFormed p) (proper : IsProp
     good_inst = all_at (IsGoodInst p) at.of.insts place i (all_at (IsGoodBlock p) p.blocks block at.of good.blocks at.block_there).insts at.inst_there
 
     inst_related : (s t : State) (junk : List ℕ) → IsRelated (home_by a) (IsKept p (spot block place)) s t
-        → Alike (IsRelated (home_by a) (IsKeptAfter p (spot block place))) (step (meaning start) i s junk) (steps (meaning start) (rewritten_inst (home_by a) i) t junk)
+        → Alike (IsRelated (home_by a) (IsKeptAfter p (spot block place)))
+        (step (meaning start) i s junk) (steps (meaning start) (rewritten_inst (home_by a) i) t junk)
     inst_related s t junk r = elim (cases_Bool (is_copy i.op)) [
       | inr other ↦
           rw (rewritten-other (home_by a) i other, steps-one (meaning start) (rename_inst (home_by a) i) t junk)
@@ -71,7 +73,8 @@ module _ (p : AirProc) (a : Assignment) (good : IsWellFormed p) (proper : IsProp
           let cs = form.copies in
           let same : with_copies i cs ≡ i = ap (λ (os : List Operand). record i { operands = os }) (sym form.are) in
           rw (rewritten-copies (home_by a) i cs copies form.are)
-          (subst (λ (j : AirInst). Alike (IsRelated (home_by a) (IsKeptAfter p (spot block place))) (step (meaning start) j s junk) (steps (meaning start) (copy_inst i (kept (home_by a) cs)) t junk)) same
+          (subst (λ (j : AirInst). Alike (IsRelated (home_by a) (IsKeptAfter p (spot block place)))
+          (step (meaning start) j s junk) (steps (meaning start) (copy_inst i (kept (home_by a) cs)) t junk)) same
           (copy-related (meaning start) (home_by a) (IsKept p (spot block place)) (IsKeptAfter p (spot block place)) i cs s t junk
           (copying start (operation i) (copy_kind i.op copies))
           (are_fine p a good proper named block place i at cs form.differ
@@ -104,7 +107,8 @@ module _ (p : AirProc) (a : Assignment) (good : IsWellFormed p) (proper : IsProp
         (keep_on p b k of there).next h (omega (arith, within)) (subst (λ (n : ℕ). IsKept p (spot b n) h) one kept)
 
     insts_related : (s t : State) (junk : List ℕ) → IsRelated (home_by a) (IsKept p (spot b 0)) s t
-        → StepsAlike Leaves of.insts (Within b) (steps (meaning start) of.insts s junk) (steps (meaning start) (flat_map (rewritten_inst (home_by a)) of.insts) t junk)
+        → StepsAlike Leaves of.insts (Within b) (steps (meaning start) of.insts s junk)
+        (steps (meaning start) (flat_map (rewritten_inst (home_by a)) of.insts) t junk)
     unfolding Here Within
     insts_related s t junk r =
         steps-related (meaning start) Leaves (leaves start) (rewritten_inst (home_by a)) (Within b) of.insts
@@ -116,11 +120,13 @@ module _ (p : AirProc) (a : Assignment) (good : IsWellFormed p) (proper : IsProp
     good_block : IsGoodBlock p of
     good_block = all_at (IsGoodBlock p) p.blocks b of good.blocks there
 
-    onward : (k : ℕ) (i : AirInst) (j c : ℕ) (s t : State) → slice_get of.insts k ≡ Some i → Leaves i (To j) → slice_get of.targets j ≡ Some c → Within b (suc k) s t → At_block c s t
+    onward : (k : ℕ) (i : AirInst) (j c : ℕ) (s t : State) → slice_get of.insts k ≡ Some i → Leaves i (To j)
+        → slice_get of.targets j ≡ Some c → Within b (suc k) s t → At_block c s t
     unfolding Here Within At_block
     onward k i j c s t is goes target r =
         let last : suc k ≡ length of.insts = leaves_last p of good_block k i j is goes in
-        let there_too : (0 < c) × (c < length p.blocks) = all_at (λ (target : ℕ). (0 < target) × (target < length p.blocks)) of.targets j c good_block.targets target in (
+        let there_too : (0 < c) × (c < length p.blocks) =
+        all_at (λ (target : ℕ). (0 < target) × (target < length p.blocks)) of.targets j c good_block.targets target in (
           there_too.1,
           less_kept (home_by a) (Here b (suc k)) (IsKept p (spot c 0)) s t
               (λ h kept. (keep_on p b k of there).target h j c (omega (arith, last)) target kept) r,
@@ -131,13 +137,11 @@ module _ (p : AirProc) (a : Assignment) (good : IsWellFormed p) (proper : IsProp
     worlds k s t r = r.world
 
     block_related : (s t : State) (junk : List ℕ) → IsRelated (home_by a) (IsKept p (spot b 0)) s t
-        → ConfigsAlike At_block (left of.targets (steps (meaning start) of.insts s junk)) (left of.targets (steps (meaning start) (flat_map (rewritten_inst (home_by a)) of.insts) t junk))
+        → ConfigsAlike At_block (left of.targets (steps (meaning start) of.insts s junk))
+        (left of.targets (steps (meaning start) (flat_map (rewritten_inst (home_by a)) of.insts) t junk))
     block_related s t junk r =
         left-alike At_block Leaves (Within b) of.targets of.insts onward worlds
         (steps (meaning start) of.insts s junk) (steps (meaning start) (flat_map (rewritten_inst (home_by a)) of.insts) t junk) (insts_related s t junk r)
-
-  empty_block : AirBlock
-  empty_block = record { insts = []; targets = [] }
 
   block-rewritten : (b : ℕ) → b < length p.blocks → block_of (rewritten p a) b ≡ rewritten_block (home_by a) (block_of p b)
   block-rewritten b lt = get_or-map (rewritten_block (home_by a)) p.blocks b (record { insts = []; targets = [] }) (record { insts = []; targets = [] }) lt

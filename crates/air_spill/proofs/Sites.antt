@@ -98,7 +98,6 @@ module _ (p : AirProc) (a : Assignment) where
       let same = once b c f.at.at g.at.at f.at.from g.at.from (stood b k i f) (stood c l j g) (made f.at.from i u makes_i) (made g.at.from j v makes_j)
       (sym u.value ∙ value ∙ v.value)
       in
-      let there : From b l j = subst (λ (n : ℕ). From n l j) (sym same.0) g in
       (same.0, in_place b c k l i j f g same.0 same.1)
     where
       in_place : (b c k l : ℕ) (i j : AirInst) (f : From b k i) (g : From c l j) → b ≡ c → f.at.at ≡ g.at.at → k ≡ l
@@ -148,7 +147,8 @@ module _ (p : AirProc) (a : Assignment) (proper : IsProper p a) where
   abbrev Own : Operand → Type 0
   Own o = NamesOwn p o.role o.arg
 
-  child : (b3 : Procedure) (v : Value) (k id : ℕ) (c : Constraint) (o u : Operand) → Own o → rename (home_by a) o ≡ u → IsChild IsTemporary b3 v k id c o → IsChild IsPlace b3 v k id c u
+  child : (b3 : Procedure) (v : Value) (k id : ℕ) (c : Constraint) (o u : Operand) → Own o → rename (home_by a) o ≡ u
+      → IsChild IsTemporary b3 v k id c o → IsChild IsPlace b3 v k id c u
   child b3 v k id c o u own e is =
       subst (IsChild IsPlace b3 v k id c) e
       (record { role = is.role; width = is.width; stands = stands_by b3 id o.role (register_for v k) o.arg own is.stands })
@@ -201,6 +201,7 @@ module _ (p : AirProc) (a : Assignment) (proper : IsProper p a) where
         f.at.from,
         was,
         comes f.at.from j
-            (all_at (IsGoodInst p) was.of.insts f.at.at f.at.from (all_at (IsGoodBlock p) p.blocks block was.of good.blocks was.block_there).insts was.inst_there)
+            (all_at (IsGoodInst p) was.of.insts f.at.at f.at.from
+            (all_at (IsGoodBlock p) p.blocks block was.of good.blocks was.block_there).insts was.inst_there)
             f.at.becomes,
       )

@@ -12,12 +12,16 @@ loop-k-preserved c =
       | then-not-is_one+in_ok-push+in_ok-push-2 w ↦
           let e : c.if-not-is_one.list ≡ (c.loop-k.list ++ c.renamed-from.result ∷ []) ++ c.renamed-to.result ∷ [] =
           w.list-is ∙ w.in_ok-push-2.ensures.ok ∙ ap (λ (xs : List Operand). xs ++ c.renamed-to.result ∷ []) w.in_ok-push.ensures.ok in
-          subst (λ (xs : List Operand). xs ++ kept_operands loc (drop (2 * (c.loop-k.k + 1)) c.args.operands.now) ≡ kept_operands loc c.args.operands.now) (sym e)
-          (kept_pushed loc c.args.operands.now c.loop-k.k _ c.loop-k-test.true c.loop-k.list c.renamed-from.result c.renamed-to.result c.renamed-from.ensures c.renamed-to.ensures c.loop-k.invariant
+          subst (λ (xs : List Operand). xs ++ kept_operands loc (drop (2 * (c.loop-k.k + 1)) c.args.operands.now) ≡ kept_operands loc c.args.operands.now)
+          (sym e)
+          (kept_pushed loc c.args.operands.now c.loop-k.k _ c.loop-k-test.true c.loop-k.list
+          c.renamed-from.result c.renamed-to.result c.renamed-from.ensures c.renamed-to.ensures c.loop-k.invariant
           (sym c.is_one.ensures ∙ w.if-not-is_one.true))
       | else-not-is_one w ↦
-          subst (λ (xs : List Operand). xs ++ kept_operands loc (drop (2 * (c.loop-k.k + 1)) c.args.operands.now) ≡ kept_operands loc c.args.operands.now) (sym w.list-is)
-          (kept_joined loc c.args.operands.now c.loop-k.k _ c.loop-k-test.true c.loop-k.list c.renamed-from.result c.renamed-to.result c.renamed-from.ensures c.renamed-to.ensures c.loop-k.invariant
+          subst (λ (xs : List Operand). xs ++ kept_operands loc (drop (2 * (c.loop-k.k + 1)) c.args.operands.now) ≡ kept_operands loc c.args.operands.now)
+          (sym w.list-is)
+          (kept_joined loc c.args.operands.now c.loop-k.k _ c.loop-k-test.true c.loop-k.list
+          c.renamed-from.result c.renamed-to.result c.renamed-from.ensures c.renamed-to.ensures c.loop-k.invariant
           (sym c.is_one.ensures ∙ w.if-not-is_one.false))
     ]
 
