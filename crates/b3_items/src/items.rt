@@ -224,10 +224,10 @@ fn piece_child(piece: &[u8]) -> Option<Child>
 }
 
 #[tactic(auto, unfolding(crate::specs::Items::wraps))]
-fn wraps(note: &[u8], open: &[u8], close: &[u8]) -> bool
-    ensures { result ≡ spec.wraps note.now open.now close.now }
+fn wraps(note: &[u8], front: &[u8], back: &[u8]) -> bool
+    ensures { result ≡ spec.wraps note.now front.now back.now }
 {
-    is_note(note) && is_mark_of(open, b'(') && is_mark_of(close, b')')
+    is_note(note) && is_mark_of(front, b'(') && is_mark_of(back, b')')
 }
 
 /// A child.
