@@ -102,6 +102,12 @@ module _ {W E : Type 0} (m : Meaning W E) (items : List Item) (long : Set) where
   unfolding run_cost
   run_cost-suc n a = refl
 
+  pub run_cost-one : (a : Config W E) → run_cost m items long 1 a ≡ cost m items long a
+  run_cost-one a =
+      let sum = run_cost-suc 0 a in
+      let none = run_cost-zero (item_step m items a) in
+      omega arith
+
   branch_most : (flag holds : Bool) → branch_cost m items flag holds ≤ one_or_two flag
   branch_most true true = omega arith
   branch_most true false = omega arith
@@ -136,6 +142,18 @@ module _ {W E : Type 0} (m : Meaning W E) (items : List Item) (long : Set) where
   some_or_none : (o : Option Item) → ((item : Item) × (o ≡ Some item)) ⊎ (o ≡ None)
   some_or_none None = inr refl
   some_or_none (Some item) = inl (item, refl)
+
+  -- the words that an item is run by, behind the first, stand before the last item's end
+  pub cost_within : (k i : ℕ) (s : W) → 0 < i → i < cost m items long (At k s) → place items long k + i < place items long (length items)
+  cost_within k i s some lt =
+      ⊎_elim
+      (λ found.
+      let most = cost_most k s found.0 found.1 in
+      let within = slice_get_within items k found.0 found.1 in
+      let up = place_mono items long (k + 1) (length items) (omega arith) in
+      omega arith)
+      (λ none. let one = cost_is k s None none in absurd (omega arith))
+      (some_or_none (slice_get items k))
 
   goes_on_most : (k : ℕ) (s : W) (a : Config W E) → GoesOn (At k s) a → place items long (k + 1) ≤ place_at items long a
   goes_on_most k s (At l t) on = place_mono items long (k + 1) l (omega arith)

@@ -1,11 +1,12 @@
 -- The machine runs the words as the run of the items asks.
-use Rattle.std.proofs.Common.{◌≡◌, ℕ, ℤ, ◌+◌, ◌-◌, ◌*◌, ◌/◌, ◌%◌, ◌^◌, ◌<◌, ◌≤◌, Bool, true, false, not, ◌&&◌, Some, List, length, refl, sym, ap, ◌∙◌, subst, arith, nat_eq, nat_le, if◌then◌else◌, Option, None}
+use Rattle.std.proofs.Common.{◌≡◌, ℕ, ℤ, ◌+◌, ◌-◌, ◌*◌, ◌/◌, ◌%◌, ◌^◌, ◌<◌, ◌≤◌, Bool, true, false, not, ◌&&◌, Some, List, length, refl, sym, ap, ◌∙◌, subst, arith, nat_eq, nat_le, if◌then◌else◌, Option, None, ⊎_elim}
 use Rattle.std.specs.Prelude.{slice_get}
-use Rattle.std.proofs.lemmas.Bool.{le-leb}
+use Rattle.std.proofs.lemmas.Bool.{cases_lt, le-leb}
 use Rattle.std.proofs.lemmas.Bool.Decides.{nat_tests}
 use Rattle.std.proofs.lemmas.Int.{ints}
 use Rattle.std.proofs.lemmas.Option.{slice_get_within}
 use Rattle.b3_base.specs.Run.{iterate}
+use Rattle.b3_base.proofs.Run.{iterate-zero}
 use Rattle.a64_inst.specs.Registers.{Stepped}
 use Rattle.a64_inst.specs.Step.{step_of}
 use Rattle.a64_inst.specs.StepBranch.{branch, branch_bit, branch_if, branch_target, branch_zero, is_taken}
@@ -22,15 +23,15 @@ use Rattle.a64_word.specs.Word.{word}
 use Rattle.a64_word.proofs.Inverse.{decode-word}
 use Rattle.a64_layout.specs.Branch.{IsTest, branch_by, opposite, opposite_cond, reach}
 use Rattle.a64_layout.specs.Layout.{Fits, IsEnough, Set, place}
-use Rattle.a64_layout.specs.Machine.{Machine, decoded, goes_on_at, instruction_does, is_next, goes_first, items_at, machine_of, machine_step, mark_at, moved_to, Outside, outside_at, PassesInstructions, place_of, RunsAsItems, test_holds, does_at, does_first}
-use Rattle.a64_layout.specs.Run.{At, Ends, Executes, Goes, HasDone, IsAlike, IsWellMarked, Outcome, mark_before, StandsAt, run_cost}
+use Rattle.a64_layout.specs.Machine.{Machine, decoded, goes_on_at, instruction_does, is_next, goes_first, items_at, items_run, machine_of, machine_step, mark_at, moved_to, Outside, outside_at, PassesInstructions, place_of, RunsAsItems, test_holds, does_at, does_first, words_run}
+use Rattle.a64_layout.specs.Run.{At, Ends, Executes, Goes, HasDone, IsAlike, IsWellMarked, Outcome, mark_before, StandsAt}
 use Rattle.a64_layout.specs.Text.{IsWellLabelled, TellsMarks, mark_count, distance, words_before}
 use Rattle.a64_layout.specs.declared.branch.Test.{Test}
 use Rattle.a64_layout.specs.declared.branch.Test.TheVariants.{Holds, Zero, Bit}
-use Rattle.a64_layout.proofs.Least.{and_right, place-zero}
+use Rattle.a64_layout.proofs.Least.{and_right}
 use Rattle.a64_layout.proofs.Labels.{place_short}
 use Rattle.a64_layout.proofs.Listed.{before_is, mark_found}
-use Rattle.a64_layout.proofs.Simulation.{run_forward, run_least, run_most, text_runs}
+use Rattle.a64_layout.proofs.Simulation.{any_step, cost_within, run_cost-one, run_forward, run_free, run_least, run_most, text_runs}
 use Rattle.a64_layout.proofs.Words.{words_length}
 
 -- ---- tests
@@ -227,23 +228,53 @@ module _ (items : List Item) (good : IsWellLabelled items) (marked : IsWellMarke
     over = λ inst s c is. tt;
   }
 
+  -- the machine stands with pc at an item's place
+  at_item : (j : ℕ) (c : Machine)
+      → IsAlike {E = Inst} words (StandsWith first) IsAnywhere items long (At j c) (moved_to (first + 4 * place items long j) c)
+  at_item j c some = let e : first + 4 * place items long j ≡ first + 4 * (place items long j + 0) = omega arith in ap (λ a. moved_to a c) e
+
+  items_same : (j n k : ℕ) (c after : Machine) → place items long k < length words → items_run first outside items long n (At j c) ≡ At k after
+      → iterate (machine_step first words marks outside) (words_run first outside items long n (At j c)) (moved_to (first + 4 * place items long j) c)
+      ≡ moved_to (first + 4 * place items long k) after
+  items_same j n k c after below is =
+      let alike = text_runs (items_at first outside items long) items good marked long enough words words_are (StandsWith first) IsAnywhere
+      (machine_step first words marks outside) executes n (At j c) (moved_to (first + 4 * place items long j) c) (at_item j c) in
+      let there = subst (λ z. IsAlike words (StandsWith first) IsAnywhere items long z
+      (iterate (machine_step first words marks outside) (words_run first outside items long n (At j c)) (moved_to (first + 4 * place items long j) c)))
+      is alike in
+      let at : first + 4 * (place items long k + 0) ≡ first + 4 * place items long k = omega arith in
+      there (omega arith) ∙ ap (λ a. moved_to a after) at
+
+  item_inside : (j i : ℕ) (c : Machine) → i < words_run first outside items long 1 (At j c)
+      → iterate (machine_step first words marks outside) i (moved_to (first + 4 * place items long j) c) ≡ moved_to (first + 4 * (place items long j + i)) c
+  item_inside j i c lt =
+      let here = moved_to (first + 4 * place items long j) c in
+      let cost_one = run_cost-one (items_at first outside items long) items long (At j c) in
+      ⊎_elim
+      (λ later.
+      let count = ap length words_are ∙ words_length items long (length items) in
+      let within = cost_within (items_at first outside items long) items long j i c later (omega arith) in
+      let one = any_step (items_at first outside items long) items good marked long enough words words_are (StandsWith first) IsAnywhere
+      (machine_step first words marks outside) executes (At j c) here (at_item j c) in
+      one.0 i (omega arith) (omega arith))
+      (λ none.
+      let e : i ≡ 0 = omega arith in
+      let at : first + 4 * place items long j ≡ first + 4 * (place items long j + i) = omega arith in
+      ap (λ n. iterate (machine_step first words marks outside) n here) e ∙ iterate-zero (machine_step first words marks outside) here
+      ∙ ap (λ a. moved_to a c) at)
+      (cases_lt 0 i)
+
 -- words of the items run as they do
 pub runs_as_items : (items : List Item) → IsWellLabelled items → IsWellMarked items → (long : Set) → IsEnough items long → (words : List ℕ)
     → words ≡ words_before items long (length items)
     → (marks : List ℕ) → length marks ≡ mark_count items → TellsMarks items long marks → RunsAsItems items long words marks
 runs_as_items items good marked long enough words words_are marks marks_are tells = record {
-  same = λ first n k outside c after fitting ends below is.
-      let start : first ≡ first + 4 * (place items long 0 + 0) = let e = place-zero items long in omega arith in
-      let alike = text_runs (items_at first outside items long) items good marked long enough words words_are (StandsWith first) IsAnywhere
-      (machine_step first words marks outside)
-      (executes items good marked long enough words words_are marks marks_are tells outside fitting first ends) n (At 0 c) (moved_to first c)
-      (λ some. ap (λ a. moved_to a c) start) in
-      let there = subst (λ z. IsAlike words (StandsWith first) IsAnywhere items long z
-      (iterate (machine_step first words marks outside) (run_cost (items_at first outside items long) items long n (At 0 c)) (moved_to first c)))
-      is alike in
-      let at : first + 4 * (place items long k + 0) ≡ first + 4 * place items long k = omega arith in
-      there (omega arith) ∙ ap (λ a. moved_to a after) at;
+  same = λ first j n k outside c after fitting ends below is.
+      items_same items good marked long enough words words_are marks marks_are tells outside fitting first ends j n k c after below is;
+  inside = λ first j i outside c fitting ends lt.
+      item_inside items good marked long enough words words_are marks marks_are tells outside fitting first ends j i c lt;
   most = λ first n outside a. run_most (items_at first outside items long) items long n a;
   least = λ first n b outside a few. run_least (items_at first outside items long) items long b few n a;
+  free = λ first n k outside c none. run_free (items_at first outside items long) items long n k c none;
   forward = λ first n outside a go. run_forward (items_at first outside items long) items long n a go;
 }

@@ -126,21 +126,31 @@ items_run first outside items long n a = iterate (item_step (items_at first outs
 
 -- words run as their items do, wherever they begin and whatever the outside does at their marks
 pub record RunsAsItems (items : List Item) (long : Set) (words marks : List ℕ) : Type 0 where
-  -- where n items lead from the first one to item k, the words that they cost lead from the first word to that
-  -- item's place, with the same registers and memory
+  -- where n items lead from item j to item k, the words that they cost lead from the place of the one to that of the
+  -- other, with the same registers and memory: so a run may be cut at any item, with another outside from there on
   pub same :
-      (first n k : ℕ) (outside : Outside) (c after : Machine) → PassesInstructions items outside
+      (first j n k : ℕ) (outside : Outside) (c after : Machine) → PassesInstructions items outside
       → first + 4 * length words ≤ 2 ^ 64 → place items long k < length words
-      → items_run first outside items long n (At 0 c) ≡ At k after
-      → iterate (machine_step first words marks outside) (words_run first outside items long n (At 0 c))
-      (moved_to first c)
+      → items_run first outside items long n (At j c) ≡ At k after
+      → iterate (machine_step first words marks outside) (words_run first outside items long n (At j c))
+      (moved_to (first + 4 * place items long j) c)
       ≡ moved_to (first + 4 * place items long k) after
+  -- while an item is run the machine stands at each of its words in turn, with registers and memory as before it
+  pub inside :
+      (first j i : ℕ) (outside : Outside) (c : Machine) → PassesInstructions items outside
+      → first + 4 * length words ≤ 2 ^ 64 → i < words_run first outside items long 1 (At j c)
+      → iterate (machine_step first words marks outside) i (moved_to (first + 4 * place items long j) c)
+      ≡ moved_to (first + 4 * (place items long j + i)) c
   -- an item costs two words at most, and where fewer than b labels and marks stand in a row b items cost one
   pub most :
       (first n : ℕ) (outside : Outside) (a : Config Machine Inst) → words_run first outside items long n a ≤ n * 2
   pub least :
       (first n b : ℕ) (outside : Outside) (a : Config Machine Inst) → ((k : ℕ) → free_before items k < b)
       → n / b ≤ words_run first outside items long n a
+  -- items that cost no word are passed one by one, with registers and memory as they were
+  pub free :
+      (first n k : ℕ) (outside : Outside) (c : Machine) → words_run first outside items long n (At k c) ≡ 0
+      → items_run first outside items long n (At k c) ≡ At (k + n) c
   -- items that each go farther on cost no more words than they pass
   pub forward :
       (first n : ℕ) (outside : Outside) (a : Config Machine Inst)
