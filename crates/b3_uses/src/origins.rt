@@ -80,7 +80,8 @@ impl Origins {
     {
         let last = self.sources.len() - 1;
         let sources = self.sources.list(last - block);
-        if block == 0 || sources.len() != 1 {
+        let count = sources.len();
+        if block == 0 || count != 1 {
             return None;
         }
         last.checked_sub(sources[0])

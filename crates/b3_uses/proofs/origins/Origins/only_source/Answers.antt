@@ -15,5 +15,5 @@ returns-clause-only c =
     let list = c.list-sources.result.now in
     IfSome_then c.checked_sub.result (value_is c.checked_sub.result _ (c.len-last.result - 1 - slice_index_or list 0 0) c.checked_sub.ensures)
     (λ source is p are. only_source_is p c.args.self.now c.args.block source list are c.requires c.if-block-eq0.false
-    (c.list-sources.ensures ∙ ap (λ (n : ℕ). list_at lists (n - 1 - c.args.block)) c.len-last.ensures) c.if-sources-ne1.false
+    (c.list-sources.ensures ∙ ap (λ (n : ℕ). list_at lists (n - 1 - c.args.block)) c.len-last.ensures) c.if-count-ne1.false
     (is ∙ ap (λ (n : ℕ). n - 1 - slice_index_or list 0 0) c.len-last.ensures))
