@@ -1,5 +1,5 @@
 -- Covered uses and the least line of one that isn't, by the open uses that are missed.
-use Rattle.std.proofs.Common.{◌≡◌, ℕ, zero, suc, ◌<◌, ◌≤◌, ◌⊎◌, inl, inr, Bool, true, false, List, [], ◌∷◌, ◌++◌, Option, Some, None, length, take, slice_get, refl, sym, ap, ◌∙◌, subst, arith, ⊎_elim}
+use Rattle.std.proofs.Common.{◌≡◌, ℕ, zero, suc, ◌<◌, ◌≤◌, ◌⊎◌, inl, inr, true, List, [], ◌∷◌, ◌++◌, Option, Some, None, length, take, slice_get, refl, sym, ap, ◌∙◌, subst, arith, ⊎_elim}
 use Rattle.std.proofs.lemmas.Bool.{cases_lt, ne_eqb}
 use Rattle.std.proofs.lemmas.List.Elements.{All-contains, Contains-get_or, Contains-push, Contains-push_cases, Contains-append_left}
 use Rattle.std.specs.Prelude.{Contains, IfSome, ◌==◌, min, slice_index_or}
@@ -14,6 +14,7 @@ use Rattle.b3_uses.specs.Open.{IsAsked, IsUse, ListsBelow, names_in}
 use Rattle.b3_uses.specs.Reversed.{IsReversed, turned}
 use Rattle.b3_uses.specs.declared.gather.OpenUse.{OpenUse}
 use Rattle.b3_uses.specs.declared.gather.OpenUses.{OpenUses}
+use Rattle.b3_uses.proofs.Answering.{true_false}
 use Rattle.b3_uses.proofs.Contained.{contains_middle, contains_none}
 use Rattle.b3_uses.proofs.Covering.{block_in, covered_iff, defined_or_not, passed_covered}
 
@@ -80,9 +81,6 @@ block_of : (p : Procedure) (b j : ℕ) (v : Value) → StandsAt p b j v → b < 
 block_of p b j v there =
     let c = cut (values_of p b) j v there in
     block_in p.blocks b v (subst (λ vs. Contains vs v) (sym c.1) (contains_middle (take j (values_of p b)) c.0 v))
-
-true_false : {X : Type 0} (t : Bool) → t ≡ true → t ≡ false → X
-true_false t e f = cc
 
 none_in : (uses : List OpenUse) (u : OpenUse) → true ≡ (length uses == 0) → Contains uses u → ⊥
 none_in uses u empty has =

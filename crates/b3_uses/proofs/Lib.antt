@@ -1,3 +1,4 @@
+pub mod Answering
 pub mod Contained
 pub mod Covering
 pub mod Adding

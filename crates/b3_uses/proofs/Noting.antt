@@ -1,6 +1,6 @@
 -- Open uses that are noted step by step.
 use Rattle.std.proofs.Common.{◌≡◌, ◌≢◌, ℕ, ◌+◌, ◌<◌, ◌⊎◌, inl, inr, Bool, true, false, List, [], ◌∷◌, ◌++◌, Some, length, refl, sym, ap, ◌∙◌, subst, arith, ⊎_elim, take}
-use Rattle.std.proofs.lemmas.Bool.{cases_eq, eq-eqb, ne_eqb}
+use Rattle.std.proofs.lemmas.Bool.{cases_eq, eq-eqb}
 use Rattle.std.proofs.lemmas.List.Elements.{Contains-push, Contains-push_cases, Contains-append_left}
 use Rattle.std.proofs.lemmas.List.{take_more}
 use Rattle.std.specs.Prelude.{Contains, ◌==◌, ◌||◌, slice_index_or}
@@ -11,6 +11,7 @@ use Rattle.b3_uses.specs.Origins.{IsPassed}
 use Rattle.b3_uses.specs.Reversed.{HasDefinition}
 use Rattle.b3_uses.specs.declared.gather.OpenUse.{OpenUse}
 use Rattle.b3_uses.specs.declared.gather.OpenUses.{OpenUses}
+use Rattle.b3_uses.proofs.Answering.{eq_is, true_false}
 use Rattle.b3_uses.proofs.Contained.{contains_none, contains_head, contains_tail, contains_cases, push_split}
 
 pub notes_nothing : (p : Procedure) (found : OpenUses) (asked : ℕ → ℕ → ℕ → Type 0) → ((b l i : ℕ) → asked b l i → IsPassed p b i)
@@ -68,9 +69,6 @@ child_noted p old mid new block line earlier ids id first unseen second =
     (λ b l i h. (h.0, h.1, Contains-append_left ids (id ∷ []) i h.2, h.3))
     (λ b l i h. (h.0, h.1, subst (λ j. Contains (ids ++ id ∷ []) j) (sym h.2) (Contains-push ids id), subst (λ j. earlier j ≡ false) (sym h.2) unseen))
 
-true_false : {X : Type 0} (t : Bool) → t ≡ true → t ≡ false → X
-true_false t e f = cc
-
 -- a child that is defined earlier, or above
 pub child_seen : (p : Procedure) (old mid : OpenUses) (block line : ℕ) (earlier : ℕ → Bool) (ids : List ℕ) (id : ℕ)
     → Adds p old mid (IsAskedHere block line earlier ids)
@@ -105,9 +103,6 @@ or_left false b e = cc
 or_right : (a b : Bool) → b ≡ true → (a || b) ≡ true
 or_right true b e = refl
 or_right false b e = e
-
-eq_is : (a b : ℕ) → (a == b) ≡ true → a ≡ b
-eq_is a b e = ⊎_elim (λ (same : a ≡ b). same) (λ (other : a ≢ b). true_false (a == b) e (ne_eqb a b other)) (cases_eq a b)
 
 is_eq : (a b : ℕ) → a ≡ b → (a == b) ≡ true
 is_eq a b e = eq-eqb a b e

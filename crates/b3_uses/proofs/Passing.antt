@@ -45,7 +45,8 @@ only_one (y ∷ xs) x one has =
     ]
 
 -- the only predecessor of a block, where its sources are just one
-pub only_source_is : (p : Procedure) (origins : Origins) (block source : ℕ) (sources : List ℕ) → AreOrigins p origins → block < length origins.sources → block ≢ 0
+pub only_source_is : (p : Procedure) (origins : Origins) (block source : ℕ) (sources : List ℕ) → AreOrigins p origins
+    → block < length origins.sources → block ≢ 0
     → sources ≡ list_at origins.sources (length origins.sources - 1 - block) → length sources ≡ 1
     → source ≡ length origins.sources - 1 - slice_index_or sources 0 0
     → IsOnlySource p block source
