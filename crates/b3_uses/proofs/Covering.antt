@@ -9,6 +9,7 @@ use Rattle.flow_live.proofs.Paths.{live_exposed, live_through}
 use Rattle.b3_ir.specs.Procedure.{Block, Procedure, no_block, values_of}
 use Rattle.b3_ir.specs.declared.value.Value.{Value}
 use Rattle.b3_rules.specs.Paths.{IsSuccessor, IsPath, HasRun, IsCovered}
+use Rattle.b3_uses.specs.Origins.{IsPassed, PassedDefinition}
 use Rattle.b3_uses.specs.Reversed.{HasDefinition, IsReversed, turned}
 use Rattle.b3_uses.proofs.Contained.{contains_none, contains_head, contains_tail, contains_cases}
 
@@ -24,9 +25,6 @@ defined_or_not (u ∷ vs) id =
             (contains_cases u vs d.0 d.1))
       ]
     ]
-
-abbrev pub PassedDefinition : Procedure → List ℕ → ℕ → Type 0
-PassedDefinition p passed id = (c : ℕ) × Contains passed c × HasDefinition (values_of p c) id
 
 passed_or_not : (p : Procedure) (passed : List ℕ) (id : ℕ) → PassedDefinition p passed id ⊎ (PassedDefinition p passed id → ⊥)
 passed_or_not p [] id = inr (λ d. contains_none d.0 d.1)
@@ -45,6 +43,15 @@ pub block_in : (blocks : List Block) (b : ℕ) (v : Value) → Contains (slice_i
 block_in [] b v has = absurd (contains_none v has)
 block_in (block ∷ blocks) zero v has = omega arith
 block_in (block ∷ blocks) (suc b) v has = let lt : b < length blocks = block_in blocks b v has in omega arith
+
+ran : (p : Procedure) (id : ℕ) (passed : List ℕ) (before : List Value) → HasDefinition before id ⊎ PassedDefinition p passed id
+    → (v : Value) × (v.id ≡ id) × HasRun p passed before v
+ran p id passed before (inl d) = (d.0, d.2, inl d.1)
+ran p id passed before (inr d) = ((d.2).0, (d.2).2, inr (d.0, d.1, (d.2).1))
+
+-- an id is covered where each path to the block passes a block that defines it
+pub passed_covered : (p : Procedure) (block : ℕ) (before : List Value) (id : ℕ) → IsPassed p block id → IsCovered p block before id
+passed_covered p block before id is passed path = ran p id passed before (inr (is passed path))
 
 abbrev at_place : ℕ → ℕ → Place
 at_place block place = record { block = block; place = place }
@@ -171,10 +178,6 @@ module _ (p : Procedure) (names : ℕ → Option ℕ) (g : Graph) (reversed : Is
 
   -- a path misses the id at a place exactly where it isn't defined earlier in the block and the block is
   -- block 0 or the name is live out of it
-  ran : (passed : List ℕ) (before : List Value) → HasDefinition before id ⊎ PassedDefinition p passed id → (v : Value) × (v.id ≡ id) × HasRun p passed before v
-  ran passed before (inl d) = (d.0, d.2, inl d.1)
-  ran passed before (inr d) = ((d.2).0, (d.2).2, inr (d.0, d.1, (d.2).1))
-
   not_ran : (passed : List ℕ) (before : List Value) → (HasDefinition before id → ⊥) → (PassedDefinition p passed id → ⊥) → (v : Value) → v.id ≡ id
       → HasRun p passed before v → ⊥
   not_ran passed before here never v e (inl h) = here (v, h, e)
@@ -203,10 +206,10 @@ module _ (p : Procedure) (names : ℕ → Option ℕ) (g : Graph) (reversed : Is
 
   covered_if : (block : ℕ) (before : List Value) → block < g.blocks → HasDefinition before id ⊎ ((block ≢ 0) × (LiveOut g name (back block) → ⊥))
       → IsCovered p block before id
-  covered_if block before lt (inl d) passed path = ran passed before (inl d)
+  covered_if block before lt (inl d) passed path = ran p id passed before (inl d)
   covered_if block before lt (inr h) passed path =
       elim (passed_or_not p passed id) [
-        | inl d ↦ ran passed before (inr d)
+        | inl d ↦ ran p id passed before (inr d)
         | inr never ↦ absurd (⊎_elim h.0 h.1 (missed_live block passed lt path never))
       ]
 

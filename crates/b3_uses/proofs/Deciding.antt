@@ -1,8 +1,8 @@
 -- Covered uses and the least line of one that isn't, by the open uses that are missed.
-use Rattle.std.proofs.Common.{◌≡◌, ℕ, zero, suc, ◌<◌, ◌≤◌, ◌⊎◌, inl, inr, List, [], ◌∷◌, ◌++◌, Option, Some, None, length, take, slice_get, refl, sym, ap, ◌∙◌, subst, arith, ⊎_elim}
-use Rattle.std.proofs.lemmas.Bool.{cases_lt}
+use Rattle.std.proofs.Common.{◌≡◌, ℕ, zero, suc, ◌<◌, ◌≤◌, ◌⊎◌, inl, inr, true, List, [], ◌∷◌, ◌++◌, Option, Some, None, length, take, slice_get, refl, sym, ap, ◌∙◌, subst, arith, ⊎_elim}
+use Rattle.std.proofs.lemmas.Bool.{cases_lt, ne_eqb}
 use Rattle.std.proofs.lemmas.List.Elements.{All-contains, Contains-get_or, Contains-push, Contains-push_cases, Contains-append_left}
-use Rattle.std.specs.Prelude.{Contains, IfSome, min, slice_index_or}
+use Rattle.std.specs.Prelude.{Contains, IfSome, ◌==◌, min, slice_index_or}
 use Rattle.flow_live.specs.Graph.{Graph, LiveOut}
 use Rattle.b3_ir.specs.Procedure.{Procedure, StandsAt, values_of}
 use Rattle.b3_ir.specs.declared.value.Value.{Value}
@@ -14,8 +14,9 @@ use Rattle.b3_uses.specs.Open.{IsAsked, IsUse, ListsBelow, names_in}
 use Rattle.b3_uses.specs.Reversed.{IsReversed, turned}
 use Rattle.b3_uses.specs.declared.gather.OpenUse.{OpenUse}
 use Rattle.b3_uses.specs.declared.gather.OpenUses.{OpenUses}
+use Rattle.b3_uses.proofs.Answering.{true_false}
 use Rattle.b3_uses.proofs.Contained.{contains_middle, contains_none}
-use Rattle.b3_uses.proofs.Covering.{block_in, covered_iff, defined_or_not}
+use Rattle.b3_uses.proofs.Covering.{block_in, covered_iff, defined_or_not, passed_covered}
 
 -- ---- the least line
 
@@ -81,17 +82,12 @@ block_of p b j v there =
     let c = cut (values_of p b) j v there in
     block_in p.blocks b v (subst (λ vs. Contains vs v) (sym c.1) (contains_middle (take j (values_of p b)) c.0 v))
 
-module _ (p : Procedure) (found : OpenUses) (g : Graph) (lists : ListsBelow p (length p.blocks) found) (reversed : IsReversed p (names_in found) g) where
-  inside : (b : ℕ) → b < length p.blocks → b < g.blocks
-  inside b lt = omega (arith, reversed.blocks)
+none_in : (uses : List OpenUse) (u : OpenUse) → true ≡ (length uses == 0) → Contains uses u → ⊥
+none_in uses u empty has =
+    let some : has.0 < length uses = has.1 in
+    true_false (length uses == 0) (sym empty) (ne_eqb (length uses) 0 (omega arith))
 
-  -- each open use has a block and a name of the flow
-  pub block_within : (u : OpenUse) → Contains found.uses u → u.block < g.blocks
-  block_within u has = inside u.block (lists.only u has).0
-
-  pub name_within : (u : OpenUse) → Contains found.uses u → u.name < g.names
-  name_within u has = let only = lists.only u has in reversed.named only.1.0 u.name only.1.2.name_is
-
+module _ (p : Procedure) (found : OpenUses) (lists : ListsBelow p (length p.blocks) found) where
   abbrev Open : ℕ → List Value → Value → ℕ → Type 0
   Open b before v id = (u : OpenUse) × Contains found.uses u × IsUse (names_in found) b v.line id u
 
@@ -103,7 +99,8 @@ module _ (p : Procedure) (found : OpenUses) (g : Graph) (lists : ListsBelow p (l
         | inl d ↦ inl (λ passed path. (d.0, d.2, inl d.1))
         | inr none ↦
             let c = cut (values_of p b) j v there in
-            inr (lists.all b v.line id (block_of p b j v there) (record {
+            ⊎_elim (λ above. inl (passed_covered p b (take j (values_of p b)) id above)) (λ u. inr u)
+            (lists.all b v.line id (block_of p b j v there) (record {
               before = take j (values_of p b);
               value = v;
               rest = c.0;
@@ -113,6 +110,25 @@ module _ (p : Procedure) (found : OpenUses) (g : Graph) (lists : ListsBelow p (l
               undefined = none;
             }))
       ]
+
+  -- where there are no open uses, all is covered
+  pub none_open : (uses : List OpenUse) → uses ≡ found.uses → true ≡ (length uses == 0) → CoversAll p
+  none_open uses same empty b j v there k d lt =
+      elim (decided b j v there (slice_index_or v.children k d) (Contains-get_or v.children k d lt)) [
+        | inl covered ↦ covered
+        | inr u ↦ absurd (none_in uses u.0 empty (subst (λ l. Contains l u.0) (sym same) u.1))
+      ]
+
+module _ (p : Procedure) (found : OpenUses) (g : Graph) (lists : ListsBelow p (length p.blocks) found) (reversed : IsReversed p (names_in found) g) where
+  inside : (b : ℕ) → b < length p.blocks → b < g.blocks
+  inside b lt = omega (arith, reversed.blocks)
+
+  -- each open use has a block and a name of the flow
+  pub block_within : (u : OpenUse) → Contains found.uses u → u.block < g.blocks
+  block_within u has = inside u.block (lists.only u has).0
+
+  pub name_within : (u : OpenUse) → Contains found.uses u → u.name < g.names
+  name_within u has = let only = lists.only u has in reversed.named only.1.0 u.name only.1.2.name_is
 
   -- an open use that isn't missed is covered
   kept_covered : (b j : ℕ) (line id : ℕ) (u : OpenUse) → b < length p.blocks → IsUse (names_in found) b line id u → (IsMissed g u → ⊥) → IsCoveredAt p b j id
@@ -125,7 +141,7 @@ module _ (p : Procedure) (found : OpenUses) (g : Graph) (lists : ListsBelow p (l
   -- a value is covered where no open use of its line is missed
   covers : (b j : ℕ) (v : Value) → StandsAt p b j v → ((u : OpenUse) → Contains found.uses u → u.line ≡ v.line → IsMissed g u → ⊥) → CoversUses p b j v
   covers b j v there none k d lt =
-      elim (decided b j v there (slice_index_or v.children k d) (Contains-get_or v.children k d lt)) [
+      elim (decided p found lists b j v there (slice_index_or v.children k d) (Contains-get_or v.children k d lt)) [
         | inl covered ↦ covered
         | inr u ↦
             let is : IsUse (names_in found) b v.line (slice_index_or v.children k d) u.0 = u.2 in

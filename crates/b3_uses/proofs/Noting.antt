@@ -1,22 +1,25 @@
 -- Open uses that are noted step by step.
 use Rattle.std.proofs.Common.{◌≡◌, ◌≢◌, ℕ, ◌+◌, ◌<◌, ◌⊎◌, inl, inr, Bool, true, false, List, [], ◌∷◌, ◌++◌, Some, length, refl, sym, ap, ◌∙◌, subst, arith, ⊎_elim, take}
-use Rattle.std.proofs.lemmas.Bool.{cases_eq, eq-eqb, ne_eqb}
+use Rattle.std.proofs.lemmas.Bool.{cases_eq, eq-eqb}
 use Rattle.std.proofs.lemmas.List.Elements.{Contains-push, Contains-push_cases, Contains-append_left}
 use Rattle.std.proofs.lemmas.List.{take_more}
 use Rattle.std.specs.Prelude.{Contains, ◌==◌, ◌||◌, slice_index_or}
 use Rattle.b3_ir.specs.Procedure.{Procedure, values_of}
 use Rattle.b3_ir.specs.declared.value.Value.{Value}
 use Rattle.b3_uses.specs.Open.{Adds, IsAsked, IsAskedHere, IsOneUse, IsOpenIn, IsUse, ListsBelow, has_id, names_in}
+use Rattle.b3_uses.specs.Origins.{IsPassed}
 use Rattle.b3_uses.specs.Reversed.{HasDefinition}
 use Rattle.b3_uses.specs.declared.gather.OpenUse.{OpenUse}
 use Rattle.b3_uses.specs.declared.gather.OpenUses.{OpenUses}
+use Rattle.b3_uses.proofs.Answering.{eq_is, true_false}
 use Rattle.b3_uses.proofs.Contained.{contains_none, contains_head, contains_tail, contains_cases, push_split}
 
-pub notes_nothing : (found : OpenUses) (asked : ℕ → ℕ → ℕ → Type 0) → ((b l i : ℕ) → asked b l i → ⊥) → Adds found found asked
-notes_nothing found asked none = record {
+pub notes_nothing : (p : Procedure) (found : OpenUses) (asked : ℕ → ℕ → ℕ → Type 0) → ((b l i : ℕ) → asked b l i → IsPassed p b i)
+    → Adds p found found asked
+notes_nothing p found asked passed = record {
   names = λ id name is. is;
   kept = λ u has. has;
-  added = λ b l i h. absurd (none b l i h);
+  added = λ b l i h. inl (passed b l i h);
   only = λ u has. inl has;
 }
 
@@ -25,15 +28,18 @@ pub renamed : (old new : OpenUses) → ((id name : ℕ) → names_in old id ≡ 
 renamed old new grows b l i u is = record { block_is = is.block_is; line_is = is.line_is; name_is = grows i u.name is.name_is }
 
 -- what is asked, said in another way, in two steps
-pub notes_both : (old mid new : OpenUses) (first second all : ℕ → ℕ → ℕ → Type 0) → Adds old mid first → Adds mid new second
+pub notes_both : (p : Procedure) (old mid new : OpenUses) (first second all : ℕ → ℕ → ℕ → Type 0) → Adds p old mid first → Adds p mid new second
     → ((b l i : ℕ) → all b l i → first b l i ⊎ second b l i) → ((b l i : ℕ) → first b l i → all b l i) → ((b l i : ℕ) → second b l i → all b l i)
-    → Adds old new all
-notes_both old mid new first second all one two cut left right = record {
+    → Adds p old new all
+notes_both p old mid new first second all one two cut left right = record {
   names = λ id name is. two.names id name (one.names id name is);
   kept = λ u has. two.kept u (one.kept u has);
   added = λ b l i h.
       elim (cut b l i h) [
-        | inl f ↦ let u = one.added b l i f in (u.0, two.kept u.0 u.1, renamed mid new two.names b l i u.0 u.2)
+        | inl f ↦ elim (one.added b l i f) [
+          | inl passed ↦ inl passed
+          | inr u ↦ inr (u.0, two.kept u.0 u.1, renamed mid new two.names b l i u.0 u.2)
+        ]
         | inr s ↦ two.added b l i s
       ];
   only = λ u has.
@@ -51,32 +57,38 @@ notes_both old mid new first second all one two cut left right = record {
 pub one_more : (items ids : List ℕ) (i : ℕ) → items ≡ ids → i < length items → take (i + 1) ids ≡ take i ids ++ slice_index_or items i 0 ∷ []
 one_more items ids i same lt = subst (λ l. take (i + 1) l ≡ take i l ++ slice_index_or items i 0 ∷ []) same (take_more items i 0 lt)
 
-pub children_none : (found : OpenUses) (block line : ℕ) (earlier : ℕ → Bool) → Adds found found (IsAskedHere block line earlier [])
-children_none found block line earlier = notes_nothing found (IsAskedHere block line earlier []) (λ b l i h. contains_none i h.2)
+pub children_none : (p : Procedure) (found : OpenUses) (block line : ℕ) (earlier : ℕ → Bool) → Adds p found found (IsAskedHere block line earlier [])
+children_none p found block line earlier = notes_nothing p found (IsAskedHere block line earlier []) (λ b l i h. absurd (contains_none i h.2))
 
-pub child_noted : (old mid new : OpenUses) (block line : ℕ) (earlier : ℕ → Bool) (ids : List ℕ) (id : ℕ) → Adds old mid (IsAskedHere block line earlier ids)
-    → earlier id ≡ false → Adds mid new (IsOneUse block line id) → Adds old new (IsAskedHere block line earlier (ids ++ id ∷ []))
-child_noted old mid new block line earlier ids id first unseen second =
-    notes_both old mid new (IsAskedHere block line earlier ids) (IsOneUse block line id) (IsAskedHere block line earlier (ids ++ id ∷ [])) first second
+pub child_noted : (p : Procedure) (old mid new : OpenUses) (block line : ℕ) (earlier : ℕ → Bool) (ids : List ℕ) (id : ℕ)
+    → Adds p old mid (IsAskedHere block line earlier ids)
+    → earlier id ≡ false → Adds p mid new (IsOneUse block line id) → Adds p old new (IsAskedHere block line earlier (ids ++ id ∷ []))
+child_noted p old mid new block line earlier ids id first unseen second =
+    notes_both p old mid new (IsAskedHere block line earlier ids) (IsOneUse block line id) (IsAskedHere block line earlier (ids ++ id ∷ [])) first second
     (λ b l i h. ⊎_elim (λ has. inl (h.0, h.1, has, h.3)) (λ (e : id ≡ i). inr (h.0, h.1, sym e)) (Contains-push_cases ids id i h.2))
     (λ b l i h. (h.0, h.1, Contains-append_left ids (id ∷ []) i h.2, h.3))
     (λ b l i h. (h.0, h.1, subst (λ j. Contains (ids ++ id ∷ []) j) (sym h.2) (Contains-push ids id), subst (λ j. earlier j ≡ false) (sym h.2) unseen))
 
-true_false : {X : Type 0} (t : Bool) → t ≡ true → t ≡ false → X
-true_false t e f = cc
-
-pub child_seen : (old mid : OpenUses) (block line : ℕ) (earlier : ℕ → Bool) (ids : List ℕ) (id : ℕ) → Adds old mid (IsAskedHere block line earlier ids)
-    → earlier id ≡ true → Adds old mid (IsAskedHere block line earlier (ids ++ id ∷ []))
-child_seen old mid block line earlier ids id first seen =
-    notes_both old mid mid (IsAskedHere block line earlier ids) none (IsAskedHere block line earlier (ids ++ id ∷ [])) first
-    (notes_nothing mid none (λ b l i h. h))
-    (λ b l i h. ⊎_elim (λ has. inl (h.0, h.1, has, h.3)) (λ (e : id ≡ i). true_false (earlier id) seen (subst (λ j. earlier j ≡ false) (sym e) h.3))
-    (Contains-push_cases ids id i h.2))
+-- a child that is defined earlier, or above
+pub child_seen : (p : Procedure) (old mid : OpenUses) (block line : ℕ) (earlier : ℕ → Bool) (ids : List ℕ) (id : ℕ)
+    → Adds p old mid (IsAskedHere block line earlier ids)
+    → (earlier id ≡ true) ⊎ IsPassed p block id → Adds p old mid (IsAskedHere block line earlier (ids ++ id ∷ []))
+child_seen p old mid block line earlier ids id first seen =
+    notes_both p old mid mid (IsAskedHere block line earlier ids) one (IsAskedHere block line earlier (ids ++ id ∷ [])) first
+    (notes_nothing p mid one passed)
+    (λ b l i h. ⊎_elim (λ has. inl (h.0, h.1, has, h.3)) (λ (e : id ≡ i). inr (h.0, h.1, sym e, h.3)) (Contains-push_cases ids id i h.2))
     (λ b l i h. (h.0, h.1, Contains-append_left ids (id ∷ []) i h.2, h.3))
-    (λ b l i h. absurd h)
+    (λ b l i h. (h.0, h.1, subst (λ j. Contains (ids ++ id ∷ []) j) (sym h.2) (Contains-push ids id), h.3))
   where
-    none : ℕ → ℕ → ℕ → Type 0
-    none b l i = ⊥
+    one : ℕ → ℕ → ℕ → Type 0
+    one b l i = (b ≡ block) × (l ≡ line) × (i ≡ id) × (earlier i ≡ false)
+
+    passed : (b l i : ℕ) → one b l i → IsPassed p b i
+    passed b l i h =
+        elim seen [
+          | inl e ↦ true_false (earlier id) e (subst (λ j. earlier j ≡ false) h.2 h.3)
+          | inr above ↦ subst (λ c. IsPassed p c i) (sym h.0) (subst (λ j. IsPassed p block j) (sym h.2) above)
+        ]
 
 -- ---- the values of a block
 
@@ -91,9 +103,6 @@ or_left false b e = cc
 or_right : (a b : Bool) → b ≡ true → (a || b) ≡ true
 or_right true b e = refl
 or_right false b e = e
-
-eq_is : (a b : ℕ) → (a == b) ≡ true → a ≡ b
-eq_is a b e = ⊎_elim (λ (same : a ≡ b). same) (λ (other : a ≢ b). true_false (a == b) e (ne_eqb a b other)) (cases_eq a b)
 
 is_eq : (a b : ℕ) → a ≡ b → (a == b) ≡ true
 is_eq a b e = eq-eqb a b e
@@ -136,8 +145,8 @@ pub seen_more : (old new : ℕ → Bool) (vs : List Value) (v : Value) → ((q :
     → (q : ℕ) → new q ≡ has_id (vs ++ v ∷ []) q
 seen_more old new vs v before step q = step q ∙ ap (λ t. t || (v.id == q)) (before q) ∙ sym (has_id-push vs v q)
 
-pub values_none : (found : OpenUses) (block : ℕ) → Adds found found (IsOpenIn block [])
-values_none found block = notes_nothing found (IsOpenIn block []) (λ b l i h. nothing l i h.1)
+pub values_none : (p : Procedure) (found : OpenUses) (block : ℕ) → Adds p found found (IsOpenIn block [])
+values_none p found block = notes_nothing p found (IsOpenIn block []) (λ b l i h. absurd (nothing l i h.1))
   where
     nothing : (l i : ℕ) → IsAsked [] l i → ⊥
     nothing l i a = split a.before a.split
@@ -161,10 +170,10 @@ asked_before vs v l i a = record {
     joined [] = refl
     joined (w ∷ ws) = ap (λ us. w ∷ us) (joined ws)
 
-pub value_noted : (old mid new : OpenUses) (block : ℕ) (earlier : ℕ → Bool) (vs : List Value) (v : Value) → ((q : ℕ) → earlier q ≡ has_id vs q)
-    → Adds old mid (IsOpenIn block vs) → Adds mid new (IsAskedHere block v.line earlier v.children) → Adds old new (IsOpenIn block (vs ++ v ∷ []))
-value_noted old mid new block earlier vs v seen first second =
-    notes_both old mid new (IsOpenIn block vs) (IsAskedHere block v.line earlier v.children) (IsOpenIn block (vs ++ v ∷ [])) first second
+pub value_noted : (p : Procedure) (old mid new : OpenUses) (block : ℕ) (earlier : ℕ → Bool) (vs : List Value) (v : Value) → ((q : ℕ) → earlier q ≡ has_id vs q)
+    → Adds p old mid (IsOpenIn block vs) → Adds p mid new (IsAskedHere block v.line earlier v.children) → Adds p old new (IsOpenIn block (vs ++ v ∷ []))
+value_noted p old mid new block earlier vs v seen first second =
+    notes_both p old mid new (IsOpenIn block vs) (IsAskedHere block v.line earlier v.children) (IsOpenIn block (vs ++ v ∷ [])) first second
     (λ b l i h. cut b l i h.0 h.1)
     (λ b l i h. (h.0, asked_before vs v l i h.1))
     (λ b l i h. (
@@ -210,13 +219,14 @@ lists_none p found none = record {
   only = λ u has. absurd (contains_none u (subst (λ l. Contains l u) none has));
 }
 
-pub lists_more : (p : Procedure) (k : ℕ) (old new : OpenUses) → ListsBelow p k old → Adds old new (IsOpenIn k (values_of p k)) → ListsBelow p (k + 1) new
+pub lists_more : (p : Procedure) (k : ℕ) (old new : OpenUses) → ListsBelow p k old → Adds p old new (IsOpenIn k (values_of p k)) → ListsBelow p (k + 1) new
 lists_more p k old new first second = record {
   all = λ block line id lt a.
       ⊎_elim
       (λ (e : block ≡ k). second.added block line id (e, subst (λ b. IsAsked (values_of p b) line id) e a))
-      (λ (other : block ≢ k). let u = first.all block line id (omega (arith, lt, other)) a in
-      (u.0, second.kept u.0 u.1, renamed old new second.names block line id u.0 u.2))
+      (λ (other : block ≢ k). ⊎_elim (λ passed. inl passed)
+      (λ u. inr (u.0, second.kept u.0 u.1, renamed old new second.names block line id u.0 u.2))
+      (first.all block line id (omega (arith, lt, other)) a))
       (cases_eq block k);
   only = λ u has.
       elim (second.only u has) [

@@ -1,6 +1,6 @@
 -- The flow of the tables of a procedure is its reversed flow.
 use Rattle.std.proofs.Common.{◌≡◌, ◌≢◌, ℕ, zero, suc, ◌+◌, ◌-◌, ◌<◌, ◌≤◌, ◌⊎◌, inl, inr, Bool, true, false, List, [], Option, Some, length, replicate, refl, sym, ap, ◌∙◌, subst, arith, ⊎_elim}
-use Rattle.std.proofs.lemmas.Bool.{cases_eq, eq-eqb, ne_eqb}
+use Rattle.std.proofs.lemmas.Bool.{eq-eqb, ne_eqb}
 use Rattle.std.proofs.lemmas.List.{get_or_default, length-replicate}
 use Rattle.std.proofs.lemmas.List.Elements.{Contains-get_or}
 use Rattle.std.specs.Prelude.{Contains, ◌==◌, slice_index_or, if◌then◌else◌}
@@ -11,6 +11,7 @@ use Rattle.b3_rules.specs.Paths.{IsSuccessor, successors_in}
 use Rattle.b3_uses.specs.Lists.{AddsTo, list_at}
 use Rattle.b3_uses.specs.Names.{IsNumbered}
 use Rattle.b3_uses.specs.Reversed.{DefinedBelow, HasDefinition, IsReversed, LedBelow, graph_of, turned}
+use Rattle.b3_uses.proofs.Answering.{eq_is, true_false}
 use Rattle.b3_uses.proofs.Contained.{contains_none}
 
 -- ---- lists by places
@@ -45,9 +46,6 @@ touched_below : (b : Bool) (x k len count : ℕ) → k < (if b then len else cou
 touched_below true x k len count lt defined = defined lt
 touched_below false x k len count lt defined = lt
 
-true_false : {X : Type 0} (t : Bool) → t ≡ true → t ≡ false → X
-true_false t e f = cc
-
 -- ---- places
 
 some_places : (b : Bool) → 1 ≤ (if b then 2 else 1)
@@ -57,9 +55,6 @@ some_places false = omega arith
 second_place : (b : Bool) (place : ℕ) → place ≢ 0 → place < (if b then 2 else 1) → (b ≡ true) × (place + 1 ≡ (if b then 2 else 1))
 second_place true place some lt = (refl, omega arith)
 second_place false place some lt = absurd (omega arith)
-
-is_eq : (a b : ℕ) → (a == b) ≡ true → a ≡ b
-is_eq a b e = ⊎_elim (λ (same : a ≡ b). same) (λ (other : a ≢ b). true_false (a == b) e (ne_eqb a b other)) (cases_eq a b)
 
 not_eq : (a b : ℕ) → (a == b) ≡ false → a ≢ b
 not_eq a b e same = true_false (a == b) (eq-eqb a b same) e
@@ -156,7 +151,7 @@ module _ (p : Procedure) (names : ℕ → Option ℕ) (count : ℕ) (sources def
   uses_is at place name lt u =
       let said = use_is (place == 0) (slice_index_or (list_at defined at) u.1.0 0) u.1.0 name u.1.2 in
       let second = second_place (at == length sources - 1) place (not_eq place 0 said.0) u.0 in
-      let last : at ≡ length sources - 1 = is_eq at (length sources - 1) second.0 in
+      let last : at ≡ length sources - 1 = eq_is at (length sources - 1) second.0 in
       (omega arith, second.1)
 
   is_uses : (at place name : ℕ) → at < length sources → name < count → turned (length sources) at ≡ 0 → place + 1 ≡ g.places at

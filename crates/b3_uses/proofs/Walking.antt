@@ -1,9 +1,11 @@
 -- Blocks walked value by value.
-use Rattle.std.proofs.Common.{◌≡◌, ℕ, ◌<◌, List, [], ◌∷◌, ◌++◌, length, drop, slice_get, Option, Some, None, IfSome, sym, ap, ◌∙◌, arith}
+use Rattle.std.proofs.Common.{◌≡◌, ℕ, ◌<◌, List, [], ◌∷◌, ◌++◌, length, drop, slice_get, Option, Some, None, IfSome, sym, ap, subst, ◌∙◌, arith}
 use Rattle.std.proofs.lemmas.List.{append-nil, append_assoc}
+use Rattle.std.specs.Prelude.{Contains}
 use Rattle.b3_ir.specs.Procedure.{IsIn, Kept, values_from, values_of}
 use Rattle.b3_ir.specs.declared.value.Value.{Value}
 use Rattle.b3_uses.specs.Walked.{Walked}
+use Rattle.b3_uses.proofs.Contained.{contains_middle}
 
 head_and_rest : {X : Type 0} (xs : List X) (x : X) → slice_get xs 0 ≡ Some x → xs ≡ x ∷ drop 1 xs
 head_and_rest [] x e = absurd (cc)
@@ -30,3 +32,10 @@ walk_on p block before at next node v walked is head rest there = record {
 
 pub walk_end : (p : Kept) (block : ℕ) (before : List Value) (at : Option ℕ) → Walked p block before at → at ≡ None → before ≡ values_of p.procedure block
 walk_end p block before at walked is = sym (walked.split ∙ ap (λ (o : Option ℕ). before ++ values_from p block o) is ∙ append-nil before)
+
+-- the last value that was walked is one of the block's
+pub last_walked : (p : Kept) (block : ℕ) (before : List Value) (v : Value) (at : Option ℕ) → Walked p block (before ++ v ∷ []) at
+    → Contains (values_of p.procedure block) v
+last_walked p block before v at walked =
+    subst (λ vs. Contains vs v) (sym (walked.split ∙ append_assoc before (v ∷ []) (values_from p block at)))
+    (contains_middle before (values_from p block at) v)

@@ -4,6 +4,7 @@ use Rattle.std.specs.BTreeMap as tree
 use Rattle.std.specs.Ordering.{nat_cmp}
 use Rattle.b3_ir.specs.Procedure.{Procedure, values_of}
 use Rattle.b3_ir.specs.declared.value.Value.{Value}
+use Rattle.b3_uses.specs.Origins.{IsPassed}
 use Rattle.b3_uses.specs.Reversed.{HasDefinition}
 use Rattle.b3_uses.specs.declared.gather.OpenUse.{OpenUse}
 use Rattle.b3_uses.specs.declared.gather.OpenUses.{OpenUses}
@@ -18,12 +19,13 @@ pub record IsUse (names : ℕ → Option ℕ) (block line id : ℕ) (use_ : Open
   pub line_is : use_.line ≡ line
   pub name_is : names id ≡ Some use_.name
 
--- uses are added: those that a relation of block, line and id asks for, and no others
-pub record Adds (old new : OpenUses) (asked : ℕ → ℕ → ℕ → Type 0) : Type 0 where
+-- uses are added: those that a relation of block, line and id asks for, but for some that each path to the
+-- block covers, and no others
+pub record Adds (p : Procedure) (old new : OpenUses) (asked : ℕ → ℕ → ℕ → Type 0) : Type 0 where
   pub names : (id name : ℕ) → names_in old id ≡ Some name → names_in new id ≡ Some name
   pub kept : (use_ : OpenUse) → Contains old.uses use_ → Contains new.uses use_
   pub added : (block line id : ℕ) → asked block line id
-      → (use_ : OpenUse) × Contains new.uses use_ × IsUse (names_in new) block line id use_
+      → IsPassed p block id ⊎ ((use_ : OpenUse) × Contains new.uses use_ × IsUse (names_in new) block line id use_)
   pub only : (use_ : OpenUse) → Contains new.uses use_
       → Contains old.uses use_
       ⊎ ((block line id : ℕ) × asked block line id × IsUse (names_in new) block line id use_)
@@ -50,10 +52,11 @@ pub record IsAsked (values : List Value) (line id : ℕ) : Type 0 where
 abbrev pub IsOpenIn : ℕ → List Value → ℕ → ℕ → ℕ → Type 0
 IsOpenIn block values b l i = (b ≡ block) × IsAsked values l i
 
--- the uses are the open uses of the blocks below one
+-- the uses are open uses of the blocks below one, all but some that each path to the block covers
 pub record ListsBelow (p : Procedure) (end : ℕ) (found : OpenUses) : Type 0 where
   pub all : (block line id : ℕ) → block < end → IsAsked (values_of p block) line id
-      → (use_ : OpenUse) × Contains found.uses use_ × IsUse (names_in found) block line id use_
+      → IsPassed p block id
+      ⊎ ((use_ : OpenUse) × Contains found.uses use_ × IsUse (names_in found) block line id use_)
   pub only : (use_ : OpenUse) → Contains found.uses use_
       → (use_.block < end) × ((id : ℕ) × IsAsked (values_of p use_.block) use_.line id
       × IsUse (names_in found) use_.block use_.line id use_)

@@ -1,18 +1,17 @@
 //! The blocks of a procedure as a flow that goes backwards. The last block stands first.
 
-ghost use Rattle.std.specs.Prelude.{◌≡◌, ◌<◌, ◌≤◌, length, IfOk, OnOk};
+ghost use Rattle.std.specs.Prelude.{◌≡◌, ◌<◌, ◌≤◌, [], length, replicate, IfOk, OnOk};
 ghost use Rattle.std.specs.BTreeMap as tree;
 ghost use Rattle.std.specs.Ordering.{nat_cmp};
 ghost use Rattle.b3_ir.specs.Procedure.{values_of};
-ghost use Rattle.b3_rules.specs.Paths.{successors_in};
 ghost use Rattle.b3_uses.specs.Lists.{AddsTo};
-ghost use Rattle.b3_uses.specs.Reversed.{DefinesAt, DefinesOne, IsReversed, LeadsTo, LeadsToAny, LeadsToOne, graph_of};
+ghost use Rattle.b3_uses.specs.Reversed.{DefinesAt, DefinesOne, IsReversed, LedBelow, graph_of};
 ghost use Rattle.flow_live.specs.Graph.{IsInRange};
 
 use crate::lists::Lists;
 use crate::names::Names;
 use b3_base::NoMemory;
-use b3_ir::{Body, Proc, Value};
+use b3_ir::Proc;
 use flow_live::{Flow, Touch};
 use std::alloc::Global;
 
@@ -69,8 +68,16 @@ impl Flow for Reversed {
     }
 }
 
-/// The reversed flow of a procedure, in which some ids have names. It is refused for want of memory alone.
-pub(crate) fn reverse(alloc: Global, p: &Proc, names: &Names) -> Result<Reversed, NoMemory>
+/// The reversed flow of a procedure, in which some ids have names, from the blocks that each is a successor of.
+/// It is refused for want of memory alone.
+pub(crate) fn reverse(
+    alloc: Global,
+    p: &Proc,
+    sources: Lists,
+    names: &Names,
+) -> Result<Reversed, NoMemory>
+    requires { AddsTo (replicate (length p.now.procedure.blocks) []) sources
+        (LedBelow p.now.procedure (length p.now.procedure.blocks)) }
     ensures reversed { IfOk result (λ flow. IsReversed p.now.procedure (tree.get nat_cmp names.now.numbers)
         (graph_of flow.names flow.sources flow.defined)) }
     ensures range { IfOk result (λ flow. IsInRange (graph_of flow.names flow.sources flow.defined)) }
@@ -78,7 +85,7 @@ pub(crate) fn reverse(alloc: Global, p: &Proc, names: &Names) -> Result<Reversed
     let blocks = p.blocks();
     let mut flow = Reversed {
         names: names.len(),
-        sources: Lists::new(alloc, blocks)?,
+        sources,
         defined: Lists::new(alloc, blocks)?,
     };
     for block in 0..blocks {
@@ -88,13 +95,12 @@ pub(crate) fn reverse(alloc: Global, p: &Proc, names: &Names) -> Result<Reversed
 }
 
 impl Reversed {
-    /// Adds what the values of a block lead to and define.
+    /// Adds the names that the values of a block define.
     fn add_block(&mut self, p: &Proc, names: &Names, block: usize) -> Result<(), NoMemory>
         requires block { block < length p.now.procedure.blocks }
         requires blocks { length self.old.sources ≡ length p.now.procedure.blocks }
         ensures names { OnOk result (self.new.names ≡ self.old.names) }
-        ensures sources { OnOk result (AddsTo self.old.sources self.new.sources
-            (LeadsToAny (length p.now.procedure.blocks) block (values_of p.now.procedure block))) }
+        ensures sources { OnOk result (self.new.sources ≡ self.old.sources) }
         ensures defined { OnOk result (AddsTo self.old.defined self.new.defined
             (DefinesAt (length p.now.procedure.blocks) block (tree.get nat_cmp names.now.numbers)
             (values_of p.now.procedure block))) }
@@ -102,23 +108,10 @@ impl Reversed {
         let mut at = p.first(block);
         while let Some(node) = at {
             let value = p.value(node);
-            self.add_value(names, block, value)?;
+            self.add_name(block, names.get(value.id))?;
             at = p.next(node);
         }
         Ok(())
-    }
-
-    /// Adds what a value of a block leads to and defines.
-    fn add_value(&mut self, names: &Names, block: usize, value: &Value) -> Result<(), NoMemory>
-        requires { block < length self.old.sources }
-        ensures names { OnOk result (self.new.names ≡ self.old.names) }
-        ensures sources { OnOk result (AddsTo self.old.sources self.new.sources
-            (LeadsTo (length self.old.sources) block (successors_in value.now.body))) }
-        ensures defined { OnOk result (AddsTo self.old.defined self.new.defined
-            (DefinesOne (length self.old.sources) block (tree.get nat_cmp names.now.numbers value.now.id))) }
-    {
-        self.add_name(block, names.get(value.id))?;
-        self.add_successors(block, successors(&value.body))
     }
 
     /// Adds a name that a block defines, if there is one.
@@ -134,45 +127,5 @@ impl Reversed {
             Some(name) => self.defined.add(last - block, name),
             None => Ok(()),
         }
-    }
-
-    /// Makes a block a source of some others.
-    fn add_successors(&mut self, block: usize, successors: &[u32]) -> Result<(), NoMemory>
-        requires { block < length self.old.sources }
-        ensures names { OnOk result (self.new.names ≡ self.old.names) }
-        ensures sources { OnOk result (AddsTo self.old.sources self.new.sources
-            (LeadsTo (length self.old.sources) block successors.now)) }
-        ensures defined { OnOk result (self.new.defined ≡ self.old.defined) }
-    {
-        for next in successors {
-            self.add_successor(block, *next as usize)?;
-        }
-        Ok(())
-    }
-
-    /// Makes a block a source of another, where that is a block.
-    fn add_successor(&mut self, block: usize, next: usize) -> Result<(), NoMemory>
-        requires { block < length self.old.sources }
-        ensures names { OnOk result (self.new.names ≡ self.old.names) }
-        ensures sources { OnOk result (AddsTo self.old.sources self.new.sources
-            (LeadsToOne (length self.old.sources) block next)) }
-        ensures defined { OnOk result (self.new.defined ≡ self.old.defined) }
-    {
-        let last = self.sources.len() - 1;
-        if next > last {
-            return Ok(());
-        }
-        self.sources.add(last - next, last - block)
-    }
-}
-
-/// The blocks that a body names as successors.
-fn successors(body: &Body) -> &[u32]
-    ensures { result.now ≡ successors_in body.now }
-{
-    match body {
-        Body::Targets(targets) => targets.as_slice(),
-        Body::Cases { cases: _, targets } => targets.as_slice(),
-        _ => &[],
     }
 }

@@ -3,10 +3,12 @@
 ghost use Rattle.std.specs.Prelude.{◌≡◌, ℕ, ◌<◌, ◌==◌, ◌||◌, length, IfOk, OnOk};
 ghost use Rattle.std.specs.BTreeSet as keys;
 ghost use Rattle.std.specs.Ordering.{nat_cmp};
-ghost use Rattle.b3_ir.specs.Procedure.{values_of};
+ghost use Rattle.b3_ir.specs.Procedure.{Procedure, values_of};
 ghost use Rattle.b3_uses.specs.Open.{Adds, IsAskedHere, IsOneUse, IsOpenIn, ListsBelow};
+ghost use Rattle.b3_uses.specs.Origins.{AreOrigins};
 
 use crate::names::Names;
+use crate::origins::Origins;
 use b3_base::{NoMemory, Seq};
 use b3_ir::{Proc, Value};
 use std::alloc::Global;
@@ -28,8 +30,10 @@ pub(crate) struct OpenUses {
     uses: Seq<OpenUse>,
 }
 
-/// The open uses of a procedure. It is refused for want of memory alone.
-pub(crate) fn open_uses(alloc: Global, p: &Proc) -> Result<OpenUses, NoMemory>
+/// The open uses of a procedure, but not those where the origins tell that each path to the block passes one
+/// that defines what is used. It is refused for want of memory alone.
+pub(crate) fn open_uses(alloc: Global, p: &Proc, origins: &Origins) -> Result<OpenUses, NoMemory>
+    requires { AreOrigins p.now.procedure origins.now }
     ensures { IfOk result (ListsBelow p.now.procedure (length p.now.procedure.blocks)) }
 {
     let mut found = OpenUses {
@@ -37,7 +41,7 @@ pub(crate) fn open_uses(alloc: Global, p: &Proc) -> Result<OpenUses, NoMemory>
         uses: Seq::new(alloc),
     };
     for block in 0..p.blocks() {
-        found.add_block(alloc, p, block)?;
+        found.add_block(alloc, p, origins, block)?;
     }
     Ok(found)
 }
@@ -51,33 +55,44 @@ impl OpenUses {
     }
 
     /// Adds the open uses of a block.
-    fn add_block(&mut self, alloc: Global, p: &Proc, block: usize) -> Result<(), NoMemory>
-        requires { block < length p.now.procedure.blocks }
-        ensures { OnOk result (Adds self.old self.new (IsOpenIn block (values_of p.now.procedure block))) }
+    fn add_block(
+        &mut self,
+        alloc: Global,
+        p: &Proc,
+        origins: &Origins,
+        block: usize,
+    ) -> Result<(), NoMemory>
+        requires block { block < length p.now.procedure.blocks }
+        requires origins { AreOrigins p.now.procedure origins.now }
+        ensures { OnOk result (Adds p.now.procedure self.old self.new
+            (IsOpenIn block (values_of p.now.procedure block))) }
     {
         let mut earlier = BTreeSet::new(alloc);
         let mut at = p.first(block);
         while let Some(node) = at {
             let value = p.value(node);
-            self.add_value(&earlier, block, value)?;
+            self.add_value(&earlier, origins, block, value)?;
             add_key(&mut earlier, value.id)?;
             at = p.next(node);
         }
         Ok(())
     }
 
-    /// Adds the uses of a value but those of the ids that are defined earlier in its block.
+    /// Adds the uses of a value but those of the ids that are defined earlier in its block or, as the origins
+    /// tell, above it.
     fn add_value(
         &mut self,
         earlier: &BTreeSet<u32>,
+        origins: &Origins,
         block: usize,
         value: &Value,
     ) -> Result<(), NoMemory>
-        ensures { OnOk result (Adds self.old self.new
+        requires { block < length origins.now.sources }
+        ensures { OnOk result ((p : Procedure) → AreOrigins p origins.now → Adds p self.old self.new
             (IsAskedHere block value.now.line (keys.contains nat_cmp earlier.now) value.now.children)) }
     {
         for id in value.children.as_slice() {
-            if !earlier.contains(id) {
+            if !earlier.contains(id) && !origins.is_passed(block, *id) {
                 self.add(block, *id, value.line)?;
             }
         }
@@ -86,7 +101,7 @@ impl OpenUses {
 
     /// Adds a use of an id in a block on a line.
     fn add(&mut self, block: usize, id: u32, line: u32) -> Result<(), NoMemory>
-        ensures { OnOk result (Adds self.old self.new (IsOneUse block line id)) }
+        ensures { OnOk result ((p : Procedure) → Adds p self.old self.new (IsOneUse block line id)) }
     {
         let name = self.names.make(id)?;
         self.uses.push(OpenUse { block, name, line })

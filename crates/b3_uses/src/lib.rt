@@ -5,6 +5,7 @@ mod flow;
 mod gather;
 mod lists;
 mod names;
+mod origins;
 #[cfg(test)]
 mod tests;
 mod uncovered;

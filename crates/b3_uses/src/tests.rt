@@ -225,6 +225,49 @@ fn follows_loops_and_what_is_not_reached(rt: HostRuntime) -> Result<(), Fail> {
 }
 
 #[test]
+fn goes_up_where_only_one_block_leads(rt: HostRuntime) -> Result<(), Fail> {
+    // each block is the only one that leads to the next; the last uses what the first and the second define
+    let chain = [
+        Line::Block,
+        Line::Constant,
+        Line::Jump(1),
+        Line::Block,
+        Line::Constant,
+        Line::Branch(1, 2, 4),
+        Line::Block,
+        Line::Use(4),
+        Line::Jump(3),
+        Line::Block,
+        Line::Use(1),
+        Line::Return(4),
+        Line::Block,
+        Line::Return(4),
+    ];
+    // a use above the definition
+    let mut below = chain;
+    below[7] = Line::Use(10);
+    // a use in the block that the other arm leads to
+    let mut beside = chain;
+    beside[13] = Line::Return(7);
+    // the blocks at both arms lead to the last, which an arm or the block above them covers
+    let mut diamond = chain;
+    diamond[11] = Line::Jump(4);
+    let mut arm = diamond;
+    arm[13] = Line::Return(7);
+    let cases = [
+        (chain, None),
+        (below, Some(7)),
+        (beside, Some(13)),
+        (diamond, None),
+        (arm, Some(13)),
+    ];
+    for (rows, line) in cases {
+        assert_eq!(rt; line_of(rt.alloc(), &rows)?, line);
+    }
+    Ok(())
+}
+
+#[test]
 fn names_the_least_line_in_any_order(rt: HostRuntime) -> Result<(), Fail> {
     let rows = [
         Line::Block,

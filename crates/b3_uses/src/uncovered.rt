@@ -9,20 +9,26 @@ ghost use Rattle.flow_live.specs.Liveness.{IsLivenessOf};
 
 use crate::flow::reverse;
 use crate::gather::{OpenUse, open_uses};
+use crate::origins::find_origins;
 use b3_base::NoMemory;
 use b3_ir::Proc;
 use flow_live::{Flow, LiveSets, live};
 use std::alloc::Global;
 
 /// The least line of a value with a use that isn't covered, or None where each path to a use of a value runs
-/// the value first. It is refused for want of memory alone, and so it always is where the number of blocks
-/// times that of the ids which some block uses before it defines them, or without, is above 2^32.
+/// the value first. It is refused for want of memory alone. It always is where the number of blocks times
+/// that of some ids is above 2^32: those which some block uses before it defines them, or without, and which
+/// no block defines that is reached by a few steps from a block to its only predecessor.
 pub fn uncovered_use(alloc: Global, p: &Proc) -> Result<Option<u32>, NoMemory>
     ensures covered { IfOk result (λ line. line ≡ None → CoversAll p.now.procedure) }
     ensures uncovered { IfOk result (λ line. IfSome line (IsFirstUncovered p.now.procedure)) }
 {
-    let found = open_uses(alloc, p)?;
-    let flow = reverse(alloc, p, &found.names)?;
+    let origins = find_origins(alloc, p)?;
+    let found = open_uses(alloc, p, &origins)?;
+    if found.uses().is_empty() {
+        return Ok(None);
+    }
+    let flow = reverse(alloc, p, origins.into_sources(), &found.names)?;
     if !is_small(flow.blocks(), flow.names()) {
         return Err(NoMemory);
     }

@@ -4,7 +4,7 @@ use Rattle.std.specs.Ordering.{nat_cmp}
 use Rattle.b3_ir.specs.Procedure.{values_of}
 use Rattle.b3_uses.specs.Lists.{AddsTo}
 use Rattle.b3_uses.specs.Names.{IsNumbered}
-use Rattle.b3_uses.specs.Reversed.{DefinedBelow, DefinesAt, LeadsToAny, LedBelow}
+use Rattle.b3_uses.specs.Reversed.{DefinedBelow, DefinesAt, LedBelow}
 use Rattle.b3_uses.proofs.Adding.{adds_below}
 use Rattle.b3_uses.proofs.Turning.{in_range, reversed_is}
 use Rattle.b3_uses.proofs.flow.reverse.Goals as goal
@@ -19,9 +19,7 @@ loop-block-preserved c =
     record {
       blocks = inv.blocks;
       names = c.in_ok-add_block.ensures.names ∙ inv.names;
-      sources = adds_below (λ block. LeadsToAny n block (values_of p block)) k
-          (replicate n []) c.loop-block.flow.sources c.add_block.new.self.sources inv.sources
-          c.in_ok-add_block.ensures.sources;
+      sources = subst (λ l. AddsTo (replicate n []) l (LedBelow p n)) (sym c.in_ok-add_block.ensures.sources) inv.sources;
       defined = adds_below (λ block. DefinesAt n block names (values_of p block)) k
           (replicate n []) c.loop-block.flow.defined c.add_block.new.self.defined inv.defined
           c.in_ok-add_block.ensures.defined;
@@ -35,7 +33,7 @@ returns-clause-reversed c =
     let end : c.loop-block.block ≡ length p.blocks = omega (arith, inv.blocks) in
     reversed_is p names c.loop-block.flow.names c.loop-block.flow.sources c.loop-block.flow.defined
     (subst (λ (m : ℕ). IsNumbered names m) (sym inv.names) c.args.names.now.numbered)
-    (subst (λ (m : ℕ). AddsTo (replicate (length p.blocks) []) c.loop-block.flow.sources (LedBelow p m)) end inv.sources)
+    inv.sources
     (subst (λ (m : ℕ). AddsTo (replicate (length p.blocks) []) c.loop-block.flow.defined (DefinedBelow p names m)) end inv.defined)
 
 pub returns-clause-range : goal.returns-clause-range
@@ -46,5 +44,5 @@ returns-clause-range c =
     let end : c.loop-block.block ≡ length p.blocks = omega (arith, inv.blocks) in
     in_range p names c.loop-block.flow.names c.loop-block.flow.sources c.loop-block.flow.defined
     (subst (λ (m : ℕ). IsNumbered names m) (sym inv.names) c.args.names.now.numbered)
-    (subst (λ (m : ℕ). AddsTo (replicate (length p.blocks) []) c.loop-block.flow.sources (LedBelow p m)) end inv.sources)
+    inv.sources
     (subst (λ (m : ℕ). AddsTo (replicate (length p.blocks) []) c.loop-block.flow.defined (DefinedBelow p names m)) end inv.defined)

@@ -10,6 +10,6 @@ abbrev pub invariant-loop-block : goal.invariant-loop-block
 invariant-loop-block l = record {
   blocks : l.blocks ≡ length l.p.procedure.blocks;
   names : l.flow.names ≡ btree_map_len l.names.numbers;
-  sources : AddsTo (replicate (length l.p.procedure.blocks) []) l.flow.sources (LedBelow l.p.procedure l.block);
+  sources : AddsTo (replicate (length l.p.procedure.blocks) []) l.flow.sources (LedBelow l.p.procedure (length l.p.procedure.blocks));
   defined : AddsTo (replicate (length l.p.procedure.blocks) []) l.flow.defined (DefinedBelow l.p.procedure (tree.get nat_cmp l.names.numbers) l.block);
 }

@@ -1,15 +1,13 @@
-use Rattle.std.proofs.Common.{◌≡◌, ℕ, ◌+◌, [], ◌∷◌, ◌++◌, Bool, true, false, Option, Some, take, sym, ap, subst, ◌∙◌, arith}
+use Rattle.std.proofs.Common.{◌≡◌, ℕ, ◌+◌, [], ◌∷◌, ◌++◌, Option, Some, take, sym, ap, subst, ◌∙◌, arith}
 use Rattle.std.proofs.lemmas.List.{take_all, take_more}
 use Rattle.std.proofs.lemmas.List.Elements.{Contains-get_or}
 use Rattle.std.specs.Prelude.{slice_index_or}
 use Rattle.b3_uses.specs.Leasts.{IsLeastMissed}
 use Rattle.b3_uses.specs.declared.gather.OpenUse.{OpenUse}
+use Rattle.b3_uses.proofs.Answering.{true_false}
 use Rattle.b3_uses.proofs.Deciding.{least_kept, least_missed}
 use Rattle.b3_uses.proofs.uncovered.least_missed.Goals as goal
 use Rattle.b3_uses.proofs.uncovered.least_missed.Goals.{then-is_missed, else-is_missed}
-
-true_false : {X : Type 0} (t : Bool) → t ≡ true → t ≡ false → X
-true_false t e f = cc
 
 abbrev no_use : OpenUse
 no_use = record { block = 0; name = 0; line = 0 }

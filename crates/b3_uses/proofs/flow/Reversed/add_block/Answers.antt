@@ -1,11 +1,10 @@
-use Rattle.std.proofs.Common.{◌≡◌, ℕ, ◌<◌, [], ◌∷◌, ◌++◌, Option, length, refl, sym, subst, ◌∙◌}
+use Rattle.std.proofs.Common.{◌≡◌, ℕ, ◌<◌, [], ◌∷◌, ◌++◌, Option, length, refl, sym, ap, subst, ◌∙◌}
 use Rattle.std.specs.BTreeMap as tree
 use Rattle.std.specs.Ordering.{nat_cmp}
 use Rattle.b3_ir.specs.Procedure.{values_from}
-use Rattle.b3_rules.specs.Paths.{successors_in}
 use Rattle.b3_uses.specs.Lists.{AddsTo}
-use Rattle.b3_uses.specs.Reversed.{DefinesOne, LeadsTo}
-use Rattle.b3_uses.proofs.Adding.{names_more, names_start, values_more, values_start}
+use Rattle.b3_uses.specs.Reversed.{DefinesOne}
+use Rattle.b3_uses.proofs.Adding.{names_more, names_start}
 use Rattle.b3_uses.proofs.Walking.{shorter, walk_on, walk_start}
 use Rattle.b3_uses.proofs.flow.Reversed.add_block.Goals as goal
 
@@ -15,7 +14,7 @@ loop-at-init c =
       [],
       walk_start c.args.p.now c.args.block c.first-at.result c.first-at.ensures.rest c.first-at.ensures.there,
       refl,
-      values_start n c.args.block c.args.self.now.sources,
+      refl,
       names_start n c.args.block (tree.get nat_cmp c.args.names.now.numbers) c.args.self.now.defined,
     )
 
@@ -34,18 +33,18 @@ loop-at-preserved c =
     let v = c.value-value.result.now in
     let there = rw c.in-Some.is at (c.loop-at.invariant.1).there in
     let n : ℕ = length p.procedure.blocks in
-    let many : length c.loop-at.self.sources ≡ n = (inv.3).as_many ∙ c.requires.blocks in
+    let many : length c.loop-at.self.sources ≡ n = ap length inv.3 ∙ c.requires.blocks in
     let names = tree.get nat_cmp c.args.names.now.numbers in
-    let sources : AddsTo c.loop-at.self.sources c.add_value.new.self.sources (LeadsTo n block (successors_in v.body)) =
-    subst (λ (m : ℕ). AddsTo c.loop-at.self.sources c.add_value.new.self.sources
-    (LeadsTo m block (successors_in v.body))) many c.in_ok-add_value.ensures.sources in
-    let defined : AddsTo c.loop-at.self.defined c.add_value.new.self.defined (DefinesOne n block (names v.id)) =
-    subst (λ (m : ℕ). AddsTo c.loop-at.self.defined c.add_value.new.self.defined (DefinesOne m block (names v.id))) many c.in_ok-add_value.ensures.defined in (
+    let added : AddsTo c.loop-at.self.defined c.add_name.new.self.defined (DefinesOne (length c.loop-at.self.sources) block (names v.id)) =
+    subst (λ (name : Option ℕ). AddsTo c.loop-at.self.defined c.add_name.new.self.defined
+    (DefinesOne (length c.loop-at.self.sources) block name)) c.get.ensures c.in_ok-add_name.ensures.defined in
+    let defined : AddsTo c.loop-at.self.defined c.add_name.new.self.defined (DefinesOne n block (names v.id)) =
+    subst (λ (m : ℕ). AddsTo c.loop-at.self.defined c.add_name.new.self.defined (DefinesOne m block (names v.id))) many added in (
       inv.0 ++ v ∷ [],
       walk_on p block inv.0 c.loop-at.at c.next-at.result c.in-Some.node v inv.1 c.in-Some.is (c.value-value.ensures.head block there)
           (c.next-at.ensures.rest block there)
           (c.next-at.ensures.there block there),
-      c.in_ok-add_value.ensures.names ∙ inv.2,
-      values_more n block inv.0 v c.args.self.now.sources c.loop-at.self.sources c.add_value.new.self.sources inv.3 sources,
-      names_more n block names inv.0 v c.args.self.now.defined c.loop-at.self.defined c.add_value.new.self.defined inv.4 defined,
+      c.in_ok-add_name.ensures.names ∙ inv.2,
+      c.in_ok-add_name.ensures.sources ∙ inv.3,
+      names_more n block names inv.0 v c.args.self.now.defined c.loop-at.self.defined c.add_name.new.self.defined inv.4 defined,
     )

@@ -13,7 +13,7 @@ loop-at-init c = (
   [],
   walk_start c.args.p.now c.args.block c.first-at.result c.first-at.ensures.rest c.first-at.ensures.there,
   (λ q. ap (λ ks. list_any (is_at (nat_cmp q)) ks) c.new-earlier.ensures.empty),
-  values_none c.args.self.now c.args.block,
+  values_none c.args.p.now.procedure c.args.self.now c.args.block,
 )
 
 pub loop-at-smaller : goal.loop-at-smaller
@@ -35,6 +35,6 @@ loop-at-preserved c =
           (c.next-at.ensures.rest block there)
           (c.next-at.ensures.there block there),
       seen_more (keys.contains nat_cmp c.loop-at.earlier) (keys.contains nat_cmp c.add_key.new.set) inv.0 v inv.2 c.in_ok-add_key.ensures,
-      value_noted c.args.self.now c.loop-at.self c.add_value.new.self block
-          (keys.contains nat_cmp c.loop-at.earlier) inv.0 v inv.2 inv.3 c.in_ok-add_value.ensures,
+      value_noted p.procedure c.args.self.now c.loop-at.self c.add_value.new.self block
+          (keys.contains nat_cmp c.loop-at.earlier) inv.0 v inv.2 inv.3 (c.in_ok-add_value.ensures p.procedure c.requires.origins),
     )

@@ -4,7 +4,7 @@ use Rattle.b3_uses.specs.Lists.{AddsTo}
 use Rattle.b3_uses.specs.Reversed.{LeadsTo, LeadsToOne}
 use Rattle.b3_uses.proofs.Adding.{successors_more}
 use Rattle.b3_uses.proofs.Noting.{one_more}
-use Rattle.b3_uses.proofs.flow.Reversed.add_successors.Goals as goal
+use Rattle.b3_uses.proofs.origins.Origins.add_successors.Goals as goal
 
 pub loop-next-preserved : goal.loop-next-preserved
 loop-next-preserved c =
@@ -20,8 +20,7 @@ loop-next-preserved c =
     let step : AddsTo mid new (LeadsToOne n c.args.block next) =
     subst (λ (m : ℕ). AddsTo mid new (LeadsToOne m c.args.block next)) (inv.sources).as_many c.in_ok-add_successor.ensures.sources in
     record {
-      names = c.in_ok-add_successor.ensures.names ∙ inv.names;
       sources = subst (λ l. AddsTo old new (LeadsTo n c.args.block l)) (sym more)
           (successors_more n c.args.block next (take i nexts) old mid new inv.sources step);
-      defined = c.in_ok-add_successor.ensures.defined ∙ inv.defined;
+      homes = c.in_ok-add_successor.ensures.homes ∙ inv.homes;
     }

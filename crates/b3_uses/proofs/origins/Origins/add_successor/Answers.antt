@@ -1,7 +1,7 @@
 use Rattle.std.proofs.Common.{length, arith}
 use Rattle.std.proofs.lemmas.Result.{on_ok_weaker}
 use Rattle.b3_uses.proofs.Adding.{successor_put}
-use Rattle.b3_uses.proofs.flow.Reversed.add_successor.Goals as goal
+use Rattle.b3_uses.proofs.origins.Origins.add_successor.Goals as goal
 
 pub returns-clause-sources : goal.returns-clause-sources
 returns-clause-sources c =
