@@ -1,21 +1,23 @@
 -- The sites of a rewritten procedure come from those that it had.
-use Rattle.std.proofs.Common.{◌≡◌, ℕ, ◌<◌, ◌≤◌, ◌↔◌, inl, inr, Bool, true, false, if◌then◌else◌, Option, Some, None, List, [], ◌∷◌, ◌++◌, map, take, length, flat_map, All, Contains, refl, sym, ap, ◌∙◌, subst, arith}
+use Rattle.std.proofs.Common.{◌≡◌, ℕ, ◌≤◌, ◌↔◌, inl, inr, Bool, true, false, if◌then◌else◌, Option, Some, None, List, [], ◌∷◌, ◌++◌, map, take, length, flat_map, All, Contains, refl, sym, ap, ◌∙◌, subst, arith}
 use Rattle.std.specs.Prelude.{slice_get}
 use Rattle.std.proofs.lemmas.Bool.{cases_Bool}
 use Rattle.std.proofs.lemmas.List.{length-map}
-use Rattle.std.proofs.lemmas.Option.{slice_get-get_or}
 use Rattle.std.proofs.lemmas.List.Elements.{All-head}
 use Rattle.b3_base.specs.declared.word.Width.TheVariants.{W64}
+use Rattle.b3_ir.specs.Fits.{Fits}
 use Rattle.b3_ir.specs.Procedure.{Procedure}
 use Rattle.b3_ir.specs.declared.value.Constraint.{Constraint}
 use Rattle.b3_ir.specs.declared.value.Reg.{Reg as Register}
 use Rattle.b3_ir.specs.declared.value.Stackmap.{Stackmap}
 use Rattle.b3_ir.specs.declared.value.Value.{Value}
 use Rattle.stackmap.specs.Placing.{register_for, result_register}
+use Rattle.stackmap.specs.Rules.{IsPlaceable}
 use Rattle.air_ir.specs.Expressed.{IsChild, IsExpressed, IsExpressedInPlaces, IsOpOf, IsPlace, IsTemporary, StandsAnywhere, StandsBy, result_in}
 use Rattle.air_ir.specs.Forms.{SiteOperands, listed, operand_in}
 use Rattle.air_ir.specs.Kinds.{kind_of, makes_site}
 use Rattle.air_ir.specs.Renaming.{rename, rename_arg, rename_inst}
+use Rattle.air_ir.specs.SitesInPlaces.{IsSiteFrom, ObeysInPlaces}
 use Rattle.air_ir.specs.WellFormed.{HasOneSiteEach, IsGoodBlock, IsGoodInst, IsWellFormed, NamesOwn, StandsAt}
 use Rattle.air_ir.specs.declared.assignment.Assignment.{Assignment}
 use Rattle.air_ir.specs.declared.op.AirOp.{AirOp}
@@ -31,13 +33,15 @@ use Rattle.air_ir.specs.declared.procedure.AirInst.{AirInst}
 use Rattle.air_ir.specs.declared.procedure.AirProc.{AirProc}
 use Rattle.air_flow.specs.Proper.{IsProper}
 use Rattle.air_flow.proofs.Names.{all_at}
-use Rattle.air_spill.specs.Rewritten.{home_by, is_copy, kept_operands, rewritten, rewritten_block, rewritten_inst, standing, with_operands}
+use Rattle.air_spill.specs.Rewritten.{home_by, is_copy, kept_operands, rewritten, rewritten_block, rewritten_inst, with_operands}
 use Rattle.air_spill.specs.Stays.{ComesFrom, ComesFromEach}
 use Rattle.air_spill.proofs.Good.{IsLike, is_tmp, like_each, stays}
 use Rattle.air_spill.proofs.Members.{AtMostOne, Origin, all_left, all_right, origin, unmapped}
 use Rattle.air_spill.proofs.OpByOp.{copying_op, site-renamed}
 use Rattle.air_spill.proofs.Renamed.{listed-renamed, renamed_site}
+use Rattle.air_spill.proofs.PartsOnce.{parts_once}
 use Rattle.air_spill.proofs.SameRun.{rewritten-other}
+use Rattle.air_spill.proofs.SitesMade.{place_of, site_of}
 
 -- ---- where instructions come from
 
@@ -120,14 +124,9 @@ no_copy map v o is = elim (cases_Bool (is_copy o)) [
 ]
 
 module _ (p : AirProc) (a : Assignment) (proper : IsProper p a) where
-  place_of : (k : ℕ) (x : Option (Option Register)) → k < p.tmps → slice_get a.homes k ≡ x → IsPlace (standing k x)
-  place_of k (Some (Some reg)) lt e = proper.registers k reg e
-  place_of k (Some None) lt e = tt
-  place_of k None lt e = absurd (let there = slice_get-get_or a.homes k None (omega (arith, lt, proper.tmps)) in cc)
-
   stands_anywhere : (b3 : Procedure) (id : ℕ) (role : Role) (arg : Arg) → NamesOwn p role arg → StandsAnywhere IsTemporary b3 id arg
       → StandsAnywhere IsPlace b3 id (rename_arg (home_by a) arg)
-  stands_anywhere b3 id role (At (Tmp k)) own is = place_of k (slice_get a.homes k) (is_tmp p role k own) refl
+  stands_anywhere b3 id role (At (Tmp k)) own is = place_of p a proper k (slice_get a.homes k) (is_tmp p role k own) refl
   stands_anywhere b3 id role (At (Reg reg)) own is = absurd is
   stands_anywhere b3 id role (At (Spill n)) own is = absurd is
   stands_anywhere b3 id role (Imm word) own is = is
@@ -179,19 +178,36 @@ module _ (p : AirProc) (a : Assignment) (proper : IsProper p a) where
         result = λ patchpoint. ap (map (rename (home_by a))) (is.result patchpoint) ∙ result_stays is.stackmap v (result_register v);
       }
 
-  comes : (i j : AirInst) → IsGoodInst p i → rewritten_inst (home_by a) i ≡ j ∷ [] → ComesFrom i j
-  comes i j good e =
+  -- whatever parts a site is read off, they are those of the instruction
+  obeys : IsWellFormed p → (block place : ℕ) (i : AirInst) → StandsAt p block place i → IsGoodInst p i → (b3 : Procedure) (v : Value) → Fits v
+      → IsPlaceable v → IsExpressed b3 v i → ObeysInPlaces b3 v (rename_inst (home_by a) i)
+  obeys well block place i at good b3 v fits placeable is = record {
+    is = in_places i good b3 v is;
+    sites = λ s site parts fit from.
+        let once : s ≡ renamed_site (home_by a) is.site =
+        parts_once i.op s (renamed_site (home_by a) is.site) fit (site-renamed (home_by a) (stays a) i.op is.site is.fits).0
+        (sym parts ∙ listed-renamed (home_by a) i.operands is.site is.parts) in
+        site_of p a block place i well proper at b3 v fits placeable is site
+        (subst (λ (t : SiteOperands). IsSiteFrom (rename_inst (home_by a) i) t site) once from);
+  }
+
+  comes : IsWellFormed p → (block place : ℕ) (i j : AirInst) → StandsAt p block place i → IsGoodInst p i
+      → rewritten_inst (home_by a) i ≡ j ∷ [] → ComesFrom i j
+  comes well block place i j at good e =
       let is = like p a i j e in
       record {
         op = is.op;
         value = is.value;
         traps = is.traps;
-        expressed = λ b3 v expressed.
-            let alone : rename_inst (home_by a) i ∷ [] ≡ j ∷ [] =
-            sym (rewritten-other (home_by a) i (no_copy expressed.stackmap v i.op expressed.op)) ∙ e in
-            let same : rename_inst (home_by a) i ≡ j = cc in
-            subst (IsExpressedInPlaces b3 v) same (in_places i good b3 v expressed);
+        expressed = λ b3 v expressed. subst (IsExpressedInPlaces b3 v) (alone b3 v expressed) (in_places i good b3 v expressed);
+        obeys = λ b3 v fits placeable expressed.
+            subst (ObeysInPlaces b3 v) (alone b3 v expressed) (obeys well block place i at good b3 v fits placeable expressed);
       }
+    where
+      alone : (b3 : Procedure) (v : Value) → IsExpressed b3 v i → rename_inst (home_by a) i ≡ j
+      alone b3 v expressed =
+          let only : rename_inst (home_by a) i ∷ [] ≡ j ∷ [] =
+          sym (rewritten-other (home_by a) i (no_copy expressed.stackmap v i.op expressed.op)) ∙ e in cc
 
   pub comes_from_each : IsWellFormed p → ComesFromEach p (rewritten p a)
   comes_from_each good block place j at =
@@ -200,7 +216,7 @@ module _ (p : AirProc) (a : Assignment) (proper : IsProper p a) where
         f.at.at,
         f.at.from,
         was,
-        comes f.at.from j
+        comes good block f.at.at f.at.from j was
             (all_at (IsGoodInst p) was.of.insts f.at.at f.at.from
             (all_at (IsGoodBlock p) p.blocks block was.of good.blocks was.block_there).insts was.inst_there)
             f.at.becomes,
