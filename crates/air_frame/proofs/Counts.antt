@@ -17,13 +17,15 @@ use Rattle.air_frame.specs.Counts.{CountsBelow, NamesCounted}
 use Rattle.air_frame.specs.Needs.{arg_spills, block_spills, greatest, home_spills, inst_spills, names, spill_count}
 
 -- the greatest is within a bound of each
-fold_within : {X : Type 0} (P : X → Type 0) (f : X → ℕ) (n : ℕ) → ((x : X) → P x → f x ≤ n) → (xs : List X) (most : ℕ) → most ≤ n → All P xs
+fold_within : {X : Type 0} (P : X → Type 0) (f : X → ℕ) (n : ℕ) → ((x : X) → P x → f x ≤ n)
+    → (xs : List X) (most : ℕ) → most ≤ n → All P xs
     → fold (λ most x. max most (f x)) most xs ≤ n
 fold_within P f n each [] most le all = le
 fold_within P f n each (x ∷ xs) most le all =
     fold_within P f n each xs (max most (f x)) (omega (arith, le, each x (All-head P x xs all))) (All-tail P x xs all)
 
-greatest_within : {X : Type 0} (P : X → Type 0) (f : X → ℕ) (n : ℕ) → ((x : X) → P x → f x ≤ n) → (xs : List X) → All P xs → greatest f xs ≤ n
+greatest_within : {X : Type 0} (P : X → Type 0) (f : X → ℕ) (n : ℕ) → ((x : X) → P x → f x ≤ n) → (xs : List X)
+    → All P xs → greatest f xs ≤ n
 greatest_within P f n each xs all = fold_within P f n each xs 0 (omega arith) all
 
 home_within : (n : ℕ) (h : Home) → IsSpillBelow n h → home_spills h ≤ n
@@ -49,7 +51,8 @@ abbrev BlockBelow : ℕ → AirBlock → Type 0
 BlockBelow n b = All (InstBelow n) b.insts
 
 inst_within : (n : ℕ) (i : AirInst) → InstBelow n i → inst_spills i ≤ n
-inst_within n i below = greatest_within (OperandBelow n) (λ o. arg_spills o.arg) n (λ o. arg_within n o.arg) i.operands below
+inst_within n i below =
+    greatest_within (OperandBelow n) (λ o. arg_spills o.arg) n (λ o. arg_within n o.arg) i.operands below
 
 block_within : (n : ℕ) (b : AirBlock) → BlockBelow n b → block_spills b ≤ n
 block_within n b below = greatest_within (InstBelow n) inst_spills n (inst_within n) b.insts below
@@ -59,4 +62,5 @@ counts_below n p below = greatest_within (BlockBelow n) block_spills n (block_wi
 
 pub names_counted : NamesCounted
 names_counted p =
-    omega (arith, count_by-le-length (names p) (range_with_len 0 (spill_count p)), length-range_with_len 0 (spill_count p))
+    let numbers = range_with_len 0 (spill_count p) in
+    omega (arith, count_by-le-length (names p) numbers, length-range_with_len 0 (spill_count p))

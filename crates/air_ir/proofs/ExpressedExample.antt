@@ -266,18 +266,22 @@ patch_site = record {
 abbrev StandsSo : Operand → Place → Type 0
 StandsSo o place = (place.width ≡ o.width) × IsRepOf o.arg place.rep
 
-stands_so : (o u : Operand) (given place : Place) → Some o ≡ Some u → Some given ≡ Some place → StandsSo o given → StandsSo u place
+stands_so : (o u : Operand) (given place : Place) → Some o ≡ Some u → Some given ≡ Some place → StandsSo o given
+    → StandsSo u place
 stands_so o u given place e f so =
     let p : o ≡ u = cc in
     let q : given ≡ place = cc in
     subst (λ (x : Operand). StandsSo x place) p (subst (StandsSo o) q so)
 
-patch_places : (k : ℕ) (o : Operand) (place : Place) → slice_get reported k ≡ Some o → slice_get patch_site.reps k ≡ Some place → StandsSo o place
-patch_places zero o place e f = stands_so (operand_in Use W64 0) o (in_place (rep.Register (register 0))) place e f (refl, refl)
+patch_places : (k : ℕ) (o : Operand) (place : Place) → slice_get reported k ≡ Some o
+    → slice_get patch_site.reps k ≡ Some place → StandsSo o place
+patch_places zero o place e f =
+    stands_so (operand_in Use W64 0) o (in_place (rep.Register (register 0))) place e f (refl, refl)
 patch_places (suc zero) o place e f = stands_so constant o (in_place (rep.Constant 5)) place e f (refl, refl)
 patch_places (suc (suc k)) o place e f = absurd (cc)
 
-lowest : (r : ℕ) → (has 1 r ≡ true) ↔ (Contains changed (operand_in EarlyDef W64 r) ⊎ Contains changed (operand_in Clobber W64 r))
+lowest : (r : ℕ) → (has 1 r ≡ true)
+    ↔ (Contains changed (operand_in EarlyDef W64 r) ⊎ Contains changed (operand_in Clobber W64 r))
 lowest zero = (λ e. inl (0, lit< tt, refl), λ c. refl)
 lowest (suc k) = (
   λ e. absurd (false≢true (rw (bit_at-pow_other 0 (suc k) (λ e. cc)) at e)),
@@ -320,7 +324,8 @@ exit_places : (offset k : ℕ) (o : Operand) (place : Place) → slice_get check
     → slice_get (exit_site offset).reps k ≡ Some place → StandsSo o place
 unfolding check_parts
 exit_places offset zero o place e f = stands_so constant o (in_place (rep.Constant 5)) place e f (refl, refl)
-exit_places offset (suc zero) o place e f = stands_so (late_at (Spill 7)) o (in_place (rep.Slot offset)) place e f (refl, tt)
+exit_places offset (suc zero) o place e f =
+    stands_so (late_at (Spill 7)) o (in_place (rep.Slot offset)) place e f (refl, tt)
 exit_places offset (suc (suc k)) o place e f = absurd (cc)
 
 is_exit_site : (offset : ℕ) → IsSiteFrom (check_at (Spill 7)) check_parts (exit_site offset)

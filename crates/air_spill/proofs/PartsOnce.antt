@@ -27,14 +27,17 @@ split_first [] [] us vs n e = (refl, e)
 split_first [] (y ∷ ys) us vs n e = absurd (cc)
 split_first (x ∷ xs) [] us vs n e = absurd (cc)
 split_first (x ∷ xs) (y ∷ ys) us vs n e =
-    let t = tails x y (xs ++ us) (ys ++ vs) e in put x y xs ys us vs t.0 (split_first xs ys us vs (let m : length xs ≡ length ys = cc in m) t.1)
+    let t = tails x y (xs ++ us) (ys ++ vs) e in
+    put x y xs ys us vs t.0
+    (split_first xs ys us vs (let m : length xs ≡ length ys = cc in m) t.1)
 
 length_of : (xs us : List Operand) → length (xs ++ us) ≡ length xs + length us
 length_of xs us = length-append xs us
 
 split_last : (xs ys us vs : List Operand) → length us ≡ length vs → xs ++ us ≡ ys ++ vs → AreOne xs ys us vs
 split_last xs ys us vs n e =
-    split_first xs ys us vs (let k : length (xs ++ us) ≡ length (ys ++ vs) = ap length e in omega (arith, k, n, length_of xs us, length_of ys vs)) e
+    let k : length (xs ++ us) ≡ length (ys ++ vs) = ap length e in
+    split_first xs ys us vs (omega (arith, k, n, length_of xs us, length_of ys vs)) e
 
 -- where what is read ends
 abbrev Reads : Operand → Type 0
@@ -46,7 +49,8 @@ Writes o = is_read o.role ≡ false
 not_both : (o u : Operand) → o ≡ u → Reads o → Writes u → ⊥
 not_both o u e reads writes = let same : is_read o.role ≡ is_read u.role = ap (λ (x : Operand). is_read x.role) e in cc
 
-split_read : (xs ys us vs : List Operand) → All Reads xs → All Reads ys → All Writes us → All Writes vs → xs ++ us ≡ ys ++ vs → AreOne xs ys us vs
+split_read : (xs ys us vs : List Operand) → All Reads xs → All Reads ys → All Writes us → All Writes vs
+    → xs ++ us ≡ ys ++ vs → AreOne xs ys us vs
 split_read [] [] us vs rx ry wu wv e = (refl, e)
 split_read [] (y ∷ ys) [] vs rx ry wu wv e = absurd (cc)
 split_read [] (y ∷ ys) (u ∷ us) vs rx ry wu wv e =
@@ -76,28 +80,35 @@ fit_length (t ∷ ts) (o ∷ os) fits = ap suc (fit_length ts os fits.1)
 fit_length [] (o ∷ os) fits = absurd fits
 fit_length (t ∷ ts) [] fits = absurd fits
 
-one_length : (there : Bool) (Is : Operand → Type 0) (os : List Operand) → OneIs there Is os → length os ≡ (if there then 1 else 0)
+one_length : (there : Bool) (Is : Operand → Type 0) (os : List Operand) → OneIs there Is os
+    → length os ≡ (if there then 1 else 0)
 one_length true Is (o ∷ []) is = refl
 one_length true Is [] is = absurd is
 one_length true Is (o ∷ p ∷ os) is = absurd is
 one_length false Is [] is = refl
 one_length false Is (o ∷ os) is = absurd is
 
-parts_same : (s t : SiteOperands) → s.inputs ≡ t.inputs → s.reported ≡ t.reported → s.changed ≡ t.changed → s.results ≡ t.results → s ≡ t
+parts_same : (s t : SiteOperands) → s.inputs ≡ t.inputs → s.reported ≡ t.reported → s.changed ≡ t.changed
+    → s.results ≡ t.results → s ≡ t
 parts_same s t a b c d = rw (a, b, c, d) refl
 
 at_once : (computed : Width → List Takes) (typed : Bool) (IsResult : Width → Operand → Type 0)
     → ((w u : Width) → length (computed w) ≡ length (computed u)) → (s t : SiteOperands)
     → AtSite computed typed IsResult s → AtSite computed typed IsResult t → listed s ≡ listed t → s ≡ t
 at_once computed typed IsResult alike s t one other e =
-    let ends = split_last (s.inputs ++ s.reported ++ s.changed) (t.inputs ++ t.reported ++ t.changed) s.results t.results
-    (one_length typed (IsResult one.width) s.results one.result ∙ sym (one_length typed (IsResult other.width) t.results other.result)) e in
+    let ends = split_last (s.inputs ++ s.reported ++ s.changed) (t.inputs ++ t.reported ++ t.changed) s.results
+    t.results
+    (one_length typed (IsResult one.width) s.results one.result ∙ sym
+    (one_length typed (IsResult other.width) t.results other.result)) e in
     let first = split_first s.inputs t.inputs (s.reported ++ s.changed) (t.reported ++ t.changed)
-    (fit_length (computed one.width) s.inputs one.fits ∙ alike one.width other.width ∙ sym (fit_length (computed other.width) t.inputs other.fits))
+    (fit_length (computed one.width) s.inputs one.fits ∙ alike one.width other.width ∙ sym
+    (fit_length (computed other.width) t.inputs other.fits))
     (sym (append_assoc s.inputs s.reported s.changed) ∙ ends.0 ∙ append_assoc t.inputs t.reported t.changed) in
     let rest = split_read s.reported t.reported s.changed t.changed
-    (All-weaker IsReported Reads reads_by s.reported one.reports) (All-weaker IsReported Reads reads_by t.reported other.reports)
-    (All-weaker IsChanged Writes writes_by s.changed one.changes) (All-weaker IsChanged Writes writes_by t.changed other.changes) first.1 in
+    (All-weaker IsReported Reads reads_by s.reported one.reports)
+    (All-weaker IsReported Reads reads_by t.reported other.reports)
+    (All-weaker IsChanged Writes writes_by s.changed one.changes)
+    (All-weaker IsChanged Writes writes_by t.changed other.changes) first.1 in
     parts_same s t first.0 rest.0 rest.1 ends.1
 
 test_alike : (test : Test) (w u : Width) → length (test_takes test w) ≡ length (test_takes test u)

@@ -40,7 +40,8 @@ pub record IsCheckOf (map : Stackmap) (v : Value) (o : AirOp) : Type 0 where
 check_by : (map : Stackmap) (code known : Opcode) → code ≡ known → IsCheckBy map known → IsCheckBy map code
 check_by map code known e is = subst (IsCheckBy map) (sym e) is
 
-patch_of : (map : Stackmap) (v : Value) (size : ℕ) (typed : Bool) → IsOpOf map v (op.Patch size typed) → IsPatchOf map v (op.Patch size typed)
+patch_of : (map : Stackmap) (v : Value) (size : ℕ) (typed : Bool) → IsOpOf map v (op.Patch size typed)
+    → IsPatchOf map v (op.Patch size typed)
 patch_of map v size typed (code, same, result) =
     record { typed = typed; op = ap (λ (n : ℕ). Some (n, typed)) same; result = result; opcode = code }
 
@@ -79,13 +80,17 @@ op_is map v op.Store is = absurd is
 op_is map v (op.SetIf test) is = absurd is
 op_is map v (op.SelectIf test) is = absurd is
 op_is map v (op.CheckIf test) is =
-    inr (record { op = refl; by = check_by map v.kind.opcode opcode.Check is (record { patches = refl; kind = refl; size = refl; carries = refl }) })
+    let by : IsCheckBy map opcode.Check = record { patches = refl; kind = refl; size = refl; carries = refl } in
+    inr (record { op = refl; by = check_by map v.kind.opcode opcode.Check is by })
 op_is map v op.CheckAdd is =
-    inr (record { op = refl; by = check_by map v.kind.opcode opcode.CheckAdd is (record { patches = refl; kind = refl; size = refl; carries = refl }) })
+    let by : IsCheckBy map opcode.CheckAdd = record { patches = refl; kind = refl; size = refl; carries = refl } in
+    inr (record { op = refl; by = check_by map v.kind.opcode opcode.CheckAdd is by })
 op_is map v op.CheckSub is =
-    inr (record { op = refl; by = check_by map v.kind.opcode opcode.CheckSub is (record { patches = refl; kind = refl; size = refl; carries = refl }) })
+    let by : IsCheckBy map opcode.CheckSub = record { patches = refl; kind = refl; size = refl; carries = refl } in
+    inr (record { op = refl; by = check_by map v.kind.opcode opcode.CheckSub is by })
 op_is map v op.CheckMul is =
-    inr (record { op = refl; by = check_by map v.kind.opcode opcode.CheckMul is (record { patches = refl; kind = refl; size = refl; carries = refl }) })
+    let by : IsCheckBy map opcode.CheckMul = record { patches = refl; kind = refl; size = refl; carries = refl } in
+    inr (record { op = refl; by = check_by map v.kind.opcode opcode.CheckMul is by })
 op_is map v (op.BranchIf test) is = absurd is
 op_is map v op.Jump is = absurd is
 op_is map v (op.Switch cases) is = absurd is
@@ -98,8 +103,10 @@ op_is map v op.FramePointer is = absurd is
 
 -- ---- a constraint for each reported child
 
-body_site : (ty : Ty) (n : ℕ) (body : Body) (map : Stackmap) → stackmap_in body ≡ Some map → IsBody carries.Site ty n body → length map.constraints ≡ n
-body_site ty n (bodies.Map m) map e is = let same : m ≡ map = cc in subst (λ (x : Stackmap). length x.constraints ≡ n) same is.sound.count
+body_site : (ty : Ty) (n : ℕ) (body : Body) (map : Stackmap) → stackmap_in body ≡ Some map
+    → IsBody carries.Site ty n body → length map.constraints ≡ n
+body_site ty n (bodies.Map m) map e is =
+    let same : m ≡ map = cc in subst (λ (x : Stackmap). length x.constraints ≡ n) same is.sound.count
 body_site ty n bodies.Plain map e is = absurd (cc)
 body_site ty n (bodies.Constant x) map e is = absurd (cc)
 body_site ty n (bodies.Argument x) map e is = absurd (cc)
@@ -109,8 +116,10 @@ body_site ty n (bodies.Target x) map e is = absurd (cc)
 body_site ty n (bodies.Targets x) map e is = absurd (cc)
 body_site ty n (bodies.Cases x y) map e is = absurd (cc)
 
-body_exit : (ty : Ty) (n : ℕ) (body : Body) (map : Stackmap) → stackmap_in body ≡ Some map → IsBody carries.Exit ty n body → length map.constraints ≡ n
-body_exit ty n (bodies.Map m) map e is = let same : m ≡ map = cc in subst (λ (x : Stackmap). length x.constraints ≡ n) same is.sound.count
+body_exit : (ty : Ty) (n : ℕ) (body : Body) (map : Stackmap) → stackmap_in body ≡ Some map
+    → IsBody carries.Exit ty n body → length map.constraints ≡ n
+body_exit ty n (bodies.Map m) map e is =
+    let same : m ≡ map = cc in subst (λ (x : Stackmap). length x.constraints ≡ n) same is.sound.count
 body_exit ty n bodies.Plain map e is = absurd (cc)
 body_exit ty n (bodies.Constant x) map e is = absurd (cc)
 body_exit ty n (bodies.Argument x) map e is = absurd (cc)
@@ -120,11 +129,13 @@ body_exit ty n (bodies.Target x) map e is = absurd (cc)
 body_exit ty n (bodies.Targets x) map e is = absurd (cc)
 body_exit ty n (bodies.Cases x y) map e is = absurd (cc)
 
-pub constraint_count : (map : Stackmap) (v : Value) (o : AirOp) → IsOpOf map v o → stackmap_in v.body ≡ Some map → Fits v
+pub constraint_count : (map : Stackmap) (v : Value) (o : AirOp) → IsOpOf map v o → stackmap_in v.body ≡ Some map
+    → Fits v
     → length map.constraints ≡ reported_count v
 constraint_count map v o is carries_it fits = elim (op_is map v o is) [
   | inl patch ↦ body_site v.ty (reported_count v) v.body map carries_it
-      (subst (λ (c : Carries). IsBody c v.ty (reported_count v) v.body) (ap (λ (c : Opcode). (row_of c).carries) patch.opcode) fits.body)
+      (subst (λ (c : Carries). IsBody c v.ty (reported_count v) v.body)
+      (ap (λ (c : Opcode). (row_of c).carries) patch.opcode) fits.body)
   | inr check ↦ body_exit v.ty (reported_count v) v.body map carries_it
       (subst (λ (c : Carries). IsBody c v.ty (reported_count v) v.body) check.by.carries fits.body)
 ]

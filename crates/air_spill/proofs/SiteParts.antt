@@ -38,12 +38,14 @@ use Rattle.air_spill.proofs.SitesObey.{FreeKeeps, allocatable_low}
 
 -- ---- touches
 
-among_touch : (tmps : ℕ) (os : List Operand) (o : Operand) (t : Touch) → Among (λ (u : Operand). u ≡ o) os → Contains (operand_touches tmps o) t
+among_touch : (tmps : ℕ) (os : List Operand) (o : Operand) (t : Touch) → Among (λ (u : Operand). u ≡ o) os
+    → Contains (operand_touches tmps o) t
     → Contains (touches_of tmps os) t
 unfolding Among
 among_touch tmps [] o t a c = absurd a
 among_touch tmps (u ∷ os) o t (inl e) c =
-    Contains-append_left (operand_touches tmps u) (touches_of tmps os) t (subst (λ (x : Operand). Contains (operand_touches tmps x) t) (sym e) c)
+    Contains-append_left (operand_touches tmps u) (touches_of tmps os) t
+    (subst (λ (x : Operand). Contains (operand_touches tmps x) t) (sym e) c)
 among_touch tmps (u ∷ os) o t (inr a) c =
     Contains-append_right (operand_touches tmps u) (touches_of tmps os) t (among_touch tmps os o t a c)
 
@@ -52,7 +54,8 @@ touched : (tmps : ℕ) (os : List Operand) (o : Operand) (t : Touch) → Contain
 touched tmps os o t c = among_touch tmps os o t (among_index (λ (u : Operand). u ≡ o) os o c.0 c.1 c.2)
 
 in_role : (tmps : ℕ) (width : Width) (role : Role) (h : Home) (o : Operand) (t : Touch) → o.role ≡ role → o.arg ≡ At h
-    → Contains (operand_touches tmps (record { role = role; width = width; arg = At h })) t → Contains (operand_touches tmps o) t
+    → Contains (operand_touches tmps (record { role = role; width = width; arg = At h })) t
+    → Contains (operand_touches tmps o) t
 in_role tmps width role h o t r e c = rw (r, e) c
 
 one : (t u : Touch) → t ≡ u → Contains (t ∷ []) u
@@ -85,7 +88,8 @@ low p Def reg may = allocatable_low reg may
 low p EarlyDef reg may = may.0
 low p Clobber reg may = may.0
 
-module _ (p : AirProc) (a : Assignment) (block place : ℕ) (i : AirInst) (good : IsWellFormed p) (proper : IsProper p a) (at : StandsAt p block place i) where
+module _ (p : AirProc) (a : Assignment) (block place : ℕ) (i : AirInst) (good : IsWellFormed p) (proper : IsProper p a)
+    (at : StandsAt p block place i) where
   -- ---- what is defined and used
 
   pub own : (o : Operand) → Contains i.operands o → NamesOwn p o.role o.arg
@@ -100,25 +104,41 @@ module _ (p : AirProc) (a : Assignment) (block place : ℕ) (i : AirInst) (good 
     touched p.tmps i.operands _ (touch.Def (p.tmps + reg.0)) c (one _ _ (writes (p.tmps + reg.0))),
   )
 
-  used : (o : Operand) (n : ℕ) → Contains i.operands o → n < p.tmps → o.role ≡ Use → o.arg ≡ At (Tmp n) → IsUsedBy p i (Tmp n)
-  used o n c lt r e =
-      (n, (lt, refl), touched p.tmps i.operands o (touch.Use n) c (in_role p.tmps W64 Use (Tmp n) o (touch.Use n) r e (one _ _ refl)))
+  used : (o : Operand) (n : ℕ) → Contains i.operands o → n < p.tmps → o.role ≡ Use → o.arg ≡ At (Tmp n)
+      → IsUsedBy p i (Tmp n)
+  used o n c lt r e = (
+    n,
+    (lt, refl),
+    touched p.tmps i.operands o (touch.Use n) c
+        (in_role p.tmps W64 Use (Tmp n) o (touch.Use n) r e (one _ _ refl)),
+  )
 
-  used_late : (o : Operand) (n : ℕ) → Contains i.operands o → n < p.tmps → o.role ≡ LateUse → o.arg ≡ At (Tmp n) → IsUsedLateBy p i (Tmp n)
-  used_late o n c lt r e =
-      (n, (lt, refl), touched p.tmps i.operands o (touch.LateUse n) c (in_role p.tmps W64 LateUse (Tmp n) o (touch.LateUse n) r e (one _ _ refl)))
+  used_late : (o : Operand) (n : ℕ) → Contains i.operands o → n < p.tmps → o.role ≡ LateUse → o.arg ≡ At (Tmp n)
+      → IsUsedLateBy p i (Tmp n)
+  used_late o n c lt r e = (
+    n,
+    (lt, refl),
+    touched p.tmps i.operands o (touch.LateUse n) c
+        (in_role p.tmps W64 LateUse (Tmp n) o (touch.LateUse n) r e (one _ _ refl)),
+  )
 
   apart : (n : ℕ) (reg : Register) → Reg reg ≢ Tmp n
   apart n reg e = cc
 
-  clash_late : (n : ℕ) (reg : Register) → register_of a (Tmp n) ≡ Some reg → IsDefinedBy p i (Reg reg) → IsUsedLateBy p i (Tmp n) → ⊥
+  clash_late : (n : ℕ) (reg : Register) → register_of a (Tmp n) ≡ Some reg → IsDefinedBy p i (Reg reg)
+      → IsUsedLateBy p i (Tmp n) → ⊥
   clash_late n reg e d late =
       proper.apart (Reg reg) (Tmp n) reg (apart n reg, inr (spot block place, i, at, inl (d, inr (inl late)))) refl e
 
-  clash_early : (n : ℕ) (reg : Register) → register_of a (Tmp n) ≡ Some reg → IsDefinedBy p i (Reg reg) → IsEarly i (Reg reg)
+  clash_early : (n : ℕ) (reg : Register) → register_of a (Tmp n) ≡ Some reg → IsDefinedBy p i (Reg reg)
+      → IsEarly i (Reg reg)
       → IsUsedBy p i (Tmp n) ⊎ IsUsedLateBy p i (Tmp n) → ⊥
   clash_early n reg e d early (inl u) =
-      proper.apart (Reg reg) (Tmp n) reg (apart n reg, inr (spot block place, i, at, inl (d, inr (inr (inl (early, u)))))) refl e
+      proper.apart (Reg reg) (Tmp n) reg (
+        apart n reg,
+        inr
+            (spot block place, i, at, inl (d, inr (inr (inl (early, u))))),
+      ) refl e
   clash_early n reg e d early (inr late) = clash_late n reg e d late
 
   -- ---- a child in a temporary
@@ -143,7 +163,8 @@ module _ (p : AirProc) (a : Assignment) (block place : ℕ) (i : AirInst) (good 
         (Contains-append_right is.site.inputs is.site.reported o c)))
 
     the_result : (reg : Register) → result_register v ≡ Some reg
-        → Contains i.operands (record { role = result_role is.stackmap.result; width = width_of v.ty; arg = At (Reg reg) })
+        → Contains i.operands (record
+        { role = result_role is.stackmap.result; width = width_of v.ty; arg = At (Reg reg) })
     the_result reg e =
         let patches : is_patchpoint v.kind.opcode ≡ true = only_patches (is_patchpoint v.kind.opcode) _ _ reg e in
         results _ (rw (is.result patches, e) (0, omega arith, refl))
@@ -152,8 +173,10 @@ module _ (p : AirProc) (a : Assignment) (block place : ℕ) (i : AirInst) (good 
         → IsDefinedBy p i (Reg reg) × IsEarly i (Reg reg)
     early_in reg c = let there = changes _ c in (defined EarlyDef W64 reg (λ n. refl) there, (W64, there))
 
-    module _ (c : Constraint) (o : Operand) (n : ℕ) (reg : Register) (there : Contains i.operands o) (role : o.role ≡ (if is_late c then LateUse else Use))
-        (stands : o.arg ≡ At (Tmp n)) (lt : n < p.tmps) (in_it : register_of a (Tmp n) ≡ Some reg) (within : IsPlace (Reg reg)) where
+    module _ (c : Constraint) (o : Operand) (n : ℕ) (reg : Register) (there : Contains i.operands o)
+        (role : o.role ≡ (if is_late c then LateUse else Use))
+        (stands : o.arg ≡ At (Tmp n)) (lt : n < p.tmps) (in_it : register_of a (Tmp n) ≡ Some reg)
+        (within : IsPlace (Reg reg)) where
       read_late : is_late c ≡ true → IsUsedLateBy p i (Tmp n)
       read_late late = used_late o n there lt (role ∙ ap (λ (b : Bool). if b then LateUse else Use) late) stands
 
@@ -172,13 +195,19 @@ module _ (p : AirProc) (a : Assignment) (block place : ℕ) (i : AirInst) (good 
         early = not_true _ (λ e. no_early ((is.early reg.0).1 (inl e)));
         alone = λ it. no_early ((is.early reg.0).1 (inr it));
         late = λ late. not_true _ (λ e.
-            clash_late n reg in_it (defined Clobber W64 reg (λ n. refl) (changes _ ((is.late reg.0).1 e))) (read_late late));
+            clash_late n reg in_it (defined Clobber W64 reg (λ n. refl) (changes _ ((is.late reg.0).1 e)))
+            (read_late late));
         late_result = λ late e.
-            clash_late n reg in_it (defined (result_role is.stackmap.result) (width_of v.ty) reg (result_writes is.stackmap.result (Reg reg)) (the_result reg e))
+            clash_late n reg in_it (defined (result_role is.stackmap.result) (width_of v.ty) reg
+            (result_writes is.stackmap.result (Reg reg)) (the_result reg e))
             (read_late late);
         early_result = λ is_early e.
             let result = the_result reg e in
-            clash_early n reg in_it (defined (result_role is.stackmap.result) (width_of v.ty) reg (result_writes is.stackmap.result (Reg reg)) result)
-            (width_of v.ty, subst (λ (c : Constraint). Contains i.operands (record { role = result_role c; width = width_of v.ty; arg = At (Reg reg) })) is_early result)
+            clash_early n reg in_it (defined (result_role is.stackmap.result) (width_of v.ty) reg
+            (result_writes is.stackmap.result (Reg reg)) result) (
+              width_of v.ty,
+              subst (λ (c : Constraint). Contains i.operands
+                  (record { role = result_role c; width = width_of v.ty; arg = At (Reg reg) })) is_early result,
+            )
             read;
       }

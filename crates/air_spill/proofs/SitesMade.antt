@@ -56,7 +56,8 @@ some_at [] k lt = absurd (omega (arith, lt))
 some_at (x ∷ xs) zero lt = (x, refl)
 some_at (x ∷ xs) (suc k) lt = some_at xs k (omega (arith, lt))
 
-mapped_at : {A B : Type 0} (f : A → B) (xs : List A) (k : ℕ) (x : A) → slice_get xs k ≡ Some x → slice_get (map f xs) k ≡ Some (f x)
+mapped_at : {A B : Type 0} (f : A → B) (xs : List A) (k : ℕ) (x : A) → slice_get xs k ≡ Some x
+    → slice_get (map f xs) k ≡ Some (f x)
 mapped_at f [] k x e = absurd (cc)
 mapped_at f (y ∷ xs) zero x e = let same : y ≡ x = cc in ap (λ z. Some (f z)) same
 mapped_at f (y ∷ xs) (suc k) x e = mapped_at f xs k x e
@@ -90,17 +91,20 @@ with_width : Width → Option Register → Option (Width × Register)
 with_width width (Some reg) = Some (width, reg)
 with_width width None = None
 
-result_form : (patch : ℕ × Bool) (m : Stackmap) (v : Value) (r : Option Register) → result_by (Some patch) (result_in m v r) ≡ with_width (width_of v.ty) r
+result_form : (patch : ℕ × Bool) (m : Stackmap) (v : Value) (r : Option Register)
+    → result_by (Some patch) (result_in m v r) ≡ with_width (width_of v.ty) r
 unfolding with_width
 result_form patch m v (Some reg) = refl
 result_form patch m v None = refl
 
-with_itself : (width : Width) (given r : Option Register) → given ≡ r → IfSome (with_width width r) (λ (result : Width × Register). given ≡ Some result.1)
+with_itself : (width : Width) (given r : Option Register) → given ≡ r
+    → IfSome (with_width width r) (λ (result : Width × Register). given ≡ Some result.1)
 unfolding with_width
 with_itself width given (Some reg) e = e
 with_itself width given None e = tt
 
-has_result_by : (typed : Bool) (width : Width) (o r : Option Register) (site : Site) → cond typed o None ≡ r → (typed ≡ true → o ≡ None → ⊥)
+has_result_by : (typed : Bool) (width : Width) (o r : Option Register) (site : Site) → cond typed o None ≡ r
+    → (typed ≡ true → o ≡ None → ⊥)
     → site.result ≡ with_width width r → HasResult typed width site
 unfolding with_width
 has_result_by true width o (Some reg) site e some is = (reg, is)
@@ -114,7 +118,8 @@ module _ (p : AirProc) (a : Assignment) (proper : IsProper p a) where
   place_of k (Some None) lt e = tt
   place_of k None lt e = absurd (let there = slice_get-get_or a.homes k None (omega (arith, lt, proper.tmps)) in cc)
 
-module _ (p : AirProc) (a : Assignment) (block place : ℕ) (i : AirInst) (good : IsWellFormed p) (proper : IsProper p a) (at : StandsAt p block place i)
+module _ (p : AirProc) (a : Assignment) (block place : ℕ) (i : AirInst) (good : IsWellFormed p) (proper : IsProper p a)
+    (at : StandsAt p block place i)
     (b3 : Procedure) (v : Value) (fits : Fits v) (placeable : IsPlaceable v) (is : IsExpressed b3 v i) (site : Site)
     (from : IsSiteFrom (rename_inst (home_by a) i) (renamed_site (home_by a) is.site) site) where
   abbrev m : Stackmap
@@ -143,11 +148,13 @@ module _ (p : AirProc) (a : Assignment) (block place : ℕ) (i : AirInst) (good 
   of_child : (k : ℕ) (given : Place) → slice_get site.reps k ≡ Some given → OfChild k given
   of_child k given e =
       let within : k < reported_count v = (let lt = slice_get_within site.reps k given e in omega (arith, lt, count)) in
-      let rest = reported_least (row_of v.kind.opcode).more k (length v.children - length (row_of v.kind.opcode).takes) within in
+      let rest = reported_least (row_of v.kind.opcode).more k
+      (length v.children - length (row_of v.kind.opcode).takes) within in
       let id = some_at v.children (length (row_of v.kind.opcode).takes + k) (omega (arith, rest)) in
       let c = some_at m.constraints k (omega (arith, within, constraints)) in
       let o = some_at is.site.reported k (let n = is.count in omega (arith, within, n)) in
-      let fit = from.places k (rename (home_by a) o.0) given (mapped_at (rename (home_by a)) is.site.reported k o.0 o.1) e in
+      let fit = from.places k (rename (home_by a) o.0) given
+      (mapped_at (rename (home_by a)) is.site.reported k o.0 o.1) e in
       record {
         id = id.0;
         there = id.1;
@@ -164,16 +171,19 @@ module _ (p : AirProc) (a : Assignment) (block place : ℕ) (i : AirInst) (good 
   listed_there k given child =
       reports p a block place i good proper at b3 v is child.o (contains_at is.site.reported k child.o child.reported)
 
-  own_arg : (k : ℕ) (given : Place) (child : OfChild k given) (arg : Arg) → child.o.arg ≡ arg → NamesOwn p child.o.role arg
+  own_arg : (k : ℕ) (given : Place) (child : OfChild k given) (arg : Arg) → child.o.arg ≡ arg
+      → NamesOwn p child.o.role arg
   own_arg k given child arg e =
       subst (NamesOwn p child.o.role) e (own p a block place i good proper at child.o (listed_there k given child))
 
-  free : (k : ℕ) (given : Place) (child : OfChild k given) (reg : Register) (arg : Arg) → child.o.arg ≡ arg → StandsAnywhere IsTemporary b3 child.id arg
+  free : (k : ℕ) (given : Place) (child : OfChild k given) (reg : Register) (arg : Arg) → child.o.arg ≡ arg
+      → StandsAnywhere IsTemporary b3 child.id arg
       → IsRepOf (rename_arg (home_by a) arg) (rep.Register reg) → FreeKeeps v m child.c reg
   free k given child reg (At (Tmp n)) e anywhere is_rep =
       let lt = is_tmp p child.o.role n (own_arg k given child (At (Tmp n)) e) in
       let there = home_of (home_by a (Tmp n)) reg is_rep in
-      free_keeps p a block place i good proper at b3 v is child.c child.o n reg (listed_there k given child) child.is_child.role e lt
+      free_keeps p a block place i good proper at b3 v is child.c child.o n reg (listed_there k given child)
+      child.is_child.role e lt
       (in_register a (Tmp n) reg there)
       (subst IsPlace there (place_of p a proper n (slice_get a.homes n) lt refl))
   free k given child reg (At (Reg r)) e anywhere is_rep = absurd anywhere
@@ -183,7 +193,8 @@ module _ (p : AirProc) (a : Assignment) (block place : ℕ) (i : AirInst) (good 
   free k given child reg (Index base index shift) e anywhere is_rep = absurd anywhere
   free k given child reg (FrameSlot number) e anywhere is_rep = absurd anywhere
 
-  how : (k : ℕ) (given : Place) (child : OfChild k given) (r : Option Register) → register_for v k ≡ r → StandsBy IsTemporary b3 child.id r child.o.arg
+  how : (k : ℕ) (given : Place) (child : OfChild k given) (r : Option Register) → register_for v k ≡ r
+      → StandsBy IsTemporary b3 child.id r child.o.arg
       → HowStands v m k child.c given.rep
   how k given child (Some reg) e by =
       inl (reg, e, subst (λ (arg : Arg). IsRepOf (rename_arg (home_by a) arg) given.rep) by child.stands)
@@ -201,14 +212,16 @@ module _ (p : AirProc) (a : Assignment) (block place : ℕ) (i : AirInst) (good 
       (subst (λ (x : Constraint). HowStands v m k x placed.place.rep) same
       (how k placed.place child (register_for v k) refl child.is_child.stands))
 
-  stands_for : (id : ℕ) (r : Rep) (arg : Arg) → StandsAnywhere IsTemporary b3 id arg → IsRepOf (rename_arg (home_by a) arg) r → StandsForIt b3 id r
+  stands_for : (id : ℕ) (r : Rep) (arg : Arg) → StandsAnywhere IsTemporary b3 id arg
+      → IsRepOf (rename_arg (home_by a) arg) r → StandsForIt b3 id r
   stands_for id r (At h) anywhere is_rep = no_constant b3 id (home_by a h) r is_rep
   stands_for id r (Imm word) anywhere is_rep = subst (StandsForIt b3 id) (sym is_rep) anywhere
   stands_for id r (Addr base offset) anywhere is_rep = absurd anywhere
   stands_for id r (Index base index shift) anywhere is_rep = absurd anywhere
   stands_for id r (FrameSlot number) anywhere is_rep = absurd anywhere
 
-  stands_by : (id : ℕ) (r : Rep) (reg : Option Register) (arg : Arg) → StandsBy IsTemporary b3 id reg arg → IsRepOf (rename_arg (home_by a) arg) r
+  stands_by : (id : ℕ) (r : Rep) (reg : Option Register) (arg : Arg) → StandsBy IsTemporary b3 id reg arg
+      → IsRepOf (rename_arg (home_by a) arg) r
       → StandsForIt b3 id r
   stands_by id r (Some reg) arg by is_rep =
       subst (StandsForIt b3 id) (sym (subst (λ (x : Arg). IsRepOf (rename_arg (home_by a) x) r) by is_rep)) tt
@@ -236,7 +249,8 @@ module _ (p : AirProc) (a : Assignment) (block place : ℕ) (i : AirInst) (good 
   some_result : has_result v ≡ true → result_by_rule (stackmap_in v.body) ≡ None → ⊥
   some_result typed none =
       result_is_some m
-      (subst (λ (b : Bool). HasRegisters b m) typed (subst (λ (x : Stackmap). HasRegisters (has_result v) x) same_map placeable.enough))
+      (subst (λ (b : Bool). HasRegisters b m) typed
+      (subst (λ (x : Stackmap). HasRegisters (has_result v) x) same_map placeable.enough))
       (subst (λ (x : Stackmap). MayResult x.result) same_map (placeable.constraints.result typed))
       (ap result_by_rule (sym is.carries) ∙ none)
 
@@ -247,16 +261,19 @@ module _ (p : AirProc) (a : Assignment) (block place : ℕ) (i : AirInst) (good 
   patch_result : IsPatchOf m v i.op → site.result ≡ with_width (width_of v.ty) (result_register v)
   patch_result patch =
       from.result ∙ ap (λ (o : Option (ℕ × Bool)). result_by o (map (rename (home_by a)) is.site.results)) patch.op
-      ∙ ap (λ (os : List Operand). result_by (Some (m.size, patch.typed)) (map (rename (home_by a)) os)) (is.result (ap is_patchpoint patch.opcode))
+      ∙ ap (λ (os : List Operand). result_by (Some (m.size, patch.typed)) (map (rename (home_by a)) os))
+      (is.result (ap is_patchpoint patch.opcode))
       ∙ ap (result_by (Some (m.size, patch.typed))) (result_stays (result_register v))
       ∙ result_form (m.size, patch.typed) m v (result_register v)
 
   check_result : IsCheckOf m v i.op → site.result ≡ None
-  check_result check = from.result ∙ ap (λ (o : Option (ℕ × Bool)). result_by o (map (rename (home_by a)) is.site.results)) check.op
+  check_result check =
+      from.result ∙ ap (λ (o : Option (ℕ × Bool)). result_by o (map (rename (home_by a)) is.site.results)) check.op
 
   one_result : IsOne site.result
   one_result = elim (op_is m v i.op is.op) [
-    | inl patch ↦ subst IsOne (sym (patch_result patch)) (with_itself (width_of v.ty) (result_register v) (result_register v) refl)
+    | inl patch ↦ subst IsOne (sym (patch_result patch))
+        (with_itself (width_of v.ty) (result_register v) (result_register v) refl)
     | inr check ↦ subst IsOne (sym (check_result check)) tt
   ]
 
@@ -265,8 +282,10 @@ module _ (p : AirProc) (a : Assignment) (block place : ℕ) (i : AirInst) (good 
 
   its_result : HasResult (has_result v) (width_of v.ty) site
   its_result = elim (op_is m v i.op is.op) [
-    | inl patch ↦ has_result_by (has_result v) (width_of v.ty) (result_by_rule (stackmap_in v.body)) (result_register v) site refl some_result (patch_result patch)
-    | inr check ↦ subst (λ (b : Bool). HasResult b (width_of v.ty) site) (sym (no_result check.by.patches)) (check_result check)
+    | inl patch ↦ has_result_by (has_result v) (width_of v.ty) (result_by_rule (stackmap_in v.body))
+        (result_register v) site refl some_result (patch_result patch)
+    | inr check ↦ subst (λ (b : Bool). HasResult b (width_of v.ty) site) (sym (no_result check.by.patches))
+        (check_result check)
   ]
 
   -- ---- the rest
@@ -292,8 +311,10 @@ module _ (p : AirProc) (a : Assignment) (block place : ℕ) (i : AirInst) (good 
   clobbers : is_patchpoint v.kind.opcode ≡ true → (reg : Register) → (has site.clobbers reg.0 ≡ true) ↔ Asked reg.0
   clobbers patches reg = elim (op_is m v i.op is.op) [
     | inl patch ↦
-        let now = subst (λ (os : List Operand). Clobbers (Some (m.size, patch.typed)) os) (site-renamed (home_by a) (stays a) i.op is.site is.fits).1
-        (subst (λ (o : Option (ℕ × Bool)). Clobbers o (map (rename (home_by a)) is.site.changed)) patch.op from.clobbers) in
+        let now = subst (λ (os : List Operand). Clobbers (Some (m.size, patch.typed)) os)
+        (site-renamed (home_by a) (stays a) i.op is.site is.fits).1
+        (subst (λ (o : Option (ℕ × Bool)). Clobbers o (map (rename (home_by a)) is.site.changed)) patch.op
+        from.clobbers) in
         (λ listed. asked reg.0 ((now reg.0).0 listed), λ any. (now reg.0).1 (changed reg.0 any))
     | inr check ↦ absurd (let no = check.by.patches in cc)
   ]
@@ -301,7 +322,8 @@ module _ (p : AirProc) (a : Assignment) (block place : ℕ) (i : AirInst) (good 
   no_clobbers : is_patchpoint v.kind.opcode ≡ false → site.clobbers ≡ 0
   no_clobbers none = elim (op_is m v i.op is.op) [
     | inl patch ↦ absurd (let yes = ap is_patchpoint patch.opcode in cc)
-    | inr check ↦ subst (λ (o : Option (ℕ × Bool)). Clobbers o (map (rename (home_by a)) is.site.changed)) check.op from.clobbers
+    | inr check ↦ subst (λ (o : Option (ℕ × Bool)). Clobbers o (map (rename (home_by a)) is.site.changed)) check.op
+        from.clobbers
   ]
 
   its_kind : kind_by (patch_in i.op) ≡ kind_of v.kind.opcode

@@ -50,7 +50,8 @@ HowStands v map k c where_ = IsPlacedAt v k where_ ⊎ IsFree v map k c where_
 
 -- ---- kinds
 
-placed_kind : (map : Stackmap) (typed : Bool) (k : ℕ) (c : Constraint) (reg : Reg) → child_register map typed k (Some c) ≡ Some reg
+placed_kind : (map : Stackmap) (typed : Bool) (k : ℕ) (c : Constraint) (reg : Reg)
+    → child_register map typed k (Some c) ≡ Some reg
     → HasKind c (rep.Register reg)
 placed_kind map typed k WarmAny reg e = tt
 placed_kind map typed k ColdAny reg e = tt
@@ -67,11 +68,13 @@ free_kind : (map : Stackmap) (typed : Bool) (k : ℕ) (c : Constraint) (where_ :
 free_kind map typed k WarmAny where_ enough at e = tt
 free_kind map typed k ColdAny where_ enough at e = tt
 free_kind map typed k LateColdAny where_ enough at e = tt
-free_kind map typed k SomeRegister where_ enough at e = absurd (placed_is_some typed map k SomeRegister enough at refl e)
+free_kind map typed k SomeRegister where_ enough at e =
+    absurd (placed_is_some typed map k SomeRegister enough at refl e)
 free_kind map typed k SomeRegisterWithClobber where_ enough at e =
     absurd (placed_is_some typed map k SomeRegisterWithClobber enough at refl e)
 free_kind map typed k SomeEarlyRegister where_ enough at e = tt
-free_kind map typed k SomeLateRegister where_ enough at e = absurd (placed_is_some typed map k SomeLateRegister enough at refl e)
+free_kind map typed k SomeLateRegister where_ enough at e =
+    absurd (placed_is_some typed map k SomeLateRegister enough at refl e)
 free_kind map typed k (Fixed r) where_ enough at e = absurd (cc)
 free_kind map typed k (LateFixed r) where_ enough at e = absurd (cc)
 
@@ -88,14 +91,17 @@ unplaced SomeLateRegister reg e = refl
 unplaced (Fixed r) reg e = refl
 unplaced (LateFixed r) reg e = refl
 
-if_fixed : (test : Bool) (given fixed : Option Reg) (r reg : Reg) → cond test given fixed ≡ Some r → test ≡ false → fixed ≡ Some reg → r ≡ reg
+if_fixed : (test : Bool) (given fixed : Option Reg) (r reg : Reg) → cond test given fixed ≡ Some r → test ≡ false
+    → fixed ≡ Some reg → r ≡ reg
 if_fixed true given fixed r reg e none is = absurd (cc)
 if_fixed false given fixed r reg e none is = cc
 
-fixed_result_is : (typed : Bool) (map : Stackmap) (r reg : Reg) → cond typed (result_in (Some map)) None ≡ Some r → fixed_by map.result ≡ Some reg
+fixed_result_is : (typed : Bool) (map : Stackmap) (r reg : Reg) → cond typed (result_in (Some map)) None ≡ Some r
+    → fixed_by map.result ≡ Some reg
     → r ≡ reg
 fixed_result_is true map r reg e fixed =
-    if_fixed (is_placed_result map.result) (nth_allowed map true (placed_count map.constraints)) (fixed_by map.result) r reg e
+    if_fixed (is_placed_result map.result) (nth_allowed map true (placed_count map.constraints)) (fixed_by map.result)
+    r reg e
     (unplaced map.result reg fixed) fixed
 fixed_result_is false map r reg e fixed = absurd (cc)
 
@@ -103,7 +109,8 @@ pub allocatable_low : (reg : Reg) → IsAllocatable reg → reg.0 ≤ 30
 allocatable_low reg (inl low) = omega (arith, low)
 allocatable_low reg (inr high) = omega (arith, high.1)
 
-module _ (v : Value) (map : Stackmap) (carries : stackmap_in v.body ≡ Some map) (placeable : IsPlaceable v) (site : Site)
+module _ (v : Value) (map : Stackmap) (carries : stackmap_in v.body ≡ Some map) (placeable : IsPlaceable v)
+    (site : Site)
     (count : length site.reps ≡ length map.constraints)
     (stands : (k : ℕ) (c : Constraint) (where_ : Rep) → IsChild map site k c where_ → HowStands v map k c where_) where
   obey : PlacesObey v map
@@ -114,7 +121,8 @@ module _ (v : Value) (map : Stackmap) (carries : stackmap_in v.body ≡ Some map
       let same : placeable.stackmap ≡ map = (let e = placeable.carries in cc) in
       subst (λ (m : Stackmap). HasRegisters (has_result v) m) same placeable.enough
 
-  asked : (k : ℕ) (c : Constraint) → slice_get map.constraints k ≡ Some c → register_for v k ≡ child_register map (has_result v) k (Some c)
+  asked : (k : ℕ) (c : Constraint) → slice_get map.constraints k ≡ Some c
+      → register_for v k ≡ child_register map (has_result v) k (Some c)
   asked k c at =
       ap (λ (o : Option Stackmap). register_in o (has_result v) k) carries ∙ ap (child_register map (has_result v) k) at
 
@@ -123,11 +131,13 @@ module _ (v : Value) (map : Stackmap) (carries : stackmap_in v.body ≡ Some map
 
   kind : (k : ℕ) (c : Constraint) (where_ : Rep) → IsChild map site k c where_ → HasKind c where_
   kind k c where_ child = elim (stands k c where_ child) [
-    | inl at ↦ subst (HasKind c) (sym at.2) (placed_kind map (has_result v) k c at.0 (sym (asked k c child.asks) ∙ at.1))
+    | inl at ↦ subst (HasKind c) (sym at.2) (placed_kind map (has_result v) k c at.0
+        (sym (asked k c child.asks) ∙ at.1))
     | inr free ↦ free_kind map (has_result v) k c where_ enough child.asks (sym (asked k c child.asks) ∙ free.0)
   ]
 
-  free_named : (c : Constraint) (where_ : Rep) → ((reg : Reg) → where_ ≡ rep.Register reg → FreeKeeps v map c reg) → IsNamed where_
+  free_named : (c : Constraint) (where_ : Rep) → ((reg : Reg) → where_ ≡ rep.Register reg → FreeKeeps v map c reg)
+      → IsNamed where_
   free_named c (rep.Register reg) keeps = allocatable_low reg (keeps reg refl).within
   free_named c (rep.Slot offset) keeps = tt
   free_named c (rep.Constant word) keeps = tt
@@ -154,7 +164,8 @@ module _ (v : Value) (map : Stackmap) (carries : stackmap_in v.body ≡ Some map
         (sym (asked k SomeRegisterWithClobber child.asks) ∙ free.0))
   ]
 
-  clobbers_it : (k : ℕ) (reg : Reg) → IsChild map site k SomeRegisterWithClobber (rep.Register reg) → register_for v k ≡ Some reg
+  clobbers_it : (k : ℕ) (reg : Reg) → IsChild map site k SomeRegisterWithClobber (rep.Register reg)
+      → register_for v k ≡ Some reg
   clobbers_it k reg child =
       let at = clobberer k (rep.Register reg) child in at.1 ∙ ap Some (sym (same_register reg at.0 at.2))
 
@@ -163,25 +174,36 @@ module _ (v : Value) (map : Stackmap) (carries : stackmap_in v.body ≡ Some map
 
   has_clobbered : (reg : Reg) → ClobbersIt map v reg.0 → HasClobbered map site reg
   has_clobbered reg (k, asks, at) =
-      let there = slice_get-get_or site.reps k first (let lt = slice_get_within map.constraints k SomeRegisterWithClobber asks in rw count lt) in
-      let child : IsChild map site k SomeRegisterWithClobber _ = record { place = _; asks = asks; reported = there; stands = refl } in
+      let there = slice_get-get_or site.reps k first
+      (let lt = slice_get_within map.constraints k SomeRegisterWithClobber asks in rw count lt) in
+      let child : IsChild map site k SomeRegisterWithClobber _ = record
+      { place = _; asks = asks; reported = there; stands = refl } in
       let is = clobberer k _ child in
       let same : is.0 ≡ reg = (let e = is.1 in cc) in
-      record { child = k; is = subst (λ (w : Rep). IsChild map site k SomeRegisterWithClobber w) (is.2 ∙ ap rep.Register same) child }
+      record {
+        child = k;
+        is = subst (λ (w : Rep). IsChild map site k SomeRegisterWithClobber w)
+            (is.2 ∙ ap rep.Register same) child;
+      }
     where
       first : Place
       first = record { width = W32; rep = rep.Slot 0 }
 
-  not_late : (k : ℕ) (c : Constraint) → slice_get map.constraints k ≡ Some SomeRegisterWithClobber → slice_get map.constraints k ≡ Some c
+  not_late : (k : ℕ) (c : Constraint) → slice_get map.constraints k ≡ Some SomeRegisterWithClobber
+      → slice_get map.constraints k ≡ Some c
       → is_late c ≡ true → ⊥
   not_late k c e at late =
-      let same : c ≡ SomeRegisterWithClobber = cc in let no = subst (λ (x : Constraint). is_late x ≡ true) same late in cc
+      let same : c ≡ SomeRegisterWithClobber = cc in
+      let no = subst (λ (x : Constraint). is_late x ≡ true) same late in
+      cc
 
-  late_clobbered : (k : ℕ) (c : Constraint) (reg : Reg) → IsChild map site k c (rep.Register reg) → is_late c ≡ true → HasClobbered map site reg → ⊥
+  late_clobbered : (k : ℕ) (c : Constraint) (reg : Reg) → IsChild map site k c (rep.Register reg) → is_late c ≡ true
+      → HasClobbered map site reg → ⊥
   late_clobbered k c reg child late clobbers = elim (by_register k c reg child) [
     | inl at ↦
         let same = obey.apart clobbers.child k reg (clobbers_it clobbers.child reg clobbers.is) at in
-        not_late k c (subst (λ (n : ℕ). slice_get map.constraints n ≡ Some SomeRegisterWithClobber) same clobbers.is.asks) child.asks late
+        not_late k c (subst (λ (n : ℕ). slice_get map.constraints n ≡ Some SomeRegisterWithClobber) same
+        clobbers.is.asks) child.asks late
     | inr free ↦ free.alone (is_it clobbers.child reg clobbers.is)
   ]
 
@@ -201,21 +223,28 @@ module _ (v : Value) (map : Stackmap) (carries : stackmap_in v.body ≡ Some map
     late = λ k c reg child late. (
       elim (by_register k c reg child) [ inl at ↦ obey.late k c reg child.asks late at | inr free ↦ free.late late ],
       late_clobbered k c reg child late,
-      if_some (λ (r : Width × Reg). result_register v ≡ Some r.1) (λ (r : Width × Reg). r.1 ≢ reg) site.result placed (λ r is same.
+      if_some (λ (r : Width × Reg). result_register v ≡ Some r.1) (λ (r : Width × Reg). r.1 ≢ reg) site.result placed
+          (λ r is same.
           let here : result_register v ≡ Some reg = is ∙ ap Some same in
           elim (by_register k c reg child) [
             | inl at ↦ obey.late_result k c reg child.asks late at here
             | inr free ↦ free.late_result late here
           ]),
     );
-    result = if_some (λ (r : Width × Reg). result_register v ≡ Some r.1) (λ (r : Width × Reg). (r.1.0 ≤ 30) × (has map.late r.1.0 ≡ false))
+    result = if_some (λ (r : Width × Reg). result_register v ≡ Some r.1)
+        (λ (r : Width × Reg). (r.1.0 ≤ 30) × (has map.late r.1.0 ≡ false))
         site.result placed (λ r is. let keeps = obey.result r.1 is in (allocatable_low r.1 keeps.0, keeps.1));
     early_result = λ is_early. if_some (λ (r : Width × Reg). result_register v ≡ Some r.1)
-        (λ (r : Width × Reg). (has map.early r.1.0 ≡ false) × ((k : ℕ) (c : Constraint) → ¬ (IsChild map site k c (rep.Register r.1))))
+        (λ (r : Width × Reg). (has map.early r.1.0 ≡ false) ×
+        ((k : ℕ) (c : Constraint) → ¬ (IsChild map site k c (rep.Register r.1))))
         site.result placed (λ r is.
-        let keeps = obey.early_result is_early r.1 is in
-        (keeps.0, λ k c child. elim (by_register k c r.1 child) [ inl at ↦ keeps.1 k at | inr free ↦ free.early_result is_early is ]));
-    fixed_result = λ reg fixed. if_some (λ (r : Width × Reg). result_register v ≡ Some r.1) (λ (r : Width × Reg). r.1 ≡ reg) site.result placed
+        let keeps = obey.early_result is_early r.1 is in (
+          keeps.0,
+          λ k c child. elim (by_register k c r.1 child)
+              [ inl at ↦ keeps.1 k at | inr free ↦ free.early_result is_early is ],
+        ));
+    fixed_result = λ reg fixed. if_some (λ (r : Width × Reg). result_register v ≡ Some r.1)
+        (λ (r : Width × Reg). r.1 ≡ reg) site.result placed
         (λ r is. fixed_result_is (has_result v) map r.1 reg
         (sym (ap (λ (o : Option Stackmap). cond (has_result v) (result_in o) None) carries) ∙ is) fixed);
     clobbers = λ patchpoint reg. (
