@@ -3,3 +3,4 @@ pub mod Frames
 pub mod Placing
 pub mod Targets
 pub mod Marks
+pub mod Counts

@@ -3,6 +3,7 @@
 #![tactic(auto)]
 
 mod frame;
+mod laws;
 mod placing;
 mod registers;
 mod spills;
@@ -10,3 +11,4 @@ mod spills;
 mod tests;
 
 pub use frame::layout;
+pub use laws::spill_counts;

@@ -1,8 +1,8 @@
 -- No public clause cites this module. Instructions that are expressed for a patchpoint and for a check.
-use Rattle.std.proofs.Common.{◌≡◌, ◌+◌, ℕ, zero, suc, inl, inr, true, false, List, [], ◌∷◌, length, Option, Some, None, refl, ap, subst, arith, lit<, lit≤, slice_get, codes, Contains}
+use Rattle.std.proofs.Common.{◌≡◌, ◌↔◌, ◌⊎◌, ◌+◌, ℕ, zero, suc, inl, inr, true, false, List, [], ◌∷◌, length, Option, Some, None, refl, ap, subst, arith, lit<, lit≤, slice_get, codes, Contains}
 use Rattle.std.proofs.lemmas.Bool.{false≢true}
 use Rattle.std.proofs.lemmas.List.Elements.{All-from_recursion}
-use Rattle.std.proofs.lemmas.Nat.Bits.{bit_at-zero}
+use Rattle.std.proofs.lemmas.Nat.Bits.{bit_at-pow_other, bit_at-zero}
 use Rattle.b3_base.specs.declared.word.Width.TheVariants.{W64}
 use Rattle.b3_ir.specs.Procedure.{Procedure}
 use Rattle.b3_ir.specs.Table.{row_of}
@@ -17,8 +17,14 @@ use Rattle.b3_ir.specs.declared.value.Reg.{Reg as Register}
 use Rattle.b3_ir.specs.declared.value.Stackmap.{Stackmap}
 use Rattle.b3_ir.specs.declared.value.Value.{Value}
 use Rattle.stackmap.specs.Registers.{allocatable, has}
+use Rattle.stackmap.specs.declared.site.Place.{Place}
+use Rattle.stackmap.specs.declared.site.Rep.{Rep}
+use Rattle.stackmap.specs.declared.site.Rep.TheVariants as rep
+use Rattle.stackmap.specs.declared.site.Site.{Site}
+use Rattle.stackmap.specs.declared.site.SiteKind.TheVariants as kind
 use Rattle.air_ir.specs.Expressed.{ClobbersIt, IsChild, IsExpressed, IsExpressedIn, IsExpressedInPlaces, IsPlace, IsTemporary}
 use Rattle.air_ir.specs.Forms.{AllFit, IsChanged, IsReported, SiteFits, SiteOperands, operand_in}
+use Rattle.air_ir.specs.SitesInPlaces.{IsRepOf, IsSiteFrom}
 use Rattle.air_ir.specs.declared.op.AirOp.{AirOp}
 use Rattle.air_ir.specs.declared.op.AirOp.TheVariants as op
 use Rattle.air_ir.specs.declared.op.Test.TheVariants.{NonZero}
@@ -240,3 +246,96 @@ check_is_selected = check_is_expressed IsTemporary (Tmp 7) tt
 
 check_is_spilled : IsExpressedInPlaces procedure check (check_at (Spill 7))
 check_is_spilled = check_is_expressed IsPlace (Spill 7) tt
+
+-- ---- the sites that are read off them
+
+abbrev in_place : Rep → Place
+in_place where_ = record { width = W64; rep = where_ }
+
+-- the patchpoint's first word stands in x0, which it may change
+abbrev patch_site : Site
+patch_site = record {
+  kind = kind.Patchpoint;
+  value = 3;
+  size = 4;
+  reps = in_place (rep.Register (register 0)) ∷ in_place (rep.Constant 5) ∷ [];
+  result = Some (W64, register 1);
+  clobbers = 1;
+}
+
+abbrev StandsSo : Operand → Place → Type 0
+StandsSo o place = (place.width ≡ o.width) × IsRepOf o.arg place.rep
+
+stands_so : (o u : Operand) (given place : Place) → Some o ≡ Some u → Some given ≡ Some place → StandsSo o given
+    → StandsSo u place
+stands_so o u given place e f so =
+    let p : o ≡ u = cc in
+    let q : given ≡ place = cc in
+    subst (λ (x : Operand). StandsSo x place) p (subst (StandsSo o) q so)
+
+patch_places : (k : ℕ) (o : Operand) (place : Place) → slice_get reported k ≡ Some o
+    → slice_get patch_site.reps k ≡ Some place → StandsSo o place
+patch_places zero o place e f =
+    stands_so (operand_in Use W64 0) o (in_place (rep.Register (register 0))) place e f (refl, refl)
+patch_places (suc zero) o place e f = stands_so constant o (in_place (rep.Constant 5)) place e f (refl, refl)
+patch_places (suc (suc k)) o place e f = absurd (cc)
+
+lowest : (r : ℕ) → (has 1 r ≡ true)
+    ↔ (Contains changed (operand_in EarlyDef W64 r) ⊎ Contains changed (operand_in Clobber W64 r))
+lowest zero = (λ e. inl (0, lit< tt, refl), λ c. refl)
+lowest (suc k) = (
+  λ e. absurd (false≢true (rw (bit_at-pow_other 0 (suc k) (λ e. cc)) at e)),
+  λ c. absurd (elim c [
+    | inl early ↦ (let none : 0 ≡ suc k = only early in cc)
+    | inr late ↦ not_clobbered (suc k) late
+  ]),
+)
+  where
+    only : Contains changed (operand_in EarlyDef W64 (suc k)) → 0 ≡ suc k
+    only (zero, less, e) = ap (λ (o : Operand). number_in o.arg) e
+    only (suc j, less, e) = absurd (omega (arith, less))
+
+is_patch_site : IsSiteFrom patch site patch_site
+is_patch_site = record {
+  value = refl;
+  kind = refl;
+  size = refl;
+  count = refl;
+  places = patch_places;
+  result = refl;
+  clobbers = lowest;
+}
+
+-- the check's second word stands in the frame, wherever
+abbrev exit_site : ℕ → Site
+exit_site offset = record {
+  kind = kind.Exit;
+  value = 4;
+  size = 1;
+  reps = in_place (rep.Constant 5) ∷ in_place (rep.Slot offset) ∷ [];
+  result = None;
+  clobbers = 0;
+}
+
+check_parts : SiteOperands
+check_parts = record { inputs = tested ∷ []; reported = constant ∷ late_at (Spill 7) ∷ []; changed = []; results = [] }
+
+exit_places : (offset k : ℕ) (o : Operand) (place : Place) → slice_get check_parts.reported k ≡ Some o
+    → slice_get (exit_site offset).reps k ≡ Some place → StandsSo o place
+unfolding check_parts
+exit_places offset zero o place e f = stands_so constant o (in_place (rep.Constant 5)) place e f (refl, refl)
+exit_places offset (suc zero) o place e f =
+    stands_so (late_at (Spill 7)) o (in_place (rep.Slot offset)) place e f (refl, tt)
+exit_places offset (suc (suc k)) o place e f = absurd (cc)
+
+is_exit_site : (offset : ℕ) → IsSiteFrom (check_at (Spill 7)) check_parts (exit_site offset)
+unfolding check_parts
+is_exit_site offset = record {
+  value = refl;
+  kind = refl;
+  size = refl;
+  count = refl;
+  places = exit_places offset;
+  result = refl;
+  clobbers = refl;
+}

@@ -1,9 +1,7 @@
 -- By a proper assignment, what an instruction writes becomes no other home that is kept.
-use Rattle.std.proofs.Common.{◌≡◌, ◌≢◌, ℕ, ◌+◌, inl, inr, Some, List, [], ◌∷◌, All, refl, sym, subst}
+use Rattle.std.proofs.Common.{◌≡◌, ◌≢◌, ℕ, inl, inr, List, [], ◌∷◌, All, refl, sym, subst}
 use Rattle.std.proofs.lemmas.List.Elements.{All-head, All-tail}
 use Rattle.flow_live.specs.Graph.{Place}
-use Rattle.flow_live.specs.declared.touch.Touch.TheVariants as touch
-use Rattle.b3_ir.specs.declared.value.Reg.{Reg as Register}
 use Rattle.air_ir.specs.Kinds.{Copies, kind_of}
 use Rattle.air_ir.specs.Operands.{targets}
 use Rattle.air_ir.specs.Related.{AreFine, IsApart, IsOneOf, IsTarget, homes_of}
@@ -18,15 +16,13 @@ use Rattle.air_ir.specs.declared.operand.Operand.{Operand}
 use Rattle.air_ir.specs.declared.procedure.AirBlock.{AirBlock}
 use Rattle.air_ir.specs.declared.procedure.AirInst.{AirInst}
 use Rattle.air_ir.specs.declared.procedure.AirProc.{AirProc}
-use Rattle.air_flow.specs.Flow.{touches_of}
 use Rattle.air_flow.specs.Interfere.{IsCopied, IsPair}
-use Rattle.air_flow.specs.Living.{IsDefinedBy, IsKept, IsKeptAfter, IsNamedIn}
-use Rattle.air_flow.specs.Proper.{IsProper, register_of}
-use Rattle.air_flow.proofs.Among.{contains_among}
+use Rattle.air_flow.specs.Living.{IsKept, IsKeptAfter, IsNamedIn}
+use Rattle.air_flow.specs.Proper.{IsProper}
 use Rattle.air_flow.proofs.Apart.{defined, writes_apart}
 use Rattle.air_flow.proofs.Lives.{spot}
-use Rattle.air_flow.proofs.Names.{all_at, named_of, owns_of}
-use Rattle.air_flow.proofs.Touching.{target_is_defined, target_is_named}
+use Rattle.air_flow.proofs.Names.{all_at}
+use Rattle.air_flow.proofs.Touching.{target_is_named}
 use Rattle.air_spill.specs.Rewritten.{first_spill, home_by}
 use Rattle.air_spill.proofs.Places.{become_one}
 

@@ -11,3 +11,8 @@ pub mod Lighter
 pub mod SpillNames
 pub mod Sites
 pub mod NewPlaces
+pub mod SitesObey
+pub mod SiteParts
+pub mod SiteOps
+pub mod SitesMade
+pub mod PartsOnce

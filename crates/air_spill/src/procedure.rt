@@ -93,7 +93,8 @@ pub(crate) fn rewritten_blocks(
 
 /// Puts each temporary of a procedure into its register, or into the spill place of its number and 56 more. A Move,
 /// or a pair of a Shuffle, whose two homes become one is left out, at any width, and so is a Shuffle without
-/// pairs. All else stays. It is refused for want of memory alone.
+/// pairs. All else stays. The sites of an instruction that is expressed for a value obey its constraints. It is
+/// refused for want of memory alone.
 pub fn rewrite(alloc: Global, p: AirProc, assignment: &Assignment) -> Result<AirProc, NoMemory>
     requires well { IsWellFormed p }
     requires proper { IsProper p assignment.now }
