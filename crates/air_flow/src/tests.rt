@@ -18,11 +18,11 @@ use std::alloc::Global;
 use std::process::Abort;
 use std::test::Fail;
 
-const T0: Home = Home::Tmp(0);
+const TMP0: Home = Home::Tmp(0);
 
-const T1: Home = Home::Tmp(1);
+const TMP1: Home = Home::Tmp(1);
 
-const T2: Home = Home::Tmp(2);
+const TMP2: Home = Home::Tmp(2);
 
 fn x(number: u8) -> Home {
     Home::Reg(Reg(number))
@@ -95,12 +95,12 @@ fn touches_of(alloc: Global, op: AirOp, operands: &[Operand]) -> Result<Seq<Touc
 #[test]
 fn a_shuffle_touches_each_pair_in_order(rt: HostRuntime) -> Result<(), Fail> {
     let operands = [
-        at(Role::Use, T0),
+        at(Role::Use, TMP0),
         at(Role::Def, x(30)),
         operand(Role::Use, Arg::Imm(7)),
-        at(Role::Def, T2),
+        at(Role::Def, TMP2),
         at(Role::Use, Home::Spill(2)),
-        at(Role::Def, T1),
+        at(Role::Def, TMP1),
         at(Role::Use, x(0)),
         at(Role::Def, Home::Spill(0)),
     ];
@@ -119,12 +119,12 @@ fn a_shuffle_touches_each_pair_in_order(rt: HostRuntime) -> Result<(), Fail> {
 #[test]
 fn the_homes_of_an_address_are_used(rt: HostRuntime) -> Result<(), Fail> {
     let base = Arg::Addr {
-        base: T1,
+        base: TMP1,
         offset: -8,
     };
     let index = Arg::Index {
         base: x(19),
-        index: T2,
+        index: TMP2,
         shift: 3,
     };
     let operands = [
@@ -148,8 +148,8 @@ fn the_homes_of_an_address_are_used(rt: HostRuntime) -> Result<(), Fail> {
 #[test]
 fn a_patch_has_late_uses_and_early_definitions(rt: HostRuntime) -> Result<(), Fail> {
     let operands = [
-        at(Role::Use, T0),
-        at(Role::LateUse, T1),
+        at(Role::Use, TMP0),
+        at(Role::LateUse, TMP1),
         at(Role::EarlyDef, x(9)),
         at(Role::Clobber, x(10)),
         at(Role::Def, x(1)),
@@ -311,17 +311,25 @@ fn a_loop_keeps_what_it_and_its_exit_read(rt: HostRuntime) -> Result<(), Fail> {
     let alloc = rt.alloc();
     let mut blocks = AirBlocks::new(alloc);
     let mut insts = AirInsts::new(alloc);
-    let start = [operand(Role::Use, Arg::Imm(9)), at(Role::Def, T0)];
+    let start = [operand(Role::Use, Arg::Imm(9)), at(Role::Def, TMP0)];
     insts.push(inst(alloc, AirOp::Move, &start)?)?;
     insts.push(inst(alloc, AirOp::Jump, &[])?)?;
     add_block(alloc, &mut blocks, insts, &[1])?;
     let mut insts = AirInsts::new(alloc);
-    let next = [at(Role::Use, T0), at(Role::Use, T0), at(Role::Def, T0)];
+    let next = [
+        at(Role::Use, TMP0),
+        at(Role::Use, TMP0),
+        at(Role::Def, TMP0),
+    ];
     insts.push(inst(alloc, AirOp::Sub, &next)?)?;
-    insts.push(inst(alloc, AirOp::BranchIf(Test::NonZero), &[at(Role::Use, T0)])?)?;
+    insts.push(inst(
+        alloc,
+        AirOp::BranchIf(Test::NonZero),
+        &[at(Role::Use, TMP0)],
+    )?)?;
     add_block(alloc, &mut blocks, insts, &[1, 2])?;
     let mut insts = AirInsts::new(alloc);
-    let result = [at(Role::Use, T1), at(Role::Def, x(0))];
+    let result = [at(Role::Use, TMP1), at(Role::Def, x(0))];
     insts.push(inst(alloc, AirOp::Move, &result)?)?;
     insts.push(inst(alloc, AirOp::Return, &[at(Role::Use, x(0))])?)?;
     add_block(alloc, &mut blocks, insts, &[])?;
@@ -343,10 +351,10 @@ fn a_loop_keeps_what_it_and_its_exit_read(rt: HostRuntime) -> Result<(), Fail> {
 fn a_call_ends_what_it_clobbers(rt: HostRuntime) -> Result<(), Fail> {
     let alloc = rt.alloc();
     let mut insts = AirInsts::new(alloc);
-    let argument = [at(Role::Use, T1), at(Role::Def, x(0))];
+    let argument = [at(Role::Use, TMP1), at(Role::Def, x(0))];
     insts.push(inst(alloc, AirOp::Move, &argument)?)?;
     let call = [
-        at(Role::Use, T0),
+        at(Role::Use, TMP0),
         at(Role::Use, x(0)),
         at(Role::Clobber, x(0)),
         at(Role::Clobber, x(1)),
@@ -355,11 +363,19 @@ fn a_call_ends_what_it_clobbers(rt: HostRuntime) -> Result<(), Fail> {
         at(Role::Def, x(0)),
     ];
     insts.push(inst(alloc, AirOp::Call { typed: true }, &call)?)?;
-    let result = [at(Role::Use, x(0)), at(Role::Def, T2)];
+    let result = [at(Role::Use, x(0)), at(Role::Def, TMP2)];
     insts.push(inst(alloc, AirOp::Move, &result)?)?;
-    let first = [at(Role::Use, T2), at(Role::Use, x(9)), at(Role::Def, T1)];
+    let first = [
+        at(Role::Use, TMP2),
+        at(Role::Use, x(9)),
+        at(Role::Def, TMP1),
+    ];
     insts.push(inst(alloc, AirOp::Add, &first)?)?;
-    let second = [at(Role::Use, T1), at(Role::Use, x(19)), at(Role::Def, x(0))];
+    let second = [
+        at(Role::Use, TMP1),
+        at(Role::Use, x(19)),
+        at(Role::Def, x(0)),
+    ];
     insts.push(inst(alloc, AirOp::Add, &second)?)?;
     insts.push(inst(alloc, AirOp::Return, &[at(Role::Use, x(0))])?)?;
     let mut blocks = AirBlocks::new(alloc);
@@ -381,8 +397,8 @@ fn a_late_use_is_live_before_and_an_early_definition_after(rt: HostRuntime) -> R
     let alloc = rt.alloc();
     let mut insts = AirInsts::new(alloc);
     let patch = [
-        at(Role::Use, T0),
-        at(Role::LateUse, T1),
+        at(Role::Use, TMP0),
+        at(Role::LateUse, TMP1),
         at(Role::EarlyDef, x(9)),
         at(Role::Def, x(1)),
     ];
@@ -391,10 +407,14 @@ fn a_late_use_is_live_before_and_an_early_definition_after(rt: HostRuntime) -> R
         typed: true,
     };
     insts.push(inst(alloc, op, &patch)?)?;
-    let sum = [at(Role::Use, x(9)), at(Role::Use, x(1)), at(Role::Def, T2)];
+    let sum = [
+        at(Role::Use, x(9)),
+        at(Role::Use, x(1)),
+        at(Role::Def, TMP2),
+    ];
     insts.push(inst(alloc, AirOp::Add, &sum)?)?;
     let address = Arg::Addr {
-        base: T2,
+        base: TMP2,
         offset: 16,
     };
     let load = [operand(Role::Use, address), at(Role::Def, x(0))];

@@ -17,11 +17,11 @@ use std::alloc::Global;
 use std::process::Abort;
 use std::test::Fail;
 
-const T0: Home = Home::Tmp(0);
+const TMP0: Home = Home::Tmp(0);
 
-const T1: Home = Home::Tmp(1);
+const TMP1: Home = Home::Tmp(1);
 
-const T2: Home = Home::Tmp(2);
+const TMP2: Home = Home::Tmp(2);
 
 fn x(number: u8) -> Home {
     Home::Reg(Reg(number))
@@ -74,20 +74,20 @@ fn inst(alloc: Global, op: AirOp, operands: &[Operand]) -> Result<AirInst, NoMem
 /// One block of three temporaries: a constant, a Shuffle, a load, a store, and a Shuffle without pairs.
 fn block(alloc: Global) -> Result<AirBlocks, NoMemory> {
     let mut insts = AirInsts::new(alloc);
-    insts.push(inst(alloc, AirOp::Move, &[seven(), writes(T0)])?)?;
+    insts.push(inst(alloc, AirOp::Move, &[seven(), writes(TMP0)])?)?;
     let pairs = [
-        reads(T0),
-        writes(T1),
+        reads(TMP0),
+        writes(TMP1),
         reads(x(0)),
-        writes(T2),
+        writes(TMP2),
         reads(Home::Spill(3)),
         writes(x(1)),
     ];
     insts.push(inst(alloc, AirOp::Shuffle, &pairs)?)?;
-    insts.push(inst(alloc, AirOp::Load, &[indexed(T1, T2), writes(T0)])?)?;
-    insts.push(inst(alloc, AirOp::Store, &[reads(T0), above(T2)])?)?;
+    insts.push(inst(alloc, AirOp::Load, &[indexed(TMP1, TMP2), writes(TMP0)])?)?;
+    insts.push(inst(alloc, AirOp::Store, &[reads(TMP0), above(TMP2)])?)?;
     insts.push(inst(alloc, AirOp::Shuffle, &[])?)?;
-    insts.push(inst(alloc, AirOp::Move, &[reads(T1), writes(T0)])?)?;
+    insts.push(inst(alloc, AirOp::Move, &[reads(TMP1), writes(TMP0)])?)?;
     let mut blocks = AirBlocks::new(alloc);
     let mut targets = Ids::new(alloc);
     targets.push(6)?;
