@@ -4,12 +4,11 @@
 use b3_base::{Name, Seq};
 use b3_io::{AbsentSource, Source, StdSink, StdSource};
 use b3c_core::{Ending, command_of, run_tool};
-use std::env;
 use std::fs::{self, File};
 use std::io::{self, ErrorKind};
 use std::process::ExitCode;
 use std::rt::Env;
-use std::str;
+use std::{env, str};
 
 fn main(rt: HostRuntime) -> ExitCode {
     let words = match command_words(&rt) {
