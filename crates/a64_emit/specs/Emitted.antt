@@ -81,6 +81,7 @@ Lands z from Lost k c = Unit {0}
 -- n items, each farther on than the one before, lead to an item from which the run lands; each moment is proper
 pub record Leads (z : Setting) (from : World) (next : Config) (k : ℕ) (c : Machine) : Type 0 where
   pub items : ℕ
+  pub some : 1 ≤ items
   pub at : ℕ
   pub last : Machine
   pub forward : run.GoForward (meaning_of z) z.code items (run.At k c)
@@ -125,6 +126,7 @@ pub record IsCodeOfAir (p : AirProc) (frame : Frame) (code : List Item) : Type 0
   pub labelled : IsWellLabelled code
   pub labels : length p.blocks ≤ label_count code
   pub behind : (long : Set) (b : ℕ) → b < length p.blocks → place code long (position_of code b) < place code long (length code)
+  pub rising : (b c : ℕ) → b < c → c < length p.blocks → position_of code b < position_of code c
   pub unmarked : mark_count code ≡ 0
   pub light : most_words code ≤ weight p
   pub entry : (z : Setting) (answers : List Answer) (c : Machine) → IsSettingOf p frame code z → Begins z c

@@ -1,0 +1,4 @@
+pub mod TextWords
+pub mod Stepping
+pub mod Items
+pub mod Following
