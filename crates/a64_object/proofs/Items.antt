@@ -117,10 +117,10 @@ none_outside None c = refl
 none_outside (Some mark) c = refl
 
 module _ (q : AirProc) (frame : Frame) (code : List Item) (long : Set) (words : List ℕ) (o : Object) (symbol : Symbol) (m : MachineStart) where
-  abbrev z : Setting
+  abbrev pub z : Setting
   z = setting_at q frame code long o symbol m
 
-  abbrev e : Entry
+  abbrev pub e : Entry
   e = entry_at q frame o symbol m
 
   abbrev pub step_from : run.Config Machine Inst → run.Config Machine Inst
@@ -137,7 +137,7 @@ module _ (q : AirProc) (frame : Frame) (code : List Item) (long : Set) (words : 
     fitting : begin_of e + 4 * length words ≤ 2 ^ 64
     fitting = omega (arith, has.within, has.ends, has.begins)
 
-    as_many : place code long (length code) ≡ length words
+    pub as_many : place code long (length code) ≡ length words
     as_many = sym (ap length text.words_are ∙ words_length code long (length code))
 
     plain_next : (j k : ℕ) (c after : Machine) (inst : Inst) → slice_get code j ≡ Some (Plain inst) → step_from (run.At j c) ≡ run.At k after
@@ -252,7 +252,7 @@ module _ (q : AirProc) (frame : Frame) (code : List Item) (long : Set) (words : 
       item_runs = subst (λ (d : Machine). Ran e cost_here (stands j c) (Runs (state_of answers d))) last (part_runs cost_here (omega arith))
 
     -- ---- items that go forward
-    run_cost-none : (a : run.Config Machine Inst) → words_for 0 a ≡ 0
+    pub run_cost-none : (a : run.Config Machine Inst) → words_for 0 a ≡ 0
     unfolding run_cost
     run_cost-none a = refl
 
@@ -264,14 +264,14 @@ module _ (q : AirProc) (frame : Frame) (code : List Item) (long : Set) (words : 
     unfolding GoForward
     forward_parts n a forward = forward
 
-    abbrev at_item : ℕ → Machine → run.Config Machine Inst
+    abbrev pub at_item : ℕ → Machine → run.Config Machine Inst
     at_item k c = run.At k c
 
-    same_place : (j k : ℕ) (c d : Machine) → at_item j c ≡ at_item k d → (j ≡ k) × (c ≡ d)
+    pub same_place : (j k : ℕ) (c d : Machine) → at_item j c ≡ at_item k d → (j ≡ k) × (c ≡ d)
     same_place j k c d is = (cc, cc)
 
     -- an item at hand is one of the code
-    an_item : (j k : ℕ) (c after : Machine) → step_from (run.At j c) ≡ run.At k after → (item : Item) × (slice_get code j ≡ Some item)
+    pub an_item : (j k : ℕ) (c after : Machine) → step_from (run.At j c) ≡ run.At k after → (item : Item) × (slice_get code j ≡ Some item)
     an_item j k c after goes = by (slice_get code j) refl
       where
         broken : run.Broken ≡ at_item k after → ⊥

@@ -17,7 +17,7 @@ use Rattle.a64_word.specs.Decode.{decode}
 use Rattle.a64_word.specs.Word.{word}
 use Rattle.a64_layout.specs.Machine as layout
 use Rattle.a64_layout.specs.Machine.{Machine, machine_of, moved_to, place_of}
-use Rattle.a64_run.specs.Machine.{Config, Entry, Runs, State, has_returned, is_empty_byte, is_ret, machine_step, touched, touches_empty, touches_empty_at}
+use Rattle.a64_run.specs.Machine.{Config, Entry, Runs, State, execute, has_returned, is_empty_byte, is_ret, machine_step, touched, touches_empty, touches_empty_at}
 use Rattle.a64_run.specs.Moments.{IsProperState, TouchesAbove}
 use Rattle.a64_run.specs.Placement.{in_frame, in_text, is_within}
 use Rattle.a64_run.proofs.Steps.{is_proper, step_executes, word_at-word}
@@ -108,6 +108,13 @@ begin_of e = e.start.code + e.symbol.offset
 module _ (e : Entry) (words : List ℕ) (has : HasText e words) where
   at_word : (k address : ℕ) → address ≡ begin_of e + 4 * k → address ≡ e.start.code + 4 * (has.base + k)
   at_word k address at = omega (arith, has.begins)
+
+  -- the machine executes the instruction whose word stands at pc
+  pub word_executes : (answers : List Answer) (c : Machine) (here : ℕ) (inst : Inst) → c.registers.pc ≡ begin_of e + 4 * here
+      → slice_get words here ≡ Some (word inst) → decode (word inst) ≡ Some inst
+      → machine_step e (Runs (state_of answers c)) ≡ execute e (state_of answers c) inst
+  word_executes answers c here inst at there decodes =
+      step_executes e (state_of answers c) (has.base + here) inst has.no_sites (at_word here c.registers.pc at) (has.text here (word inst) there) decodes
 
   pub word_step : (answers : List Answer) (c : Machine) (here next w : ℕ) (inst : Inst) → c.registers.pc ≡ begin_of e + 4 * here
       → slice_get words here ≡ Some (word inst) → decode (word inst) ≡ Some inst → IsWhole e c.memory
