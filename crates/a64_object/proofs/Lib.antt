@@ -5,3 +5,4 @@ pub mod Following
 pub mod Landing
 pub mod Blocks
 pub mod Beginning
+pub mod Agreement
