@@ -6,3 +6,4 @@ pub mod Landing
 pub mod Blocks
 pub mod Beginning
 pub mod Agreement
+pub mod Agreeing

@@ -13,7 +13,7 @@ use Rattle.air_ir.specs.WellFormed.{IsWellFormed}
 use Rattle.air_ir.specs.declared.frame.Frame.{Frame}
 use Rattle.air_ir.specs.declared.procedure.AirProc.{AirProc}
 use Rattle.air_frame.specs.Frames.{IsFrameOf, row_of}
-use Rattle.air_frame.specs.Needs.{spill_count}
+use Rattle.air_frame.specs.Needs.{named_count}
 use Rattle.a64_layout.specs.Layout.{most_words}
 use Rattle.a64_layout.specs.Machine.{IsShortestText}
 use Rattle.a64_layout.specs.declared.text.Text.{Text}
@@ -30,7 +30,7 @@ pub record IsMadeOf (p : Procedure) (words : List ℕ) (row : FrameRow) : Type 0
   pub well : IsWellFormed air
   pub blocks : length air.blocks ≡ length p.blocks + 1
   pub light : weight air ≤ 120 * total p + 32 * child_count p + 256
-  pub spills : spill_count air ≤ 8 * total p + child_count p + 88
+  pub named : named_count air ≤ 8 * total p + child_count p + 88
   pub slots : air.slots ≡ map (λ (slot : SlotLine). slot.bytes) p.slots
   pub returns_32 : air.returns ≡ W32 → ReturnsType p Int32
   pub returns_64 : air.returns ≡ W64 → ReturnsType p Int64
