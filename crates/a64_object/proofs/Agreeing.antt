@@ -46,7 +46,7 @@ text_of code text good none short no_places = record {
 }
 
 -- ---- slots
-rows_length : (offsets sizes : List ℕ) → length offsets ≡ length sizes → length (slot_rows offsets sizes) ≡ length sizes
+pub rows_length : (offsets sizes : List ℕ) → length offsets ≡ length sizes → length (slot_rows offsets sizes) ≡ length sizes
 rows_length [] [] same = refl
 rows_length [] (size ∷ sizes) same = absurd (omega arith)
 rows_length (offset ∷ offsets) [] same = absurd (omega arith)
@@ -65,7 +65,7 @@ bytes_same (slot ∷ slots) =
     ∙ ap (λ n. (slot.bytes + 15) / 16 * 16 + n) (bytes_same slots)
     ∙ sym (sum_by-cons (λ (slot : SlotLine). (slot.bytes + 15) / 16 * 16) slot slots)
 
-ten_saved : length callee_saved ≡ 10
+pub ten_saved : length callee_saved ≡ 10
 unfolding callee_saved
 ten_saved = refl
 
@@ -99,10 +99,10 @@ module _ (p : Procedure) (words : List ℕ) (row : FrameRow) (made : IsMadeOf p 
       } in
       let set = is_set made.air made.frame made.code made.is_text.0 made.text.words o symbol m is_text has answers placed in
       let slots : length (map (slot_address m) its_row.slots) ≡ length p.slots =
-      length-map its_row.slots (slot_address m) ∙ rows_length made.frame.slots made.air.slots made.is_frame.slots ∙ ap length made.slots ∙ length-map p.slots (λ (slot : SlotLine). slot.bytes) in
-      runs_alike p made.air made.frame made.code made.is_text.0 made.text.words o symbol m is_text has answers made.is_code made.well set made.is_frame.good.least
-      (omega (arith, made.blocks, some)) made.blocks (omega (arith, code.size))
-      (made.same (start_of o its_row m) answers (start_ranged o symbol its_row m placed) ranged slots)
+      length-map its_row.slots (slot_address m) ∙ rows_length made.frame.slots made.air.slots made.is_frame.slots ∙ ap length made.placed.slots ∙ length-map p.slots (λ (slot : SlotLine). slot.bytes) in
+      runs_alike p made.air made.frame made.code made.is_text.0 made.text.words o symbol m is_text has answers made.is_code made.placed.well set made.is_frame.good.least
+      (omega (arith, made.placed.blocks, some)) made.placed.blocks (omega (arith, code.size))
+      (made.placed.same (start_of o its_row m) answers (start_ranged o symbol its_row m placed) ranged slots)
 
   frame_small : its_row.bytes ≤ 64 * total p + 8 * run.child_count p + run.slot_bytes p + 1024
   frame_small =
@@ -110,18 +110,18 @@ module _ (p : Procedure) (words : List ℕ) (row : FrameRow) (made : IsMadeOf p 
       let saved : length (map (λ (s : SavedRow). s.reg.0) made.frame.saved) ≡ length (filter (writes made.air) callee_saved) = ap length made.is_frame.saved in
       let most = length-filter_both (writes made.air) (λ r. not (writes made.air r)) (λ r. refl) callee_saved in
       let ten = ten_saved in
-      let same : slot_bytes made.air.slots ≡ run.slot_bytes p = ap slot_bytes made.slots ∙ bytes_same p.slots in
+      let same : slot_bytes made.air.slots ≡ run.slot_bytes p = ap slot_bytes made.placed.slots ∙ bytes_same p.slots in
       let size = made.is_frame.size in
-      let named = made.named in
+      let named = made.placed.named in
       omega arith
 
   agrees_by : (o : Object) (symbol : Symbol) → HasCode made.text.words o symbol → Agrees p o symbol its_row
   agrees_by o symbol code = record {
     runs = λ m answers placed ranged. runs o symbol code m answers placed ranged;
-    returns_32 = made.returns_32;
-    returns_64 = made.returns_64;
-    slots = rows_sizes made.frame.slots made.air.slots made.is_frame.slots ∙ made.slots;
-    words = let size = code.size in let few = made.few in let light = made.is_code.light in let whole = made.light in omega arith;
+    returns_32 = made.placed.returns_32;
+    returns_64 = made.placed.returns_64;
+    slots = rows_sizes made.frame.slots made.air.slots made.is_frame.slots ∙ made.placed.slots;
+    words = let size = code.size in let few = made.few in let light = made.is_code.light in let whole = made.placed.light in omega arith;
     bytes = frame_small;
   }
 

@@ -7,3 +7,7 @@ pub mod Blocks
 pub mod Beginning
 pub mod Agreement
 pub mod Agreeing
+pub mod Placed
+pub mod Making
+pub mod Joining
+pub mod GoodObject

@@ -13,28 +13,36 @@ use Rattle.air_ir.specs.WellFormed.{IsWellFormed}
 use Rattle.air_ir.specs.declared.frame.Frame.{Frame}
 use Rattle.air_ir.specs.declared.procedure.AirProc.{AirProc}
 use Rattle.air_frame.specs.Frames.{IsFrameOf, row_of}
-use Rattle.air_frame.specs.Needs.{named_count}
+use Rattle.air_frame.specs.Needs.{named_count, spill_count}
 use Rattle.a64_layout.specs.Layout.{most_words}
 use Rattle.a64_layout.specs.Machine.{IsShortestText}
 use Rattle.a64_layout.specs.declared.text.Text.{Text}
 use Rattle.a64_run.specs.Agrees.{ReturnsType, child_count}
+use Rattle.a64_emit.specs.Built.{IsBuilt}
 use Rattle.a64_emit.specs.Emitted.{IsCodeOfAir}
 
+-- a procedure of Air without temporaries has the blocks of a procedure, returns what that returns, and is no greater than
+-- that allows
+pub record IsPlacedOf (p : Procedure) (air : AirProc) : Type 0 where
+  pub same : HasBlocksOf p air
+  pub well : IsWellFormed air
+  pub no_tmps : air.tmps ≡ 0
+  pub built : IsBuilt air
+  pub blocks : length air.blocks ≡ length p.blocks + 1
+  pub light : weight air ≤ 120 * total p + 32 * child_count p + 256
+  pub spills : spill_count air ≤ 65592
+  pub named : named_count air ≤ 8 * total p + child_count p + 88
+  pub slots : air.slots ≡ map (λ (slot : SlotLine). slot.bytes) p.slots
+  pub returns_32 : air.returns ≡ W32 → ReturnsType p Int32
+  pub returns_64 : air.returns ≡ W64 → ReturnsType p Int64
+
+-- words are the shortest text of the code of such a procedure with its frame, which has this row
 pub record IsMadeOf (p : Procedure) (words : List ℕ) (row : FrameRow) : Type 0 where
   pub air : AirProc
   pub frame : Frame
   pub code : List Item
   pub text : Text
-  -- the procedure of Air has the same blocks, and is no greater than the procedure allows
-  pub same : HasBlocksOf p air
-  pub well : IsWellFormed air
-  pub blocks : length air.blocks ≡ length p.blocks + 1
-  pub light : weight air ≤ 120 * total p + 32 * child_count p + 256
-  pub named : named_count air ≤ 8 * total p + child_count p + 88
-  pub slots : air.slots ≡ map (λ (slot : SlotLine). slot.bytes) p.slots
-  pub returns_32 : air.returns ≡ W32 → ReturnsType p Int32
-  pub returns_64 : air.returns ≡ W64 → ReturnsType p Int64
-  -- its frame, its code and its text
+  pub placed : IsPlacedOf p air
   pub is_frame : IsFrameOf air frame
   pub is_code : IsCodeOfAir air frame code
   pub is_text : IsShortestText code text
