@@ -1,8 +1,8 @@
 -- What `eval_text` and `run_file` know of a text, a trial and an object, put together.
-use Rattle.std.proofs.Common.{◌≡◌, ℕ, List, Ok, Err, Some}
+use Rattle.std.proofs.Common.{◌≡◌, ℕ, List, Ok, Err, Some, subst, sym}
 use Rattle.std.specs.Prelude.{All, slice_get}
 use Rattle.b3_base.specs.Ranged.{IsRangedAnswer}
-use Rattle.b3_ir.specs.Procedure.{Procedure}
+use Rattle.b3_ir.specs.Procedure.{Kept, Procedure, procedures}
 use Rattle.b3_meaning.specs.Run.{b3_run}
 use Rattle.b3_rules.specs.Valid.{IsValid}
 use Rattle.b3_supported.specs.Supported.{AreSupported}
@@ -17,6 +17,18 @@ use Rattle.a64_run.specs.Finding.{MayBegin}
 use Rattle.a64_run.specs.Placement.{start_of}
 use Rattle.b3c_core.specs.Compiled.{IsCompiled, IsFileWith, IsTextOf}
 use Rattle.b3c_core.specs.Tried.{Begins, IsEvaluatedOver, IsMisplacedOver, IsNoTrial}
+
+-- what is known of a module of a text, and of its file
+pub record IsKnown (text file : List ℕ) (m : List Kept) (o : Object) : Type 0 where
+  pub text_of : IsTextOf text (procedures m)
+  pub valid : IsValid (procedures m)
+  pub supported : AreSupported (procedures m)
+  pub is_file : IsFileWith (procedures m) o file
+
+pub known_as : (text file : List ℕ) (m n : List Kept) (o : Object) → m ≡ n → IsTextOf text (procedures n) → IsValid (procedures n) → AreSupported (procedures n) → IsFileWith (procedures n) o file
+    → IsKnown text file m o
+known_as text file m n o same is valid supported made =
+    subst (λ x. IsKnown text file x o) (sym same) (record { text_of = is; valid = valid; supported = supported; is_file = made })
 
 pub compiled_by : (text file : List ℕ) (ps : List Procedure) (o : Object) → IsTextOf text ps → IsValid ps → AreSupported ps → IsFileWith ps o file → IsCompiled text file
 compiled_by text file ps o is valid supported made =

@@ -1,3 +1,4 @@
+pub mod Limits
 pub mod Endings
 pub mod Beginning
 pub mod Evaluating

@@ -2,16 +2,17 @@
 
 ghost use Rattle.std.specs.Prelude.{◌≡◌, ◌-◌, ◌^◌, ◌<◌, length, IfOk, IfErr};
 ghost use Rattle.b3_ir.specs.Procedure.{procedures};
+ghost use Rattle.b3_module.specs.Limits.{KeepsLimits};
 ghost use Rattle.b3_supported.specs.Supported.{AreSupported};
 ghost use Rattle.b3_rules.specs.Valid.{IsValid};
 ghost use Rattle.b3c_core.specs.Compiled.{IsCause, IsCompiled, IsFileWith, IsPrinted, IsTextCause, IsTextOf};
 
-use a64_baseline::module_object;
+use a64_object::module_object;
 use b3_base::{Bytes, NoMemory};
 use b3_ir::Module;
 use b3_module::{LimitName, TextFault};
 use b3_supported::fault_line;
-use b3_validate::{ValidateFault, validate};
+use b3_validate::{Valid, ValidateFault, validate};
 use elf_obj::Object;
 use std::alloc::Global;
 
@@ -50,16 +51,16 @@ pub fn compile(alloc: Global, bytes: &[u8]) -> Result<Bytes, Fault>
     ensures object { IfOk result (IsCompiled bytes.now) }
     ensures cause { IfErr result (IsCause bytes.now) }
 {
-    let module = match supported_module(alloc, bytes) {
-        Ok(module) => module,
+    let valid = match supported_module(alloc, bytes) {
+        Ok(valid) => valid,
         Err(fault) => return Err(fault),
     };
-    let made = module_file(alloc, &module)?;
+    let made = module_file(alloc, &valid)?;
     Ok(made.file)
 }
 
 /// The valid and supported module that the bytes spell.
-pub(crate) fn supported_module(alloc: Global, bytes: &[u8]) -> Result<Module, Fault>
+pub(crate) fn supported_module(alloc: Global, bytes: &[u8]) -> Result<Valid, Fault>
     requires { length bytes.now < 2 ^ 32 - 1 }
     ensures text { IfOk result (λ made. IsTextOf bytes.now (procedures made)) }
     ensures valid { IfOk result (λ made. IsValid (procedures made)) }
@@ -78,7 +79,7 @@ pub(crate) fn supported_module(alloc: Global, bytes: &[u8]) -> Result<Module, Fa
     if let Some(line) = fault_line(valid.module()) {
         return Err(Fault::NotBuilt { line });
     }
-    Ok(valid.into_module())
+    Ok(valid)
 }
 
 /// The canonical text of the text. It is refused where the bytes are no text within the limits, and for want
@@ -116,12 +117,13 @@ pub(crate) struct Made {
     pub(crate) file: Bytes,
 }
 
-/// The object of a module, and its file. It is refused for want of memory alone.
-pub(crate) fn module_file(alloc: Global, module_: &Module) -> Result<Made, NoMemory>
-    requires { AreSupported (procedures module_.now) }
-    ensures { IfOk result (λ made. IsFileWith (procedures module_.now) made.object made.file) }
+/// The object of a module within the limits, and its file. It is refused for want of memory alone.
+pub(crate) fn module_file(alloc: Global, valid: &Valid) -> Result<Made, NoMemory>
+    requires supported { AreSupported (procedures valid.now) }
+    requires within { KeepsLimits (procedures valid.now) }
+    ensures { IfOk result (λ made. IsFileWith (procedures valid.now) made.object made.file) }
 {
-    let object = module_object(alloc, module_)?;
+    let object = module_object(alloc, valid)?;
     let file = elf_obj::write(alloc, &object)?;
     Ok(Made { object, file })
 }

@@ -83,8 +83,9 @@ pub fn eval_text(alloc: Global, bytes: &[u8], trial: &[u8]) -> Result<Evaluated,
     ensures evaluated { IfOk result (λ made. IsEvaluatedOver bytes.now trial.now made.object made.shown) }
     ensures cause { IfErr result (IsEvalCause bytes.now trial.now) }
 {
-    let module = supported_module(alloc, bytes)?;
-    let made = module_file(alloc, &module)?;
+    let valid = supported_module(alloc, bytes)?;
+    let made = module_file(alloc, &valid)?;
+    let module = valid.into_module();
     let trial = match read_trial(alloc, trial) {
         Ok(trial) => trial,
         Err(TrialFault::Bad { line }) => return Err(EvalFault::Trial { line }),

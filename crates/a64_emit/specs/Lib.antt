@@ -1,0 +1,4 @@
+pub mod Built
+pub mod Setting
+pub mod Related
+pub mod Emitted

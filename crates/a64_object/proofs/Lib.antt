@@ -1,0 +1,13 @@
+pub mod TextWords
+pub mod Stepping
+pub mod Items
+pub mod Following
+pub mod Landing
+pub mod Blocks
+pub mod Beginning
+pub mod Agreement
+pub mod Agreeing
+pub mod Placed
+pub mod Making
+pub mod Joining
+pub mod GoodObject

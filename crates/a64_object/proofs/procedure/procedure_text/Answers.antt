@@ -1,0 +1,29 @@
+use Rattle.std.proofs.Common.{◌≡◌, ◌∙◌, refl, arith}
+use Rattle.air_select.specs.Contract.{procedure_at}
+use Rattle.a64_object.proofs.Making.{room_asked, row_is_so, short_asked, slots_asked}
+use Rattle.a64_object.proofs.procedure.procedure_text.Goals as goal
+
+pub layout-requires-clause-slots : goal.layout-requires-clause-slots
+layout-requires-clause-slots c = slots_asked (procedure_at c.args.valid.now c.args.proc) c.in_ok-placed.placed c.requires.taken c.in_ok-placed.ensures.placed
+
+pub layout-requires-clause-room : goal.layout-requires-clause-room
+layout-requires-clause-room c = room_asked (procedure_at c.args.valid.now c.args.proc) c.in_ok-placed.placed c.requires.taken c.in_ok-placed.ensures.placed
+
+pub emit-requires-clause-short : goal.emit-requires-clause-short
+emit-requires-clause-short c = short_asked (procedure_at c.args.valid.now c.args.proc) c.in_ok-placed.placed c.requires.taken c.in_ok-placed.ensures.placed
+
+pub returns : goal.returns
+returns c = record { made = record {
+  air = c.in_ok-placed.placed;
+  frame = c.in_ok-frame.frame;
+  code = c.in_ok-emitted.emitted.code;
+  text = c.in_ok-text.text;
+  placed = c.in_ok-placed.ensures.placed;
+  is_frame = c.in_ok-frame.ensures;
+  is_code = c.in_ok-emitted.ensures.code;
+  is_text = c.in_ok-text.ensures.text;
+  few = c.in_ok-text.ensures.words;
+  unmarked = c.in_ok-text.ensures.marks ∙ c.in_ok-emitted.ensures.code.unmarked;
+  words_are = refl;
+  row_is = row_is_so (procedure_at c.args.valid.now c.args.proc) c.in_ok-placed.placed c.in_ok-frame.frame c.frame_row-row.result c.requires.taken c.in_ok-placed.ensures.placed c.frame_row-row.ensures;
+} }

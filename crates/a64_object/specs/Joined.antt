@@ -1,0 +1,58 @@
+-- The object of the codes of procedures, one after the other. No public clause cites this module.
+use Rattle.std.specs.Prelude.{◌≡◌, ℕ, ◌+◌, ◌*◌, List, [], ◌∷◌, ◌++◌, length, map}
+use Rattle.std.specs.List.{flat_map}
+use Rattle.b3_ir.specs.Procedure.{Procedure}
+use Rattle.exit_table.specs.declared.tables.FrameRow.{FrameRow}
+use Rattle.elf_obj.specs.declared.object.Object.{Object}
+use Rattle.elf_obj.specs.declared.object.Symbol.{Symbol}
+use Rattle.a64_object.specs.Made.{IsMadeOf}
+
+-- the name of a procedure, the words of its code, and the row of its frame
+pub record Part : Type 0 where
+  pub name : List ℕ
+  pub words : List ℕ
+  pub row : FrameRow
+
+abbrev pub words_in : Part → List ℕ
+words_in part = part.words
+
+abbrev pub row_in : Part → FrameRow
+row_in part = part.row
+
+-- its symbol, where its code begins at a byte of the text
+abbrev pub symbol_at : ℕ → Part → Symbol
+symbol_at offset part = record { name = part.name; offset = offset; size = 4 * length part.words }
+
+abbrev pub symbols_from : ℕ → List Part → List Symbol
+symbols_from offset [] = []
+symbols_from offset (part ∷ parts) = symbol_at offset part ∷ symbols_from (offset + 4 * length part.words) parts
+
+-- the object of parts: their words one after the other, and no sites
+abbrev pub object_of : List Part → Object
+object_of parts = record {
+  text = flat_map words_in parts;
+  symbols = symbols_from 0 parts;
+  tables = record { frames = map row_in parts; sites = [] };
+}
+
+-- an object with one more part at its end
+abbrev pub with_part : Object → Part → Object
+with_part o part = record {
+  text = o.text ++ part.words;
+  symbols = o.symbols ++ symbol_at (4 * length o.text) part ∷ [];
+  tables = record o.tables { frames = o.tables.frames ++ part.row ∷ [] };
+}
+
+-- a part is that of a procedure; and parts are those of procedures, in order
+pub record IsPartOf (p : Procedure) (part : Part) : Type 0 where
+  pub name : part.name ≡ p.name
+  pub made : IsMadeOf p part.words part.row
+
+unfoldable pub ArePartsOf : List Procedure → List Part → Type 0
+ArePartsOf [] [] = Unit {0}
+ArePartsOf (p ∷ ps) (part ∷ parts) = IsPartOf p part × ArePartsOf ps parts
+ArePartsOf _ _ = ⊥
+
+-- an object is that of parts of procedures
+abbrev pub IsJoinedOf : List Procedure → Object → Type 0
+IsJoinedOf ps o = (parts : List Part) × ArePartsOf ps parts × (o ≡ object_of parts)

@@ -1,0 +1,52 @@
+-- What a procedure's code in an object is made by: a procedure of Air with the same blocks, in registers and spill places; its
+-- frame; labelled code of it; and the shortest text of that.
+use Rattle.std.specs.Prelude.{◌≡◌, ℕ, ◌+◌, ◌*◌, ◌≤◌, List, length, map}
+use Rattle.b3_ir.specs.Procedure.{Procedure, total}
+use Rattle.b3_ir.specs.declared.opcode.Ty.TheVariants.{Int32, Int64}
+use Rattle.b3_ir.specs.declared.procedure.SlotLine.{SlotLine}
+use Rattle.stackmap.specs.declared.site.Returns.TheVariants.{W32, W64}
+use Rattle.exit_table.specs.declared.tables.FrameRow.{FrameRow}
+use Rattle.a64_inst.specs.declared.item.Item.{Item}
+use Rattle.air_ir.specs.Run.{HasBlocksOf}
+use Rattle.air_ir.specs.Weight.{weight}
+use Rattle.air_ir.specs.WellFormed.{IsWellFormed}
+use Rattle.air_ir.specs.declared.frame.Frame.{Frame}
+use Rattle.air_ir.specs.declared.procedure.AirProc.{AirProc}
+use Rattle.air_frame.specs.Frames.{IsFrameOf, row_of}
+use Rattle.air_frame.specs.Needs.{named_count, spill_count}
+use Rattle.a64_layout.specs.Layout.{most_words}
+use Rattle.a64_layout.specs.Machine.{IsShortestText}
+use Rattle.a64_layout.specs.declared.text.Text.{Text}
+use Rattle.a64_run.specs.Agrees.{ReturnsType, child_count}
+use Rattle.a64_emit.specs.Built.{IsBuilt}
+use Rattle.a64_emit.specs.Emitted.{IsCodeOfAir}
+
+-- a procedure of Air without temporaries has the blocks of a procedure, returns what that returns, and is no greater than
+-- that allows
+pub record IsPlacedOf (p : Procedure) (air : AirProc) : Type 0 where
+  pub same : HasBlocksOf p air
+  pub well : IsWellFormed air
+  pub no_tmps : air.tmps ≡ 0
+  pub built : IsBuilt air
+  pub blocks : length air.blocks ≡ length p.blocks + 1
+  pub light : weight air ≤ 120 * total p + 32 * child_count p + 256
+  pub spills : spill_count air ≤ 65592
+  pub named : named_count air ≤ 8 * total p + child_count p + 88
+  pub slots : air.slots ≡ map (λ (slot : SlotLine). slot.bytes) p.slots
+  pub returns_32 : air.returns ≡ W32 → ReturnsType p Int32
+  pub returns_64 : air.returns ≡ W64 → ReturnsType p Int64
+
+-- words are the shortest text of the code of such a procedure with its frame, which has this row
+pub record IsMadeOf (p : Procedure) (words : List ℕ) (row : FrameRow) : Type 0 where
+  pub air : AirProc
+  pub frame : Frame
+  pub code : List Item
+  pub text : Text
+  pub placed : IsPlacedOf p air
+  pub is_frame : IsFrameOf air frame
+  pub is_code : IsCodeOfAir air frame code
+  pub is_text : IsShortestText code text
+  pub few : length text.words ≤ most_words code
+  pub unmarked : length text.marks ≡ 0
+  pub words_are : words ≡ text.words
+  pub row_is : row ≡ row_of frame air.slots air.returns

@@ -1,0 +1,16 @@
+-- The procedures that are taken: those whose opcodes are selected, without slots, within the limits.
+use Rattle.std.specs.Prelude.{◌≡◌, ℕ, ◌≤◌, List, [], All, sum_by}
+use Rattle.b3_ir.specs.Procedure.{Procedure, total}
+use Rattle.a64_run.specs.Agrees.{child_count}
+use Rattle.air_select.specs.Contract.{IsBuilt, IsWithinLimits}
+
+pub record IsTaken (p : Procedure) : Type 0 where
+  pub built : IsBuilt p
+  pub slots : p.slots ≡ []
+  pub limits : IsWithinLimits p
+
+-- procedures that have no more values, and children and cases, than a text may have
+pub record AreWithinLimits (ps : List Procedure) : Type 0 where
+  pub values : sum_by total ps ≤ 65536
+  pub children : sum_by child_count ps ≤ 262144
+  pub each : All IsWithinLimits ps

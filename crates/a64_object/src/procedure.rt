@@ -1,0 +1,73 @@
+//! The passes of one procedure, one after the other.
+
+ghost use Rattle.std.specs.Prelude.{◌≡◌, ◌<◌, [], length, IfOk};
+ghost use Rattle.air_frame.specs.Frames.{row_of};
+ghost use Rattle.air_select.specs.Contract.{procedure_at};
+ghost use Rattle.a64_object.specs.Made.{IsMadeOf, IsPlacedOf};
+ghost use Rattle.a64_object.specs.Taken.{IsTaken};
+
+use a64_emit::emit;
+use a64_layout::resolve;
+use air_flow::proper_assignments;
+use air_frame::{layout, spill_counts};
+use air_ir::{AirProc, Assignment, Frame, same_blocks_laws};
+use air_select::select;
+use air_spill::rewrite;
+use b3_base::{CodeWords, NoMemory};
+use b3_validate::Valid;
+use exit_table::FrameRow;
+use stackmap::{Returns, SlotRows};
+use std::alloc::Global;
+
+/// The words of a procedure's code, and the row of its frame.
+#[derive(Drop)]
+pub struct ProcedureText {
+    pub words: CodeWords,
+    pub row: FrameRow,
+}
+
+/// A procedure of a valid module, by its place, in registers and spill places: it is selected, and each temporary is
+/// spilled. It is refused for want of memory alone.
+pub fn placed_procedure(alloc: Global, valid: &Valid, proc: usize) -> Result<AirProc, NoMemory>
+    requires there { proc < length valid.now }
+    requires taken { IsTaken (procedure_at valid.now proc) }
+    ensures placed { IfOk result (IsPlacedOf (procedure_at valid.now proc)) }
+{
+    same_blocks_laws();
+    proper_assignments();
+    spill_counts();
+    let selected = select(alloc, valid, proc)?;
+    let assignment = Assignment::new(alloc, selected.tmps)?;
+    let placed = rewrite(alloc, selected, &assignment)?;
+    Ok(placed)
+}
+
+/// The text of a procedure of a valid module, by its place: it is selected, rewritten, laid out, emitted and resolved. It
+/// is refused for want of memory alone.
+pub fn procedure_text(alloc: Global, valid: &Valid, proc: usize) -> Result<ProcedureText, NoMemory>
+    requires there { proc < length valid.now }
+    requires taken { IsTaken (procedure_at valid.now proc) }
+    ensures made { IfOk result (λ t. IsMadeOf (procedure_at valid.now proc) t.words t.row) }
+{
+    let placed = placed_procedure(alloc, valid, proc)?;
+    let frame = layout(alloc, &placed)?;
+    let emitted = emit(alloc, &placed, &frame)?;
+    let text = resolve(alloc, emitted.code)?;
+    let row = frame_row(alloc, frame, placed.returns);
+    Ok(ProcedureText {
+        words: text.words,
+        row,
+    })
+}
+
+/// The row of a frame without slots.
+fn frame_row(alloc: Global, frame: Frame, returns: Returns) -> FrameRow
+    ensures { result ≡ row_of frame [] returns }
+{
+    FrameRow {
+        bytes: frame.bytes,
+        returns,
+        slots: SlotRows::new(alloc),
+        saved: frame.saved,
+    }
+}

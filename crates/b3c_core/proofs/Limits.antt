@@ -1,0 +1,133 @@
+-- Procedures of a text within the limits have no more values, blocks, children and cases than those allow.
+use Rattle.std.proofs.Common.{◌≡◌, ℕ, zero, suc, ◌+◌, ◌<◌, ◌≤◌, true, List, [], ◌∷◌, ◌++◌, Some, length, refl, sym, ap, ◌∙◌, subst, arith, nat_le, le-leb, ⊎_elim, if◌then◌else◌}
+use Rattle.std.specs.Prelude.{All, map, slice_get, sum_by}
+use Rattle.std.specs.List.{flat_map}
+use Rattle.std.proofs.lemmas.Bool.{cases_lt}
+use Rattle.std.proofs.lemmas.List.Concat.{flat_map-cons}
+use Rattle.std.proofs.lemmas.List.Sums.{sum_by-append, sum_by-cons}
+use Rattle.b3_ir.specs.Procedure.{Block, Procedure, total}
+use Rattle.b3_ir.specs.declared.value.Body.{Body}
+use Rattle.b3_ir.specs.declared.value.Body.TheVariants.{Cases}
+use Rattle.b3_ir.specs.declared.value.Value.{Value}
+use Rattle.b3_module.specs.Limits.{Computed, Header, Heading, KeepsLimits, Placed, cases_of, counted, most, operands, part_of_value, parts_of, parts_of_block, parts_of_slots, parts_of_values, up_to}
+use Rattle.b3_module.specs.declared.fault.LimitName.{LimitName}
+use Rattle.b3_module.specs.declared.fault.LimitName.TheVariants as limits
+use Rattle.a64_run.specs.Agrees.{case_count, child_count}
+use Rattle.air_select.specs.Contract.{IsWithinLimits}
+use Rattle.a64_object.specs.Taken.{AreWithinLimits}
+use Rattle.a64_object.proofs.Placed.{all_of}
+
+-- ---- sums over all lines
+abbrev line_of : Placed → ℕ
+line_of x = x.line
+
+abbrev count_of : LimitName → Placed → ℕ
+count_of which x = counted which x.part
+
+-- with the lines up to the last one stands all
+whole : (which : LimitName) (line : ℕ) (parts : List Placed) → sum_by line_of parts ≤ line → up_to which line parts ≡ sum_by (count_of which) parts
+whole which line [] le = refl
+whole which line (x ∷ parts) le =
+    let lines = sum_by-cons line_of x parts in
+    let first : nat_le x.line line ≡ true = le-leb x.line line (omega arith) in
+    let rest = whole which line parts (omega arith) in
+    sum_by-cons (λ (y : Placed). if nat_le y.line line then counted which y.part else 0) x parts
+    ∙ rw (first, rest) (sym (sum_by-cons (count_of which) x parts))
+
+not_past : (most n : ℕ) → (most < n → ⊥) → n ≤ most
+not_past most n never = ⊎_elim (λ past. absurd (never past)) (λ le. le) (cases_lt most n)
+
+sums_flat : {X : Type 0} (c : Placed → ℕ) (h : X → List Placed) (f : X → ℕ) → ((x : X) → f x ≤ sum_by c (h x)) → (xs : List X) → sum_by f xs ≤ sum_by c (flat_map h xs)
+sums_flat c h f each [] = omega arith
+sums_flat c h f each (x ∷ xs) =
+    let split : sum_by c (flat_map h (x ∷ xs)) ≡ sum_by c (h x) + sum_by c (flat_map h xs) = ap (sum_by c) (flat_map-cons h x xs) ∙ sum_by-append c (h x) (flat_map h xs) in
+    omega (arith, split, sum_by-cons f x xs, each x, sums_flat c h f each xs)
+
+-- ---- the parts of a block, and of a procedure
+values_counted : (which : LimitName) → ((n : ℕ) → counted which (Computed n) ≡ 1) → (vs : List Value) → length vs ≤ sum_by (count_of which) (parts_of_values vs)
+values_counted which one [] = omega arith
+values_counted which one (v ∷ vs) = omega (arith, sum_by-cons (count_of which) (part_of_value v) (parts_of_values vs), one (operands v), values_counted which one vs)
+
+same_cases : (body : Body) → case_count body ≡ cases_of body
+same_cases (Cases cases targets) = refl
+same_cases _ = refl
+
+children_counted : (which : LimitName) → ((n : ℕ) → counted which (Computed n) ≡ n) → (vs : List Value)
+    → sum_by (λ (v : Value). length v.children + case_count v.body) vs ≤ sum_by (count_of which) (parts_of_values vs)
+children_counted which all [] = omega arith
+children_counted which all (v ∷ vs) =
+    omega (arith, sum_by-cons (count_of which) (part_of_value v) (parts_of_values vs), sum_by-cons (λ (x : Value). length x.children + case_count x.body) v vs,
+    all (operands v), same_cases v.body, children_counted which all vs)
+
+in_block : (c : Placed → ℕ) (b : Block) → sum_by c (parts_of_values b.values) ≤ sum_by c (parts_of_block b)
+in_block c b = omega (arith, sum_by-cons c (record { line = b.line; part = Heading }) (parts_of_values b.values))
+
+in_procedure : (c : Placed → ℕ) (p : Procedure) → sum_by c (flat_map parts_of_block p.blocks) ≤ sum_by c (parts_of p)
+in_procedure c p =
+    omega (arith, sum_by-cons c (record { line = p.line; part = Header }) (parts_of_slots p.slots ++ flat_map parts_of_block p.blocks),
+    sum_by-append c (parts_of_slots p.slots) (flat_map parts_of_block p.blocks))
+
+total_counted : (which : LimitName) → ((n : ℕ) → counted which (Computed n) ≡ 1) → (p : Procedure) → total p ≤ sum_by (count_of which) (parts_of p)
+total_counted which one p =
+    let blocks = sums_flat (count_of which) parts_of_block (λ (b : Block). length b.values)
+    (λ b. let inside = in_block (count_of which) b in let few = values_counted which one b.values in omega arith) p.blocks in
+    let whole_of = in_procedure (count_of which) p in
+    omega arith
+
+child_counted : (which : LimitName) → ((n : ℕ) → counted which (Computed n) ≡ n) → (p : Procedure) → child_count p ≤ sum_by (count_of which) (parts_of p)
+child_counted which all p =
+    let blocks = sums_flat (count_of which) parts_of_block (λ (b : Block). sum_by (λ (v : Value). length v.children + case_count v.body) b.values)
+    (λ b. let inside = in_block (count_of which) b in let few = children_counted which all b.values in omega arith) p.blocks in
+    let whole_of = in_procedure (count_of which) p in
+    omega arith
+
+ones : (blocks : List Block) → sum_by (λ (b : Block). 1) blocks ≡ length blocks
+ones [] = refl
+ones (b ∷ blocks) = omega (arith, sum_by-cons (λ (x : Block). 1) b blocks, ones blocks)
+
+blocks_counted : (p : Procedure) → length p.blocks ≤ sum_by (count_of limits.ProcedureBlocks) (parts_of p)
+blocks_counted p =
+    let blocks = sums_flat (count_of limits.ProcedureBlocks) parts_of_block (λ (b : Block). 1)
+    (λ b. omega (arith, sum_by-cons (count_of limits.ProcedureBlocks) (record { line = b.line; part = Heading }) (parts_of_values b.values))) p.blocks in
+    let whole_of = in_procedure (count_of limits.ProcedureBlocks) p in
+    omega (arith, ones p.blocks)
+
+-- ---- all of it
+module _ (ps : List Procedure) (keeps : KeepsLimits ps) where
+  in_text : (which : LimitName) → ((line : ℕ) → most which < up_to which line (flat_map parts_of ps) → ⊥) → sum_by (count_of which) (flat_map parts_of ps) ≤ most which
+  in_text which never =
+      let line = sum_by line_of (flat_map parts_of ps) in
+      not_past (most which) (sum_by (count_of which) (flat_map parts_of ps))
+      (λ past. never line (subst (λ n. most which < n) (sym (whole which line (flat_map parts_of ps) (omega arith))) past))
+
+  in_each : (which : LimitName) (p : Procedure) → ((line : ℕ) → most which < up_to which line (parts_of p) → ⊥) → sum_by (count_of which) (parts_of p) ≤ most which
+  in_each which p never =
+      let line = sum_by line_of (parts_of p) in
+      not_past (most which) (sum_by (count_of which) (parts_of p))
+      (λ past. never line (subst (λ n. most which < n) (sym (whole which line (parts_of p) (omega arith))) past))
+
+  pub within_limits : AreWithinLimits ps
+  within_limits = record {
+    values =
+        let few = in_text limits.Values (λ line past. keeps limits.Values line past) in
+        let sums = sums_flat (count_of limits.Values) parts_of total (total_counted limits.Values (λ n. refl)) ps in
+        omega arith;
+    children =
+        let few = in_text limits.Children (λ line past. keeps limits.Children line past) in
+        let sums = sums_flat (count_of limits.Children) parts_of child_count (child_counted limits.Children (λ n. refl)) ps in
+        omega arith;
+    each = all_of IsWithinLimits ps (λ k p there. record {
+      values =
+          let few = in_each limits.ProcedureValues p (λ line past. keeps limits.ProcedureValues line (k, p, there, past)) in
+          let sums = total_counted limits.ProcedureValues (λ n. refl) p in
+          omega arith;
+      blocks =
+          let few = in_each limits.ProcedureBlocks p (λ line past. keeps limits.ProcedureBlocks line (k, p, there, past)) in
+          let sums = blocks_counted p in
+          omega arith;
+      children =
+          let few = in_each limits.ProcedureChildren p (λ line past. keeps limits.ProcedureChildren line (k, p, there, past)) in
+          let sums = child_counted limits.ProcedureChildren (λ n. refl) p in
+          omega arith;
+    });
+  }
