@@ -126,10 +126,11 @@ runs_more z k c e n d step here rest = record {
   comes = iterate-suc (item_step (meaning_of z) z.code) n (At k c) ∙ ap (iterate (item_step (meaning_of z) z.code) n) step ∙ rest.comes
       ∙ ap (λ j. At j rest.last) (omega arith);
   forward = forward_more z n (At k c) (subst (GoesOn (At k c)) (sym step) (omega arith)) (subst (GoForward (meaning_of z) z.code n) (sym step) rest.forward);
-  proper = moments_joined (item_step (meaning_of z) z.code) (IsProper z) 1 n (At k c)
+  proper = λ j within. moments_joined (item_step (meaning_of z) z.code) (IsProper z) 1 n (At k c)
       (λ i below. let none : i ≡ 0 = omega arith in
       subst (IsProper z) (sym (ap (λ (j : ℕ). iterate (item_step (meaning_of z) z.code) j (At k c)) none ∙ iterate-zero (item_step (meaning_of z) z.code) (At k c))) here)
-      (λ i below. subst (λ a. IsProper z (iterate (item_step (meaning_of z) z.code) i a)) (sym (iterate-one (item_step (meaning_of z) z.code) (At k c) ∙ step)) (rest.proper i below));
+      (λ i below. subst (λ a. IsProper z (iterate (item_step (meaning_of z) z.code) i a)) (sym (iterate-one (item_step (meaning_of z) z.code) (At k c) ∙ step)) (rest.proper i below))
+      j (omega arith);
 }
 
 -- a run, and what leads on from its end
