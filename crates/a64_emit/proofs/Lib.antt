@@ -1,2 +1,4 @@
 pub mod Straight
 pub mod Words
+pub mod Ops
+pub mod Tests
