@@ -17,7 +17,7 @@ use Rattle.a64_layout.specs.Machine.{Machine, goes_on_at, instruction_does, mach
 use Rattle.a64_layout.specs.Run.{At, Config, Ends, GoForward, GoesOn, Goes, Outcome, after, item_step, mark_before}
 use Rattle.a64_layout.proofs.Least.{place-next, place_mono}
 use Rattle.a64_run.specs.Placement.{in_frame}
-use Rattle.a64_emit.specs.Emitted.{IsProper, IsProperAt, IsSafe, IsSafeItem, Leads}
+use Rattle.a64_emit.specs.Emitted.{IsProper, IsProperAt, IsSafe, IsSafeItem, Lands, Leads}
 use Rattle.a64_emit.specs.Setting.{IsSet, Setting, address_of, meaning_of, row}
 
 -- two machines that differ in pc alone
@@ -133,9 +133,32 @@ runs_more z k c e n d step here rest = record {
       j (omega arith);
 }
 
+-- items lead on as they do from a block's label, where none may be needed
+pub record Reaches (z : Setting) (from : World) (next : AirConfig) (k : ℕ) (c : Machine) : Type 0 where
+  pub items : ℕ
+  pub at : ℕ
+  pub last : Machine
+  pub forward : GoForward (meaning_of z) z.code items (At k c)
+  pub comes : iterate (item_step (meaning_of z) z.code) items (At k c) ≡ At at last
+  pub proper : (i : ℕ) → i ≤ items → IsProper z (iterate (item_step (meaning_of z) z.code) i (At k c))
+  pub lands : Lands z from next at last
+
+-- no item is needed
+pub reaches_here : (z : Setting) (from : World) (next : AirConfig) (k : ℕ) (c : Machine) → IsProperAt z k c → Lands z from next k c → Reaches z from next k c
+reaches_here z from next k c here lands = record {
+  items = 0;
+  at = k;
+  last = c;
+  forward = forward_zero z (At k c);
+  comes = iterate-zero (item_step (meaning_of z) z.code) (At k c);
+  proper = λ i le. let none : i ≡ 0 = omega arith in
+      subst (IsProper z) (sym (ap (λ (j : ℕ). iterate (item_step (meaning_of z) z.code) j (At k c)) none ∙ iterate-zero (item_step (meaning_of z) z.code) (At k c))) here;
+  lands = lands;
+}
+
 -- a run, and what leads on from its end
 pub leads_on : (z : Setting) (from : World) (next : AirConfig) (k n : ℕ) (c d : Machine) → (runs : Runs z k c n d)
-    → Leads z from next (k + n) runs.last → Leads z from next k c
+    → Reaches z from next (k + n) runs.last → Reaches z from next k c
 leads_on z from next k n c d runs rest = record {
   items = n + rest.items;
   at = rest.at;
@@ -146,6 +169,23 @@ leads_on z from next k n c d runs rest = record {
       (λ j below. subst (λ a. IsProper z (iterate (item_step (meaning_of z) z.code) j a)) (sym runs.comes) (rest.proper j (omega arith))) i (omega arith);
   lands = rest.lands;
 }
+
+-- behind at least one item
+pub leads_by : (z : Setting) (from : World) (next : AirConfig) (k n : ℕ) (c d : Machine) → 1 ≤ n → (runs : Runs z k c n d)
+    → Reaches z from next (k + n) runs.last → Leads z from next k c
+unfolding leads_on
+leads_by z from next k n c d some runs rest =
+    let whole = leads_on z from next k n c d runs rest in
+    record {
+      items = n + rest.items;
+      some = omega arith;
+      at = whole.at;
+      last = whole.last;
+      forward = whole.forward;
+      comes = whole.comes;
+      proper = whole.proper;
+      lands = whole.lands;
+    }
 
 -- ---- the step of an instruction
 

@@ -5,6 +5,8 @@ use Rattle.std.specs.Int.{bit_at}
 use Rattle.std.proofs.lemmas.Bool.{cases_lt, ne_eqb}
 use Rattle.std.proofs.lemmas.Bool.Decides.{nat_tests}
 use Rattle.std.proofs.lemmas.Int.{ints}
+use Rattle.std.proofs.lemmas.Nat.{pow_pos}
+use Rattle.std.proofs.lemmas.Nat.Bits.{bit_at_cat_high}
 use Rattle.b3_base.specs.Arithmetic.{low}
 use Rattle.b3_base.specs.Word.{bits}
 use Rattle.b3_base.specs.declared.word.Width.{Width}
@@ -59,6 +61,11 @@ add_flags width x k small long short =
 
 -- ---- comparisons
 
+zero_low : (width : Width) → 0 % 2 ^ bits width ≡ 0
+zero_low W32 = refl
+zero_low W64 = refl
+
+
 module _ (s : Registers) (m : Bytes) where
   compare_reg : (width : Width) (a b : Source) (x y : ℕ) → IsRegister a → IsRegister b → Gives s a width x → Gives s b width y
       → step_of (AddSubReg width true true 31 (reg_of a) (reg_of b) 0 0) s m ≡ goes_on (with_flags s (flags_of_sum width x (complement width y) 1)) m
@@ -83,6 +90,14 @@ module _ (s : Registers) (m : Bytes) where
       ] refl
   short_flags width sub (Constant c) k x short is_a gives_a = absurd is_a
 
+  pub bit_flags : (width : Width) (a : Source) (k x : ℕ) → IsRegister a → Gives s a width x
+      → step_of (AddSubReg width false true 31 31 (reg_of a) 0 (bits width - 1 - k)) s m
+      ≡ goes_on (with_flags s (flags_of_sum width 0 (shifted width 0 x (bits width - 1 - k)) 0)) m
+  unfolding step_of add_sub_reg
+  bit_flags width a k x is_a gives_a =
+      ap (λ v. goes_on (with_flags s (flags_of_sum width v (shifted width 0 (read_low width s (reg_of a)) (bits width - 1 - k)) 0)) m) (zero_low width)
+      ∙ ap (λ v. goes_on (with_flags s (flags_of_sum width 0 (shifted width 0 v (bits width - 1 - k)) 0)) m) (low_is s a width x is_a gives_a)
+
   pub compare_is : (width : Width) (a b : Source) (x y : ℕ) → IsRegister a → Gives s a width x → Gives s b width y → IsSummed width b
       → step_of (sum_by width true true 31 (reg_of a) b) s m ≡ goes_on (with_flags s (flags_of_sum width x (complement width y) 1)) m
   compare_is width a (InReg r) x y is_a gives_a gives_b fits = compare_reg width a (InReg r) x y is_a tt gives_a gives_b
@@ -98,3 +113,63 @@ module _ (s : Registers) (m : Bytes) where
             ∙ ap (λ f. goes_on (with_flags s f) m) (add_flags width x k fits.0 e (turned_short width k e fits.1))
       ] in
       either (is_short k) refl ∙ ap (λ v. goes_on (with_flags s (flags_of_sum width x (complement width v) 1)) m) same
+
+-- ---- bits
+
+top_of_word : (n : ℕ) → nat_le (2 ^ (32 - 1)) ((0 + n % 2 ^ 32 + 0) % 2 ^ 32) ≡ nat_eq (n / 2 ^ 31 % 2) 1
+top_of_word n = grind (arith, nat_tests)
+
+top_of_long : (n : ℕ) → nat_le (2 ^ (64 - 1)) ((0 + n % 2 ^ 64 + 0) % 2 ^ 64) ≡ nat_eq (n / 2 ^ 63 % 2) 1
+top_of_long n = grind (arith, nat_tests)
+
+-- a bit, shifted up to the sign
+bit_up : (x k last : ℕ) → k ≤ last → x * 2 ^ (last - k) / 2 ^ last % 2 ≡ bit_at x k
+bit_up x k last le =
+    let up = bit_at_cat_high x (last - k) 0 last (pow_pos (last - k)) (omega arith) in
+    let none : x * 2 ^ (last - k) + 0 ≡ x * 2 ^ (last - k) = omega arith in
+    let back : last - (last - k) ≡ k = omega arith in
+    ap (λ n. bit_at n last) (sym none) ∙ up ∙ ap (bit_at x) back
+
+bit_sign : (width : Width) (k x : ℕ) → k < bits width
+    → is_negative width (sum_of width 0 (x * 2 ^ (bits width - 1 - k) % 2 ^ bits width) 0) ≡ nat_eq (bit_at x k) 1
+bit_sign W32 k x lt = top_of_word (x * 2 ^ (31 - k)) ∙ ap (λ b. nat_eq b 1) (bit_up x k 31 (omega arith))
+bit_sign W64 k x lt = top_of_long (x * 2 ^ (63 - k)) ∙ ap (λ b. nat_eq b 1) (bit_up x k 63 (omega arith))
+
+less_zero : (width : Width) (x : ℕ) → x < 2 ^ bits width → sum_of width x (complement width 0) 1 ≡ x
+less_zero W32 x small = omega arith
+less_zero W64 x small = omega arith
+
+-- ---- tests
+
+-- the flags that a test leaves of the words that it takes
+abbrev pub test_flags : Test → Width → ℕ → ℕ → Flags
+test_flags (Compare cond) width x y = flags_of_sum width x (complement width y) 1
+test_flags NonZero width x y = flags_of_sum width x (complement width 0) 1
+test_flags (Bit k) width x y = flags_of_sum width 0 (shifted width 0 x (bits width - 1 - k)) 0
+
+-- whether it passes
+abbrev pub passes : Test → Width → ℕ → ℕ → Bool
+passes (Compare cond) width x y = holds cond (flags_of_sum width x (complement width y) 1)
+passes NonZero width x y = not (nat_eq x 0)
+passes (Bit k) width x y = nat_eq (bit_at x k) 1
+
+-- the second word is that of its source where the test takes two
+abbrev pub GivesSecond : Test → Registers → Source → Width → ℕ → Type 0
+GivesSecond (Compare cond) s b width y = Gives s b width y
+GivesSecond NonZero s b width y = Unit {0}
+GivesSecond (Bit k) s b width y = Unit {0}
+
+pub testing_is : (s : Registers) (m : Bytes) (t : Test) (width : Width) (a b : Source) (x y : ℕ) → IsRegister a → Gives s a width x → GivesSecond t s b width y → IsTested t width b
+    → step_of (testing t width a b) s m ≡ goes_on (with_flags s (test_flags t width x y)) m
+unfolding testing
+testing_is s m (Compare cond) width a b x y is_a gives_a gives_b fits = compare_is s m width a b x y is_a gives_a gives_b fits
+testing_is s m NonZero width (InReg r) b x y is_a gives_a gives_b fits = imm_flags s m width true r 0 false 0 x gives_a refl
+testing_is s m NonZero width (Constant k) b x y is_a gives_a gives_b fits = absurd is_a
+testing_is s m (Bit k) width a b x y is_a gives_a gives_b fits = bit_flags s m width a k x is_a gives_a
+
+pub condition_holds : (t : Test) (width : Width) (b : Source) (x y : ℕ) → x < 2 ^ bits width → IsTested t width b
+    → holds (condition t) (test_flags t width x y) ≡ passes t width x y
+unfolding flags_of_sum shifted
+condition_holds (Compare cond) width b x y small fits = refl
+condition_holds NonZero width b x y small fits = ap (λ v. not (nat_eq v 0)) (less_zero width x small)
+condition_holds (Bit k) width b x y small fits = bit_sign width k x fits
