@@ -2,3 +2,4 @@ pub mod Straight
 pub mod Words
 pub mod Ops
 pub mod Tests
+pub mod Keeping
