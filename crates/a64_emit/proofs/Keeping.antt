@@ -41,7 +41,7 @@ use Rattle.a64_emit.proofs.Words.{IsPlaced}
 
 -- ---- what homes carry
 
-some_is : (x y : ℕ) → Some x ≡ Some y → x ≡ y
+pub some_is : (x y : ℕ) → Some x ≡ Some y → x ≡ y
 some_is x y e = cc
 
 low_low : (x y w : ℕ) → x % 2 ^ 64 ≡ y % 2 ^ 64 → y % 2 ^ 32 ≡ w → x % 2 ^ 32 ≡ w
@@ -98,7 +98,7 @@ keeps_related z s c d k rel = record {
 }
 
 -- a word of the machine is one of 64 bits
-word-small : (z : Setting) (c : Machine) (offset w : ℕ) → HasFrame z c → word_below z c offset ≡ Some w → w < 2 ^ 64
+pub word-small : (z : Setting) (c : Machine) (offset w : ℕ) → HasFrame z c → word_below z c offset ≡ Some w → w < 2 ^ 64
 word-small z c offset w f there = subst (λ o. IfSome o (λ v. v < 2 ^ (8 * 8))) there (read_word-lt c.memory (frame_pointer_of z.entry - offset) 8 f.bytes)
 
 some_byte : (o : Option ℕ) → is_some o ≡ true → (byte : ℕ) × (o ≡ Some byte)

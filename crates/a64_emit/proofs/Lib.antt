@@ -3,3 +3,5 @@ pub mod Words
 pub mod Ops
 pub mod Tests
 pub mod Keeping
+pub mod FrameWords
+pub mod Storing
