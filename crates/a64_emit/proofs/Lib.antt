@@ -5,3 +5,6 @@ pub mod Tests
 pub mod Keeping
 pub mod FrameWords
 pub mod Storing
+pub mod Fetching
+pub mod Shapes
+pub mod AirSteps

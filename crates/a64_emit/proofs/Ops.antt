@@ -207,11 +207,11 @@ module _ (s : Registers) (m : Bytes) (rd : ℕ) (le : rd ≤ 30) where
       puts_of s m rd _ (quotient width sign x y) le (two_of (quotient width sign) (read_low width s (reg_of a)) (read_low width s (reg_of b)) x y
       (quotient width sign x y) (low_is s a width x is_a gives_a) (low_is s b width y is_b gives_b) refl)
 
-  whole_is : (a : Source) (x : ℕ) → AreWords s → IsRegister a → Gives s a W64 x → read s (reg_of a) ≡ x
-  whole_is (InReg r) x words is gives = let small = words.x r in read_is s r gives.0 ∙ (let e : s.x r ≡ s.x r % 2 ^ 64 = omega arith in e ∙ gives.1)
+  whole_is : (a : Source) (x : ℕ) → ((r : ℕ) → s.x r < 2 ^ 64) → IsRegister a → Gives s a W64 x → read s (reg_of a) ≡ x
+  whole_is (InReg r) x words is gives = let small = words r in read_is s r gives.0 ∙ (let e : s.x r ≡ s.x r % 2 ^ 64 = omega arith in e ∙ gives.1)
   whole_is (Constant k) x words is gives = absurd is
 
-  pub high_is : (sign : Bool) (a b : Source) (x y : ℕ) → AreWords s → IsRegister a → IsRegister b → Gives s a W64 x → Gives s b W64 y
+  pub high_is : (sign : Bool) (a b : Source) (x y : ℕ) → ((r : ℕ) → s.x r < 2 ^ 64) → IsRegister a → IsRegister b → Gives s a W64 x → Gives s b W64 y
       → step_of (MulHigh sign rd (reg_of a) (reg_of b)) s m ≡ goes_on (put s rd (high_product sign x y)) m
   unfolding step_of mul_high
   high_is sign a b x y words is_a is_b gives_a gives_b =
@@ -391,7 +391,7 @@ some_is x y e = cc
 none_some : {X : Type 0} (y : ℕ) → None ≡ Some y → X
 none_some y e = absurd cc
 
-module _ (s : Registers) (m : Bytes) (rd : ℕ) (le : rd ≤ 30) (words : AreWords s) where
+module _ (s : Registers) (m : Bytes) (rd : ℕ) (le : rd ≤ 30) (words : (r : ℕ) → s.x r < 2 ^ 64) where
   into : (inst : Inst) (v w : ℕ) → step_of inst s m ≡ goes_on (put s rd v) m → Some v ≡ Some w → step_of inst s m ≡ goes_on (put s rd w) m
   into inst v w does e = does ∙ ap (λ (x : ℕ). goes_on (put s rd x) m) (some_is v w e)
 
