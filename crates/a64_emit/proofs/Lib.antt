@@ -8,3 +8,4 @@ pub mod Storing
 pub mod Fetching
 pub mod Shapes
 pub mod AirSteps
+pub mod Computes
