@@ -9,3 +9,5 @@ pub mod Fetching
 pub mod Shapes
 pub mod AirSteps
 pub mod Computes
+pub mod TestsRun
+pub mod Moves

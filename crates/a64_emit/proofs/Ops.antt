@@ -57,7 +57,7 @@ pub write_is : (s : Registers) (rd word : ℕ) → rd ≤ 30 → write s rd word
 write_is s rd word le = rw (ne_eqb rd 31 (λ e. omega arith)) refl
 
 -- what is put is known
-puts_of : (s : Registers) (m : Bytes) (rd v w : ℕ) → rd ≤ 30 → v ≡ w → goes_on (write s rd v) m ≡ goes_on (put s rd w) m
+pub puts_of : (s : Registers) (m : Bytes) (rd v w : ℕ) → rd ≤ 30 → v ≡ w → goes_on (write s rd v) m ≡ goes_on (put s rd w) m
 puts_of s m rd v w le e = ap (λ (t : Registers). goes_on t m) (write_is s rd v le) ∙ ap (λ x. goes_on (put s rd x) m) e
 
 -- of two words that are read
