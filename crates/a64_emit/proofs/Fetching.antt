@@ -73,7 +73,7 @@ fetched_keeps z c insts scratch is f = record {
   words = f.words;
 }
 
-allocatable_most : (r : Register) → IsAllocatable r → r.0 ≤ 30
+pub allocatable_most : (r : Register) → IsAllocatable r → r.0 ≤ 30
 allocatable_most r h = ⊎_elim (λ (le : r.0 ≤ 14). omega arith) (λ (h : (19 ≤ r.0) × (r.0 ≤ 28)). omega (arith, h.1)) h
 
 pub allocatable_other : (r : Register) (scratch : ℕ) → IsAllocatable r → IsScratch scratch → r.0 ≢ scratch

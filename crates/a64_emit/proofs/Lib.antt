@@ -11,3 +11,4 @@ pub mod AirSteps
 pub mod Computes
 pub mod TestsRun
 pub mod Moves
+pub mod Copies
