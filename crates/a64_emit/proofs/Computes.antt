@@ -7,7 +7,7 @@ use Rattle.a64_inst.specs.declared.inst.Inst.{Inst}
 use Rattle.a64_inst.proofs.Ranged.{LeavesWords, step_of-LeavesWords}
 use Rattle.air_ir.specs.Kinds.{Computes, kind_of}
 use Rattle.air_ir.specs.Meaning.{meaning, operation}
-use Rattle.air_ir.specs.Operands.{Held, Holds, and_word, targets, word_of, words}
+use Rattle.air_ir.specs.Operands.{Held, Holds, Read, and_word, targets, word_of, words}
 use Rattle.air_ir.specs.Steps.{Goes, State, Undefined, step}
 use Rattle.air_ir.specs.Words.{computed}
 use Rattle.air_ir.specs.declared.op.AirOp.{AirOp}
@@ -235,6 +235,82 @@ module _ (z : Setting) (set : IsSet z) (serves : IsFrameOf z.procedure z.frame) 
                     | None ↦ λ n. inl (step_without z.start i s ((a.width, x) ∷ (b.width, y) ∷ []) read (computes_none z.start i s ((a.width, x) ∷ (b.width, y) ∷ []) kind n))
                     | Some w ↦ λ g. inr (two_end i s c a b d home x y w operands code is rel usable_a usable_b may at width_b is_a is_b fits e f g
                         (step_gives z.start i s ((a.width, x) ∷ (b.width, y) ∷ []) home d.width w read writes (computes_word z.start i s ((a.width, x) ∷ (b.width, y) ∷ []) w kind g)))
+                  ] refl
+            ] refl
+      ] refl
+
+  -- ---- three sources
+
+  three_end : (i : AirInst) (s : State) (c : Machine) (a b e d : Operand) (home : Home) (x y v w : ℕ) → i.operands ≡ a ∷ b ∷ e ∷ d ∷ []
+      → inst_code z.frame i.op (a ∷ b ∷ e ∷ d ∷ []) ≡ compute_code z.frame i.op (a ∷ b ∷ e ∷ d ∷ [])
+      → IsWritten d home → IsRelated z s c → IsUsable z a.arg → IsUsable z b.arg → IsUsable z e.arg → IsPlaceFor z home → IsWidthOf i.op a.width
+      → b.width ≡ a.width → e.width ≡ a.width
+      → IsRegister (source_of 15 a.arg) → IsRegister (source_of 16 b.arg) → IsRegister (source_of 17 e.arg) → IsComputed i.op a.width (source_of 16 b.arg)
+      → word_of s.homes a.width a.arg ≡ Some x → word_of s.homes b.width b.arg ≡ Some y → word_of s.homes e.width e.arg ≡ Some v → computed i.op a.width (x ∷ y ∷ v ∷ []) ≡ Some w
+      → ((junk : List ℕ) → step (meaning z.start) i s junk ≡ (Goes None (with_home s home (Holds d.width w)), junk)) → Carried z i s c
+  three_end i s c a b e d home x y v w operands code is rel usable_a usable_b usable_e may at width_b width_e is_a is_b is_e fits reads_a reads_b reads_e gives steps =
+      let two = fetch_two s c a.arg b.arg a.width b.width x y rel usable_a usable_b reads_a reads_b in
+      let third = fetch_word z set serves s two.after 17 e.arg e.width v two.related usable_e scratch_17 reads_e in
+      let m : Machine = third.0.after in
+      let rel_m = keeps_related z s two.after m (fetched_keeps z two.after (fetch z.frame 17 e.arg) 17 scratch_17 third.0) two.related in
+      let gives_a = gives_same two.after.registers m.registers (source_of 15 a.arg) a.width x
+      (λ r q. third.0.others r (source_differs z 15 17 a.arg scratch_17 (λ f. absurd (omega arith)) usable_a r q)) two.gives_a in
+      let gives_b = gives_same two.after.registers m.registers (source_of 16 b.arg) b.width y
+      (λ r q. third.0.others r (source_differs z 16 17 b.arg scratch_17 (λ f. absurd (omega arith)) usable_b r q)) two.gives_b in
+      let Code : Arg → List Inst = λ arg. fetch z.frame 15 a.arg ++ fetch z.frame 16 b.arg ++ fetch z.frame 17 e.arg ++
+      computing i.op a.width (result_reg arg) (source_of 15 a.arg) (source_of 16 b.arg) (source_of 17 e.arg) ∷ put_result z.frame (result_reg arg) arg in
+      let rd : ℕ = result_reg (At home) in
+      let last = ends_by s m (computing i.op a.width rd (source_of 15 a.arg) (source_of 16 b.arg) (source_of 17 e.arg)) home d.width w rel_m may
+      (computing_plain i.op a.width rd (source_of 15 a.arg) (source_of 16 b.arg) (source_of 17 e.arg) (le_more rd (result_most z set serves home may).0) (source_most z 15 a.arg (omega arith) usable_a)
+      (source_most z 16 b.arg (omega arith) usable_b) (source_most z 17 e.arg (omega arith) usable_e) fits)
+      (λ pc. three_computed (moved_to pc m).registers m.memory rd (result_most z set serves home may).0 rel_m.frame.words.x i.op a.width (source_of 15 a.arg) (source_of 16 b.arg) (source_of 17 e.arg)
+      x y v w at is_a is_b is_e gives_a (subst (λ u. Gives m.registers (source_of 16 b.arg) u y) width_b gives_b) (subst (λ u. Gives m.registers (source_of 17 e.arg) u v) width_e third.1) gives) in
+      record {
+        next = with_home s home (Holds d.width w);
+        after = last.after;
+        steps = steps;
+        does = subst (λ os. Does z c (inst_code z.frame i.op os) last.after) (sym operands)
+            (subst (λ insts. Does z c insts last.after) (sym code)
+            (subst (λ arg. Does z c (Code arg) last.after) (sym is.arg)
+            (does_both z c m last.after ((fetch z.frame 15 a.arg ++ fetch z.frame 16 b.arg) ++ fetch z.frame 17 e.arg) _
+            (does_both z c two.after m (fetch z.frame 15 a.arg ++ fetch z.frame 16 b.arg) (fetch z.frame 17 e.arg)
+            (does_both z c two.between two.after (fetch z.frame 15 a.arg) (fetch z.frame 16 b.arg) two.first two.second) third.0.does)
+            last.does)));
+        related = last.related;
+        world = refl;
+      }
+
+  pub three_runs : (i : AirInst) (s : State) (c : Machine) (a b e d : Operand) (home : Home) → i.operands ≡ a ∷ b ∷ e ∷ d ∷ []
+      → inst_code z.frame i.op (a ∷ b ∷ e ∷ d ∷ []) ≡ compute_code z.frame i.op (a ∷ b ∷ e ∷ d ∷ [])
+      → kind_of i.op ≡ Computes → a.role ≡ Use → b.role ≡ Use → e.role ≡ Use
+      → IsWritten d home → IsRelated z s c → IsUsable z a.arg → IsUsable z b.arg → IsUsable z e.arg → IsPlaceFor z home → IsWidthOf i.op a.width
+      → b.width ≡ a.width → e.width ≡ a.width
+      → IsRegister (source_of 15 a.arg) → IsRegister (source_of 16 b.arg) → IsRegister (source_of 17 e.arg) → IsComputed i.op a.width (source_of 16 b.arg) → InstRuns z i s c
+  three_runs i s c a b e d home operands code kind role_a role_b role_e is rel usable_a usable_b usable_e may at width_b width_e is_a is_b is_e fits =
+      let All : Option ℕ → Option ℕ → Option ℕ → Option (List Read) = λ A B E. and_word a.width A (and_word b.width B (and_word e.width E (Some []))) in
+      let A : Option ℕ = word_of s.homes a.width a.arg in
+      let B : Option ℕ = word_of s.homes b.width b.arg in
+      let E : Option ℕ = word_of s.homes e.width e.arg in
+      let reads : words s.homes i.operands ≡ All A B E =
+      ap (words s.homes) operands ∙ words_use s.homes a (b ∷ e ∷ d ∷ []) role_a
+      ∙ ap (and_word a.width A) (words_use s.homes b (e ∷ d ∷ []) role_b ∙ ap (and_word b.width B) (words_use s.homes e (d ∷ []) role_e ∙ ap (and_word e.width E) (words_result s.homes d home is))) in
+      let writes = ap targets operands ∙ targets_use a (b ∷ e ∷ d ∷ []) role_a ∙ targets_use b (e ∷ d ∷ []) role_b ∙ targets_use e (d ∷ []) role_e ∙ targets_result d home is in
+      elim (word_of s.homes a.width a.arg) as (λ o. word_of s.homes a.width a.arg ≡ o → InstRuns z i s c) [
+        | None ↦ λ p. inl (step_lost z.start i s (reads ∙ ap (λ o. All o B E) p))
+        | Some x ↦ λ p.
+            elim (word_of s.homes b.width b.arg) as (λ o. word_of s.homes b.width b.arg ≡ o → InstRuns z i s c) [
+              | None ↦ λ q. inl (step_lost z.start i s (reads ∙ ap (λ o. All o B E) p ∙ ap (λ o. All (Some x) o E) q))
+              | Some y ↦ λ q.
+                  elim (word_of s.homes e.width e.arg) as (λ o. word_of s.homes e.width e.arg ≡ o → InstRuns z i s c) [
+                    | None ↦ λ r. inl (step_lost z.start i s (reads ∙ ap (λ o. All o B E) p ∙ ap (λ o. All (Some x) o E) q ∙ ap (λ o. All (Some x) (Some y) o) r))
+                    | Some v ↦ λ r.
+                        let read = reads ∙ ap (λ o. All o B E) p ∙ ap (λ o. All (Some x) o E) q ∙ ap (λ o. All (Some x) (Some y) o) r in
+                        let rs : List Read = (a.width, x) ∷ (b.width, y) ∷ (e.width, v) ∷ [] in
+                        elim (computed i.op a.width (x ∷ y ∷ v ∷ [])) as (λ o. computed i.op a.width (x ∷ y ∷ v ∷ []) ≡ o → InstRuns z i s c) [
+                          | None ↦ λ n. inl (step_without z.start i s rs read (computes_none z.start i s rs kind n))
+                          | Some w ↦ λ g. inr (three_end i s c a b e d home x y v w operands code is rel usable_a usable_b usable_e may at width_b width_e is_a is_b is_e fits p q r g
+                              (step_gives z.start i s rs home d.width w read writes (computes_word z.start i s rs w kind g)))
+                        ] refl
                   ] refl
             ] refl
       ] refl
