@@ -12,3 +12,4 @@ pub mod Computes
 pub mod TestsRun
 pub mod Moves
 pub mod Copies
+pub mod Positions
