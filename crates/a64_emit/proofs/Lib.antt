@@ -13,3 +13,5 @@ pub mod TestsRun
 pub mod Moves
 pub mod Copies
 pub mod Positions
+pub mod Entering
+pub mod Leaving
