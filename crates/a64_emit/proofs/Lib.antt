@@ -15,3 +15,4 @@ pub mod Copies
 pub mod Positions
 pub mod Entering
 pub mod Leaving
+pub mod Branching
