@@ -16,3 +16,4 @@ pub mod Positions
 pub mod Entering
 pub mod Leaving
 pub mod Branching
+pub mod Endings
