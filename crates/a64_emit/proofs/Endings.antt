@@ -224,3 +224,43 @@ module _ (z : Setting) (set : IsSet z) (serves : IsFrameOf z.procedure z.frame) 
         reaches = return_reaches s k c r.word rel among r.is;
       })
       (returns_word z.start i s (ap kind_of is) (c.registers.x 0) (rel.frame.words.x 0) (rel.registers (record { 0 = 0 }) (inl (omega arith))) z.procedure.returns os)
+
+-- ---- Jump and Oops
+
+  pub leaves_to : (i : AirInst) (s : State) (targets_of : List ℕ) (rs : List Read) (n target : ℕ) → words s.homes i.operands ≡ Some rs → targets i.operands ≡ []
+      → meaning z.start (operation i) rs s.world ≡ Some (record { results = []; world = s.world; exit = Some (To n) })
+      → slice_get targets_of n ≡ Some target → (junk : List ℕ) → air.left targets_of (step (meaning z.start) i s junk) ≡ (air.At target s, junk)
+  leaves_to i s targets_of rs n target reads writes leaves there junk =
+      ap (air.left targets_of) (step_leaves z.start i s rs (To n) reads writes leaves junk) ∙ ap (λ o. (air.entered o s, junk)) there
+
+  jumps_to : (i : AirInst) (s : State) → i.op ≡ op.Jump → meaning z.start (operation i) [] s.world ≡ Some (record { results = []; world = s.world; exit = Some (To 0) })
+  unfolding meaning
+  jumps_to i s is = rw is refl
+
+  fails : (i : AirInst) (s : State) → i.op ≡ op.Oops → meaning z.start (operation i) [] s.world ≡ None
+  unfolding meaning
+  fails i s is = rw is refl
+
+  reads_none : (i : AirInst) (s : State) → i.operands ≡ [] → words s.homes i.operands ≡ Some []
+  unfolding words
+  reads_none i s os = ap (words s.homes) os
+
+  writes_nothing : (i : AirInst) → i.operands ≡ [] → targets i.operands ≡ []
+  unfolding targets
+  writes_nothing i os = ap targets os
+
+  pub oops_ends : (i : AirInst) (s : State) (targets_of : List ℕ) (k : ℕ) (c : Machine) → i.op ≡ op.Oops → i.operands ≡ [] → Ends z targets_of i s k c
+  oops_ends i s targets_of k c is os = record {
+    next = air.Lost;
+    is = λ junk. ap (air.left targets_of) (step_without z.start i s [] (reads_none i s os) (fails i s is) junk);
+    reaches = tt;
+  }
+
+  pub jump_ends : (i : AirInst) (s : State) (targets_of : List ℕ) (next k : ℕ) (c : Machine) → i.op ≡ op.Jump → i.operands ≡ [] → 0 < length targets_of
+      → get_or targets_of 0 0 < length z.procedure.blocks → Among z.code k (jump_to next (get_or targets_of 0 0))
+      → NextAt z next (k + length (jump_to next (get_or targets_of 0 0))) → IsRelated z s c → Ends z targets_of i s k c
+  jump_ends i s targets_of next k c is os some within among at rel = record {
+    next = air.At (get_or targets_of 0 0) s;
+    is = leaves_to i s targets_of [] 0 (get_or targets_of 0 0) (reads_none i s os) (writes_nothing i os) (jumps_to i s is) (slice_get-get_or targets_of 0 0 some);
+    reaches = jump_reaches z set serves s.world s k next (get_or targets_of 0 0) c within among at (refl, refl) rel;
+  }

@@ -17,3 +17,4 @@ pub mod Entering
 pub mod Leaving
 pub mod Branching
 pub mod Endings
+pub mod BranchEnds
