@@ -93,7 +93,7 @@ abbrev pub Since : World → State → Type 0
 Since from s = (s.world.events ≡ from.events) × (s.world.answers ≡ from.answers)
 
 module _ (z : Setting) (set : IsSet z) (serves : IsFrameOf z.procedure z.frame) where
-  item_proper : (s : State) (k : ℕ) (c : Machine) (item : Item) → slice_get z.code k ≡ Some item → IsSafeItem z (moved_to (address_of z k) c) (Some item)
+  pub item_proper : (s : State) (k : ℕ) (c : Machine) (item : Item) → slice_get z.code k ≡ Some item → IsSafeItem z (moved_to (address_of z k) c) (Some item)
       → IsRelated z s c → IsProperAt z k c
   item_proper s k c item there safe rel =
       let whole = whole_of z set serves c rel.frame in
@@ -143,7 +143,7 @@ module _ (z : Setting) (set : IsSet z) (serves : IsFrameOf z.procedure z.frame) 
   branch_step NonZero passes width reg k label c there = rw there refl
   branch_step (Bit bit) passes width reg k label c there = rw there refl
 
-  branch_goes : (test : Test) (taken : Bool) (width : Width) (reg k label : ℕ) (c : Machine) (b : Bool) → test_holds (branch_test test taken width reg) c ≡ b
+  pub branch_goes : (test : Test) (taken : Bool) (width : Width) (reg k label : ℕ) (c : Machine) (b : Bool) → test_holds (branch_test test taken width reg) c ≡ b
       → slice_get z.code k ≡ Some (branch_item test taken width reg label)
       → item_step (meaning_of z) z.code (At k c) ≡ At (if b then position_of z.code label else k + 1) c
   branch_goes test taken width reg k label c b holds there =

@@ -18,3 +18,5 @@ pub mod Leaving
 pub mod Branching
 pub mod Endings
 pub mod BranchEnds
+pub mod Ahead
+pub mod SwitchEnds
