@@ -4,6 +4,7 @@ use Rattle.std.proofs.Common.{◌≡◌, ◌≢◌, ℕ, zero, suc, ◌+◌, ◌
 use Rattle.std.specs.Prelude.{All, AllPairs, Contains, is_some, map, nat_le, nat_lt, ◌&&◌, ◌||◌, if◌then◌else◌}
 use Rattle.std.specs.List.{list_any}
 use Rattle.std.proofs.lemmas.Bool.Decides.{nat_tests}
+use Rattle.std.proofs.lemmas.List.Kept.{AllPairs-cons}
 use Rattle.std.proofs.lemmas.List.Elements.{All-cons, All-head, All-nil, All-tail, Contains-append_right}
 use Rattle.b3_base.specs.Memory.{AreApart, byte_address, is_mapped, read_word, write_word}
 use Rattle.b3_base.specs.Observed.{Memory, MachineStart}
@@ -34,6 +35,9 @@ byte_in_no_slot : (sp bytes offset size a i : ℕ) → sp < 2 ^ 64 → bytes ≤
     → is_within (sp - 16 - offset) size (byte_address (sp - 16 - a) i) ≡ false
 byte_in_no_slot sp bytes offset size a i small room ends begins ends_a begins_a apart lt =
     ⊎_elim (λ (le : offset + 8 ≤ a). grind (arith, nat_tests)) (λ (le : a + size ≤ offset). grind (arith, nat_tests)) apart
+
+byte_above : (sp offset size q : ℕ) → size ≤ offset → offset + 16 ≤ sp → sp - 16 ≤ q → is_within (sp - 16 - offset) size q ≡ false
+byte_above sp offset size q ends room above = grind (arith, nat_tests)
 
 -- ---- what is not seen
 
@@ -80,11 +84,15 @@ hidden_store z set memory at w hidden =
 swap_disjoint : (a b : Span) → AreDisjoint a b → AreDisjoint b a
 swap_disjoint a b apart = ⊎_elim (λ le. inr le) (λ le. inl le) apart
 
-pairs_head : (x : Span) (xs : List Span) → AllPairs AreDisjoint (x ∷ xs) → All (AreDisjoint x) xs
+pub pairs_head : (x : Span) (xs : List Span) → AllPairs AreDisjoint (x ∷ xs) → All (AreDisjoint x) xs
 pairs_head x xs h = λ k d lt. h 0 (suc k) d (omega arith) (omega arith)
 
 pairs_tail : (x : Span) (xs : List Span) → AllPairs AreDisjoint (x ∷ xs) → AllPairs AreDisjoint xs
 pairs_tail x xs h = λ i j d lt within. h (suc i) (suc j) d (omega arith) (omega arith)
+
+all_without : (P : Span → Type 0) (xs : List Span) (y : Span) (ys : List Span) → All P (xs ++ y ∷ ys) → All P (xs ++ ys)
+all_without P [] y ys h = All-tail P y ys h
+all_without P (x ∷ xs) y ys h = All-cons P x (xs ++ ys) (All-head P x (xs ++ y ∷ ys) h) (all_without P xs y ys (All-tail P x (xs ++ y ∷ ys) h))
 
 -- the spans behind some slots are apart from each other, and each from the slots
 pub pairs_behind : (slots : List SlotRow) (spans : List Span) → AllPairs AreDisjoint (map slot_span slots ++ spans) → AllPairs AreDisjoint spans
@@ -99,6 +107,14 @@ apart_from_slots (slot ∷ slots) spans span h there =
     let one : AreDisjoint (slot_span slot) span = subst (AreDisjoint (slot_span slot)) at.2 (pairs_head (slot_span slot) rest h at.0 span at.1) in
     All-cons (AreDisjoint span) (slot_span slot) (map slot_span slots) (swap_disjoint (slot_span slot) span one)
     (apart_from_slots slots spans span (pairs_tail (slot_span slot) rest h) there)
+
+-- a span behind the slots left out
+pub pairs_without : (slots : List SlotRow) (span : Span) (spans : List Span) → AllPairs AreDisjoint (map slot_span slots ++ span ∷ spans) → AllPairs AreDisjoint (map slot_span slots ++ spans)
+pairs_without [] span spans h = pairs_tail span spans h
+pairs_without (slot ∷ slots) span spans h =
+    AllPairs-cons AreDisjoint (slot_span slot) (map slot_span slots ++ spans)
+    (all_without (AreDisjoint (slot_span slot)) (map slot_span slots) span spans (pairs_head (slot_span slot) (map slot_span slots ++ span ∷ spans) h))
+    (pairs_without slots span spans (pairs_tail (slot_span slot) (map slot_span slots ++ span ∷ spans) h))
 
 pub all_front : (P : Span → Type 0) (xs ys : List Span) → All P (xs ++ ys) → All P xs
 all_front P [] ys h = All-nil P
@@ -126,6 +142,20 @@ module _ (z : Setting) (set : IsSet z) (good : IsGoodFrame (row z)) where
       (byte_in_no_slot z.entry.sp z.frame.bytes slot.offset slot.size offset i set.ranged.sp set.room is_good.ends is_good.begins word.ends word.begins apart lt)
       (in_no_slot slots offset i (All-tail (IsGoodSlot z.frame.bytes) slot slots goods)
       (All-tail (AreDisjoint (word_span W64 offset)) (slot_span slot) (map slot_span slots) aparts) word lt)
+
+  above_slots : (slots : List SlotRow) (q : ℕ) → All (IsGoodSlot z.frame.bytes) slots → frame_pointer_of z.entry ≤ q
+      → list_any (λ slot. is_within (slot_address z.entry slot) slot.size q) slots ≡ false
+  above_slots [] q goods above = refl
+  above_slots (slot ∷ slots) q goods above =
+      let is_good = All-head (IsGoodSlot z.frame.bytes) slot slots goods in
+      let room = set.room in
+      let begins = is_good.begins in
+      or_false (is_within (slot_address z.entry slot) slot.size q) (list_any (λ slot. is_within (slot_address z.entry slot) slot.size q) slots)
+      (byte_above z.entry.sp slot.offset slot.size q is_good.ends (omega arith) above) (above_slots slots q (All-tail (IsGoodSlot z.frame.bytes) slot slots goods) above)
+
+  -- what stands from x29 on is in no slot
+  pub not_in_slot : (q : ℕ) → frame_pointer_of z.entry ≤ q → in_slot (row z) z.entry q ≡ false
+  not_in_slot q above = above_slots (row z).slots q good.slots above
 
   -- the word at an offset that is apart from the slots isn't seen
   pub hidden_word : (offset : ℕ) → IsWordOffset z.frame.bytes offset → All (AreDisjoint (word_span W64 offset)) (map slot_span (row z).slots)

@@ -13,3 +13,11 @@ pub mod TestsRun
 pub mod Moves
 pub mod Copies
 pub mod Instructions
+pub mod Positions
+pub mod Entering
+pub mod Leaving
+pub mod Branching
+pub mod Endings
+pub mod BranchEnds
+pub mod Ahead
+pub mod SwitchEnds

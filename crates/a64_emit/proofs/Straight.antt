@@ -88,6 +88,7 @@ pub record Runs (z : Setting) (k : ℕ) (c : Machine) (n : ℕ) (d : Machine) : 
   pub comes : iterate (item_step (meaning_of z) z.code) n (At k c) ≡ At (k + n) last
   pub forward : GoForward (meaning_of z) z.code n (At k c)
   pub proper : (i : ℕ) → i < n → IsProper z (iterate (item_step (meaning_of z) z.code) i (At k c))
+  pub small : c.registers.pc < 2 ^ 64 → last.registers.pc < 2 ^ 64
 
 forward_zero : (z : Setting) (a : Config Machine Inst) → GoForward (meaning_of z) z.code 0 a
 unfolding GoForward
@@ -115,12 +116,13 @@ runs_none z k c d same = record {
   comes = iterate-zero (item_step (meaning_of z) z.code) (At k c) ∙ ap (λ j. At j c) (omega arith);
   forward = forward_zero z (At k c);
   proper = λ i below. absurd (omega arith);
+  small = λ lt. lt;
 }
 
 -- one step to the next item, and a run from there
 pub runs_more : (z : Setting) (k : ℕ) (c e : Machine) (n : ℕ) (d : Machine) → item_step (meaning_of z) z.code (At k c) ≡ At (k + 1) e
-    → IsProperAt z k c → Runs z (k + 1) e n d → Runs z k c (suc n) d
-runs_more z k c e n d step here rest = record {
+    → IsProperAt z k c → e.registers.pc < 2 ^ 64 → Runs z (k + 1) e n d → Runs z k c (suc n) d
+runs_more z k c e n d step here small rest = record {
   last = rest.last;
   alike = rest.alike;
   comes = iterate-suc (item_step (meaning_of z) z.code) n (At k c) ∙ ap (iterate (item_step (meaning_of z) z.code) n) step ∙ rest.comes
@@ -131,6 +133,7 @@ runs_more z k c e n d step here rest = record {
       subst (IsProper z) (sym (ap (λ (j : ℕ). iterate (item_step (meaning_of z) z.code) j (At k c)) none ∙ iterate-zero (item_step (meaning_of z) z.code) (At k c))) here)
       (λ i below. subst (λ a. IsProper z (iterate (item_step (meaning_of z) z.code) i a)) (sym (iterate-one (item_step (meaning_of z) z.code) (At k c) ∙ step)) (rest.proper i below))
       j (omega arith);
+  small = λ lt. rest.small small;
 }
 
 -- items lead on as they do from a block's label, where none may be needed
@@ -227,7 +230,7 @@ module _ (z : Setting) (set : IsSet z) (unmarked : (k : ℕ) → mark_before z.c
       let ends = set.ends in
       let small : address_of z k + 4 < 2 ^ 64 = omega arith in
       runs_more z k c (moved_to (address_of z k + 4) does.0) (length insts) d
-      (plain_step k inst c does.0 here small does.1) (proper_here k inst c does.0 here does.1)
+      (plain_step k inst c does.0 here small does.1) (proper_here k inst c does.0 here does.1) (omega arith)
       (straight_runs (k + 1) (moved_to (address_of z k + 4) does.0) d insts (does_alike z (moved_to (address_of z k + 4) does.0) does.0 d insts refl does.2)
       (λ j other there. subst (λ n. slice_get z.code n ≡ Some (Plain other)) (omega arith) (stand (j + 1) other (rw add-one there)))
       (subst (λ n. place z.code z.long n < place z.code z.long (length z.code)) (sym more) room))
