@@ -30,8 +30,11 @@ use Rattle.a64_emit.specs.Places.{epilogue, leave, plains, restores}
 use Rattle.a64_emit.specs.Switched.{compare_case, switch_items}
 use Rattle.a64_emit.proofs.Positions.{Among, BlockStands, among_first, among_rest, block_stands, positions_rise}
 
-some_same : (a b : ℕ) → Some a ≡ Some b → a ≡ b
+pub some_same : (a b : ℕ) → Some a ≡ Some b → a ≡ b
 some_same a b e = cc
+
+pub none_some : (n : ℕ) → None ≡ Some n → ⊥
+none_some n e = cc
 
 -- one of some items has words
 pub record HasWords (items : List Item) : Type 0 where
@@ -129,4 +132,4 @@ terminal_words f next label targets (op.Switch cases) os ends below =
     (switch_words (width_at os 0) (reg_of (source_at os 0 15)) next label cases targets (sym count) below)
 terminal_words f next label targets op.Return os ends below = plain_words (epilogue f) (epilogue_some f)
 terminal_words f next label targets op.Oops os ends below = words_first _ [] (λ long. omega arith)
-terminal_words f next label targets o os ends below = absurd cc
+terminal_words f next label targets o os ends below = absurd (none_some (length targets) ends)

@@ -21,3 +21,4 @@ pub mod Endings
 pub mod BranchEnds
 pub mod Ahead
 pub mod SwitchEnds
+pub mod BlockEnds
