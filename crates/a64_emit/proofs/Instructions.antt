@@ -106,7 +106,7 @@ pub record OfOne (at : Width) (a : Operand) : Type 0 where
   pub width : a.width ≡ at
   pub word : IsWord NoImmediate at a.arg
 
-home_word : (width : Width) (arg : Arg) → IsHome arg → IsWord NoImmediate width arg
+pub home_word : (width : Width) (arg : Arg) → IsHome arg → IsWord NoImmediate width arg
 home_word width (At home) is = tt
 home_word width (Imm word) is = absurd is
 home_word width (Addr base offset) is = absurd is

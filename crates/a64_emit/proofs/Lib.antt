@@ -22,3 +22,6 @@ pub mod BranchEnds
 pub mod Ahead
 pub mod SwitchEnds
 pub mod BlockEnds
+pub mod Opened
+pub mod Blocks
+pub mod CodeOfAir
