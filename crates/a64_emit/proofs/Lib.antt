@@ -25,3 +25,4 @@ pub mod BlockEnds
 pub mod Opened
 pub mod Blocks
 pub mod CodeOfAir
+pub mod Pushing

@@ -1,6 +1,6 @@
 //! Words put in registers, half-word by half-word.
 
-ghost use Rattle.std.specs.Prelude.{◌≡◌, ◌++◌, ◌<◌, ◌≤◌, false, OnOk};
+ghost use Rattle.std.specs.Prelude.{◌≡◌, ℕ, suc, ◌+◌, ◌++◌, ◌<◌, ◌≤◌, false, [], ◌∷◌, nat_eq, if◌then◌else◌, IfOk, OnOk};
 ghost use Rattle.a64_emit.specs.Constants.{constant, filling, half_count, half_move, half_moves, half_word, halves_like, is_inverted};
 ghost use Rattle.a64_emit.specs.Places.{plains};
 
@@ -51,6 +51,15 @@ fn half_move(width: Width, inverted: bool, started: bool, reg: u8, half: u32, hw
     }
 }
 
+/// 1 where half-word `hw` is this one, else 0.
+fn is_like(word: u64, half: u32, hw: u32) -> u32
+    requires { hw < 4 }
+    ensures value { result ≡ (if nat_eq (half_word word hw) half then 1 else 0) }
+    ensures most { result ≤ 1 }
+{
+    if half_word(word, hw) == half { 1 } else { 0 }
+}
+
 /// How many of the first `count` half-words are this one.
 fn halves_like(word: u64, half: u32, count: u32) -> u32
     requires { count ≤ 4 }
@@ -59,9 +68,7 @@ fn halves_like(word: u64, half: u32, count: u32) -> u32
 {
     let mut alike = 0;
     for hw in 0..count {
-        if half_word(word, hw) == half {
-            alike += 1;
-        }
+        alike += is_like(word, half, hw);
     }
     alike
 }
@@ -87,6 +94,45 @@ pub(crate) fn push_constant(
     push_halves(code, width, is_inverted(width, word), reg, word)
 }
 
+/// Half-word `hw` of a word is put where it isn't the filling. Whether some half-word was put, up to this one.
+fn push_half(
+    code: &mut Labelled,
+    width: Width,
+    inverted: bool,
+    started: bool,
+    reg: u8,
+    word: u64,
+    hw: u32,
+) -> Result<bool, NoMemory>
+    requires { hw < 4 }
+    ensures { IfOk result (λ now. (n : ℕ) → code.old ++ plains (half_moves width inverted reg word started (suc n) hw)
+        ≡ code.new ++ plains (half_moves width inverted reg word now n (hw + 1))) }
+{
+    let half = half_word(word, hw);
+    if half == filling(inverted) {
+        return Ok(started);
+    }
+    push(code, half_move(width, inverted, started, reg, half, hw))?;
+    Ok(true)
+}
+
+/// The filling is put where no half-word was.
+fn push_filling(
+    code: &mut Labelled,
+    width: Width,
+    inverted: bool,
+    started: bool,
+    reg: u8,
+) -> Result<(), NoMemory>
+    ensures { OnOk result (code.new ≡ code.old
+        ++ plains (if started then [] else half_move width inverted false reg (filling inverted) 0 ∷ [])) }
+{
+    if started {
+        return Ok(());
+    }
+    push(code, half_move(width, inverted, false, reg, filling(inverted), 0))
+}
+
 /// The half-words of a word that aren't the filling.
 fn push_halves(
     code: &mut Labelled,
@@ -98,17 +144,10 @@ fn push_halves(
     ensures { OnOk result (code.new ≡ code.old
         ++ plains (half_moves width inverted reg word false (half_count width) 0)) }
 {
-    let fill = filling(inverted);
     let mut started = false;
     for hw in 0..half_count(width) {
-        let half = half_word(word, hw);
-        if half != fill {
-            push(code, half_move(width, inverted, started, reg, half, hw))?;
-            started = true;
-        }
+        started = push_half(code, width, inverted, started, reg, word, hw)?;
     }
-    if !started {
-        push(code, half_move(width, inverted, false, reg, fill, 0))?;
-    }
+    push_filling(code, width, inverted, started, reg)?;
     Ok(())
 }
