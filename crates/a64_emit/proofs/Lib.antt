@@ -25,3 +25,5 @@ pub mod BlockEnds
 pub mod Opened
 pub mod Blocks
 pub mod CodeOfAir
+pub mod Fits
+pub mod Labelled
