@@ -421,7 +421,7 @@ module _ (p : AirProc) (f : Frame) (well : IsGoodProc p) (limit : f.bytes < 2 ^ 
       (insts_fair (first + 1) label block.targets block.insts here.insts (λ j lt. (here.targets j 0 lt).1))
       (blocks_fair (first + 1) (label + block_labels block) blocks (All-tail (IsGoodBlock p) block blocks good) (omega arith)))
 
-  code_fair : Each (IsFair (length p.blocks)) (emitted p f)
+  pub code_fair : Each (IsFair (length p.blocks)) (emitted p f)
   unfolding emitted
   code_fair =
       each_append (IsFair (length p.blocks)) (plains (prologue f)) (blocks_items f 0 (length p.blocks) p.blocks)

@@ -27,3 +27,4 @@ pub mod Blocks
 pub mod CodeOfAir
 pub mod Fits
 pub mod Labelled
+pub mod WellLabelled
