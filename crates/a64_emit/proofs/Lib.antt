@@ -26,3 +26,6 @@ pub mod Opened
 pub mod Blocks
 pub mod CodeOfAir
 pub mod Pushing
+pub mod Fits
+pub mod Labelled
+pub mod WellLabelled

@@ -1,5 +1,5 @@
 -- Where the blocks stand in the code of a procedure.
-use Rattle.std.proofs.Common.{◌≡◌, ℕ, zero, suc, ◌+◌, ◌<◌, ◌≤◌, Bool, true, false, not, cond, ⊎_elim, List, [], ◌∷◌, ◌++◌, Some, None, length, get_or, refl, sym, ap, ◌∙◌, subst, arith, append_assoc, length-append, eq-eqb}
+use Rattle.std.proofs.Common.{◌≡◌, ℕ, zero, suc, ◌+◌, ◌-◌, ◌<◌, ◌≤◌, Bool, true, false, not, cond, ⊎_elim, List, [], ◌∷◌, ◌++◌, Some, None, length, get_or, refl, sym, ap, ◌∙◌, subst, arith, append_assoc, length-append, eq-eqb}
 use Rattle.std.proofs.lemmas.List.{append-nil}
 use Rattle.std.proofs.lemmas.Option.{slice_get-get_or}
 use Rattle.std.specs.Prelude.{map, nat_eq, slice_get, if◌then◌else◌}
@@ -163,6 +163,7 @@ pub record BlockAmong (f : Frame) (items : List Item) (first : ℕ) (blocks : Li
   pub more : i + 1 < length blocks → (behind : List Item) × (rest ≡ Label (first + i + 1) ∷ behind)
   pub last : i + 1 ≡ length blocks → rest ≡ []
   pub none : i ≡ 0 → before ≡ []
+  pub after : (label : ℕ) → label ≤ first + i → Each (IsNot label) rest
 
 blocks_rest : (f : Frame) (first label : ℕ) (blocks : List AirBlock) → 0 < length blocks → (behind : List Item) × (blocks_items f first label blocks ≡ Label first ∷ behind)
 unfolding blocks_items
@@ -176,6 +177,18 @@ blocks_none f first label (block ∷ blocks) none = absurd (omega arith)
 
 other_label : (a b : ℕ) → a < b → IsNot b (Label a)
 other_label a b lt = ne_eqb a b (λ e. omega arith)
+
+above_label : (a b : ℕ) → b < a → IsNot b (Label a)
+above_label a b lt = ne_eqb a b (λ e. omega arith)
+
+-- the labels of blocks are their numbers
+blocks_clear : (f : Frame) (first label : ℕ) (blocks : List AirBlock) (other : ℕ) → other < first → Each (IsNot other) (blocks_items f first label blocks)
+unfolding blocks_items
+blocks_clear f first label [] other lt = tt
+blocks_clear f first label (block ∷ blocks) other lt =
+    (above_label first other lt, each_append (IsNot other) (insts_items f (first + 1) label block.targets block.insts) (blocks_items f (first + 1) (label + block_labels block) blocks)
+    (none_is other (insts_items f (first + 1) label block.targets block.insts) (insts_inner f (first + 1) label block.targets block.insts))
+    (blocks_clear f (first + 1) (label + block_labels block) blocks other (omega arith)))
 
 pub block_among : (f : Frame) (first label : ℕ) (blocks : List AirBlock) (i : ℕ) (block : AirBlock) → slice_get blocks i ≡ Some block
     → BlockAmong f (blocks_items f first label blocks) first blocks i block
@@ -194,6 +207,7 @@ block_among f first label (b ∷ bs) zero block there =
       more = λ lt. let rest = blocks_rest f (first + 1) (label + block_labels b) bs (omega arith) in (rest.0, rest.1 ∙ ap (λ n. Label (n + 1) ∷ rest.0) e);
       last = λ is. blocks_none f (first + 1) (label + block_labels b) bs (omega arith);
       none = λ is. refl;
+      after = λ other le. blocks_clear f (first + 1) (label + block_labels b) bs other (omega arith);
     }
 block_among f first label (b ∷ bs) (suc i) block there =
     let more = block_among f (first + 1) (label + block_labels b) bs i block there in
@@ -211,6 +225,7 @@ block_among f first label (b ∷ bs) (suc i) block there =
       more = λ lt. let rest = more.more (omega arith) in (rest.0, rest.1 ∙ ap (λ n. Label (n + 1) ∷ rest.0) e);
       last = λ is. more.last (omega arith);
       none = λ is. absurd (omega arith);
+      after = λ other le. more.after other (omega arith);
     }
 
 -- ---- the blocks of a procedure
@@ -223,6 +238,39 @@ pub record BlockStands (p : AirProc) (f : Frame) (b : ℕ) (block : AirBlock) : 
   pub next : b + 1 < length p.blocks → position_of (emitted p f) (b + 1) ≡ position_of (emitted p f) b + 1 + length (insts_items f (b + 1) own block.targets block.insts)
   pub last : b + 1 ≡ length p.blocks → length (emitted p f) ≡ position_of (emitted p f) b + 1 + length (insts_items f (b + 1) own block.targets block.insts)
   pub first : b ≡ 0 → position_of (emitted p f) b ≡ length (prologue f)
+  pub only : (k : ℕ) → slice_get (emitted p f) k ≡ Some (Label b) → k ≡ position_of (emitted p f) b
+
+pub each_at : (P : Item → Type 0) (items : List Item) (k : ℕ) (item : Item) → Each P items → slice_get items k ≡ Some item → P item
+each_at P [] k item each there = absurd cc
+each_at P (x ∷ items) zero item each there = let same : x ≡ item = cc in subst P same each.0
+each_at P (x ∷ items) (suc k) item each there = each_at P items k item each.1 there
+
+get_within : (a b : List Item) (n : ℕ) (x : Item) → n < length a → slice_get (a ++ b) n ≡ Some x → slice_get a n ≡ Some x
+get_within [] b n x lt e = absurd (omega arith)
+get_within (y ∷ a) b zero x lt e = e
+get_within (y ∷ a) b (suc n) x lt e = get_within a b n x (omega arith) e
+
+same_number : (label : ℕ) → is_label label (Label label) ≡ true
+same_number label = eq-eqb label label refl
+
+not_there : (label : ℕ) → IsNot label (Label label) → ⊥
+not_there label none = let yes = same_number label in cc
+
+-- a label stands once where no item before it or behind it is that label
+one_label : (label : ℕ) (front rest : List Item) (k : ℕ) → Each (IsNot label) front → Each (IsNot label) rest
+    → slice_get (front ++ Label label ∷ rest) k ≡ Some (Label label) → k ≡ length front
+one_label label front rest k before behind there =
+    ⊎_elim
+    (λ lt. absurd (not_there label (each_at (IsNot label) front k (Label label) before (get_within front (Label label ∷ rest) k (Label label) lt there))))
+    (λ ge. ⊎_elim
+    (λ more.
+    let e : length front + suc (k - length front - 1) ≡ k = omega arith in
+    let at : slice_get rest (k - length front - 1) ≡ Some (Label label) =
+    sym (get_behind front (Label label ∷ rest) (suc (k - length front - 1))) ∙ ap (slice_get (front ++ Label label ∷ rest)) e ∙ there in
+    absurd (not_there label (each_at (IsNot label) rest (k - length front - 1) (Label label) behind at)))
+    (λ le. omega arith)
+    (cases_lt (length front) k))
+    (cases_lt k (length front))
 
 pub length_plains : (insts : List Inst) → length (plains insts) ≡ length insts
 length_plains [] = refl
@@ -299,6 +347,14 @@ module _ (p : AirProc) (f : Frame) (b : ℕ) (block : AirBlock) (there : slice_g
       let count = length_plains (prologue f) in
       at ∙ ap (λ (xs : List Item). length (plains (prologue f) ++ xs)) (among.none is) ∙ ap (λ (xs : List Item). length xs) (append-nil (plains (prologue f))) ∙ count
 
+  only_at : (k : ℕ) → slice_get (emitted p f) k ≡ Some (Label b) → k ≡ position_of (emitted p f) b
+  unfolding inside
+  only_at k is =
+      one_label b front (inside ++ among.rest) k (clear b (omega arith))
+      (each_append (IsNot b) inside among.rest (none_is b inside (insts_inner f (b + 1) among.own block.targets block.insts)) (among.after b (omega arith)))
+      (ap (λ (xs : List Item). slice_get xs k) (sym split) ∙ is)
+      ∙ sym at
+
   pub block_stands : BlockStands p f b block
   unfolding inside
   block_stands = record {
@@ -308,6 +364,7 @@ module _ (p : AirProc) (f : Frame) (b : ℕ) (block : AirBlock) (there : slice_g
     next = λ lt. next_at lt ∙ whole_length;
     last = λ is. last_at is ∙ whole_length;
     first = first_at;
+    only = only_at;
   }
 
 -- the labels of blocks stand in order
