@@ -29,3 +29,4 @@ pub mod Pushing
 pub mod Fits
 pub mod Labelled
 pub mod WellLabelled
+pub mod SwitchPushing

@@ -59,14 +59,16 @@ pub(crate) fn push_switch(
 ) -> Result<(), NoMemory>
     ensures { OnOk result (code.new ≡ code.old ++ switch_items width reg next label cases.now targets.now) }
 {
-    let mut k = 0;
-    while k < cases.len() && k < targets.len() {
+    for k in 0..cases.len() {
+        if k >= targets.len() {
+            return Ok(());
+        }
         push_case(code, width, reg, *cases.get(k))?;
         code.push(Item::If(Cond::Eq, *targets.get(k)))?;
-        k += 1;
     }
-    if k == cases.len() && k < targets.len() {
-        return push_jump(code, next, *targets.get(k));
+    if cases.len() >= targets.len() {
+        return Ok(());
     }
+    push_jump(code, next, *targets.get(cases.len()))?;
     Ok(())
 }
