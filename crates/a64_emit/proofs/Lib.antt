@@ -30,3 +30,4 @@ pub mod Fits
 pub mod Labelled
 pub mod WellLabelled
 pub mod SwitchPushing
+pub mod BlockPushing

@@ -62,10 +62,12 @@ fn push_blocks(code: &mut Labelled, p: &AirProc, frame: &Frame) -> Result<(), No
     requires labels { AreFitting p.now }
     ensures { OnOk result (code.new ≡ code.old ++ blocks_items frame.now 0 (length p.now.blocks) p.now.blocks) }
 {
-    let mut label = p.blocks.len() as u32;
-    for (b, block) in p.blocks.as_slice().iter().enumerate() {
-        code.push(Item::Label(b as u32))?;
-        push_block(code, frame, b as u32 + 1, label, block)?;
+    let count = p.blocks.len() as u32;
+    let mut label = count;
+    for b in 0..count {
+        let block = p.blocks.get(b as usize);
+        code.push(Item::Label(b))?;
+        push_block(code, frame, b + 1, label, block)?;
         label += block_labels(block);
     }
     Ok(())
@@ -83,8 +85,8 @@ fn push_block(
     ensures { OnOk result (code.new ≡ code.old
         ++ insts_items frame.now next label block.now.targets block.now.insts) }
 {
-    for inst in block.insts.as_slice() {
-        push_items(code, frame, next, label, &block.targets, inst)?;
+    for k in 0..block.insts.len() {
+        push_items(code, frame, next, label, &block.targets, block.insts.get(k))?;
     }
     Ok(())
 }

@@ -1,6 +1,8 @@
-use Rattle.std.proofs.Common.{◌≡◌, ◌++◌, take}
+use Rattle.std.proofs.Common.{◌≡◌, ◌++◌, drop}
 use Rattle.a64_emit.specs.Code.{insts_items}
 use Rattle.a64_emit.proofs.procedure.push_block.Given as goal
 
-abbrev pub invariant-loop-inst : goal.invariant-loop-inst
-invariant-loop-inst l = l.code ≡ l.initial.code ++ insts_items l.frame l.next l.label l.block.targets (take l.inst-index l.block.insts)
+-- what is still to be put is the items of the instructions that are left
+abbrev pub invariant-loop-k : goal.invariant-loop-k
+invariant-loop-k l =
+    l.code ++ insts_items l.frame l.next l.label l.block.targets (drop l.k l.block.insts) ≡ l.initial.code ++ insts_items l.frame l.next l.label l.block.targets l.block.insts
