@@ -29,3 +29,6 @@ pub mod Pushing
 pub mod Fits
 pub mod Labelled
 pub mod WellLabelled
+pub mod Sizes
+pub mod Weights
+pub mod Light
