@@ -1,5 +1,6 @@
 -- The operands of an op are such as its code takes.
 use Rattle.std.proofs.Common.{◌≡◌, ℕ, ◌+◌, ◌<◌, ◌≤◌, ◌⊎◌, ⊎_elim, Bool, true, false, List, [], ◌∷◌, ◌++◌, Option, Some, None, length, get_or, refl, sym, ap, ◌∙◌, subst, arith}
+use Rattle.std.specs.Prelude.{All}
 use Rattle.b3_base.specs.Word.{bits}
 use Rattle.b3_base.specs.declared.word.Width.{Width}
 use Rattle.stackmap.specs.declared.site.Returns.{Returns}
@@ -12,8 +13,11 @@ use Rattle.air_ir.specs.declared.operand.Arg.{Arg}
 use Rattle.air_ir.specs.declared.operand.Arg.TheVariants.{At, Imm, Addr, Index, FrameSlot}
 use Rattle.air_ir.specs.declared.operand.Home.TheVariants.{Reg, Spill, Tmp}
 use Rattle.air_ir.specs.declared.operand.Operand.{Operand}
+use Rattle.air_ir.specs.declared.procedure.AirInst.{AirInst}
+use Rattle.air_ir.specs.declared.procedure.AirProc.{AirProc}
+use Rattle.air_ir.specs.WellFormed.{IsGoodInst, IsWellFormed}
 use Rattle.a64_emit.specs.Code.{source_at, source_of, width_at}
-use Rattle.a64_emit.specs.Fitting.{FitsSource, IsFitting, IsTested}
+use Rattle.a64_emit.specs.Fitting.{FitsSource, IsFitting, IsFittingBlock, IsTested}
 
 word_fits : (immediates : Immediates) (width : Width) (arg : Arg) (scratch : ℕ) → IsWord immediates width arg → FitsSource immediates width (source_of scratch arg)
 word_fits immediates width (At (Reg r)) scratch is = tt
@@ -56,3 +60,9 @@ fitting r op.And os has = second_fits OfLogic has.0 _ os has.2
 fitting r op.Or os has = second_fits OfLogic has.0 _ os has.2
 fitting r op.Xor os has = second_fits OfLogic has.0 _ os has.2
 fitting r o os has = tt
+
+fit_at : (p : AirProc) (i : AirInst) → IsGoodInst p i → IsFitting i.op i.operands
+fit_at p i good = fitting p.returns i.op i.operands good.operands
+
+pub blocks_fit : (p : AirProc) → IsWellFormed p → All IsFittingBlock p.blocks
+blocks_fit p well k d lt j i within = fit_at p (get_or (get_or p.blocks k d).insts j i) ((well.blocks k d lt).insts j i within)

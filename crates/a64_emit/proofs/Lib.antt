@@ -31,3 +31,6 @@ pub mod Labelled
 pub mod WellLabelled
 pub mod SwitchPushing
 pub mod BlockPushing
+pub mod Sizes
+pub mod Weights
+pub mod Light
