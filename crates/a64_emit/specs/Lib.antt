@@ -1,3 +1,9 @@
+pub mod Places
+pub mod Constants
+pub mod Computing
+pub mod Switched
+pub mod Code
+pub mod Fitting
 pub mod Built
 pub mod Setting
 pub mod Related

@@ -1,6 +1,13 @@
 //! Emission: a procedure of Air in registers and spill places becomes labelled code of AArch64.
 #![tactic(auto)]
 
+mod computing;
+mod constants;
+mod insts;
+mod places;
 mod procedure;
+mod source;
+mod switched;
+mod terminals;
 
 pub use procedure::{Emitted, emit};

@@ -1,14 +1,19 @@
 //! The code of a procedure.
 
-ghost use Rattle.std.specs.Prelude.{◌≡◌, ◌<◌, ◌^◌, [], IfOk};
+ghost use Rattle.std.specs.Prelude.{◌≡◌, ◌+◌, ◌++◌, ◌<◌, ◌≤◌, ◌^◌, [], length, All, IfOk, OnOk};
 ghost use Rattle.air_ir.specs.Weight.{weight};
 ghost use Rattle.air_ir.specs.WellFormed.{IsWellFormed};
 ghost use Rattle.air_frame.specs.Frames.{IsFrameOf};
 ghost use Rattle.a64_emit.specs.Built.{IsBuilt};
+ghost use Rattle.a64_emit.specs.Code.{block_labels, blocks_items, emitted, insts_items, own_labels};
 ghost use Rattle.a64_emit.specs.Emitted.{IsCodeOfAir};
+ghost use Rattle.a64_emit.specs.Fitting.{AreFitting, IsFittingBlock};
 
-use a64_inst::Labelled;
-use air_ir::{AirProc, Frame};
+use crate::places::push_prologue;
+use crate::switched::switch_labels;
+use crate::terminals::push_items;
+use a64_inst::{Item, Labelled};
+use air_ir::{AirBlock, AirOp, AirProc, Frame};
 use b3_base::NoMemory;
 use stackmap::Sites;
 use std::alloc::Global;
@@ -31,5 +36,79 @@ pub fn emit(alloc: Global, p: &AirProc, frame: &Frame) -> Result<Emitted, NoMemo
     ensures code { IfOk result (λ e. IsCodeOfAir p.now frame.now e.code) }
     ensures sites { IfOk result (λ e. e.sites ≡ []) }
 {
-    Err(NoMemory)
+    let code = procedure_code(alloc, p, frame)?;
+    Ok(Emitted {
+        code,
+        sites: Sites::new(alloc),
+    })
+}
+
+/// The code of a procedure. It is refused for want of memory alone.
+#[tactic(auto, unfolding(crate::specs::Code::emitted))]
+fn procedure_code(alloc: Global, p: &AirProc, frame: &Frame) -> Result<Labelled, NoMemory>
+    requires fits { All IsFittingBlock p.now.blocks }
+    requires labels { AreFitting p.now }
+    ensures { IfOk result (λ code. code ≡ emitted p.now frame.now) }
+{
+    let mut code = Labelled::new(alloc);
+    push_prologue(&mut code, frame)?;
+    push_blocks(&mut code, p, frame)?;
+    Ok(code)
+}
+
+/// The items of the blocks, in order.
+fn push_blocks(code: &mut Labelled, p: &AirProc, frame: &Frame) -> Result<(), NoMemory>
+    requires fits { All IsFittingBlock p.now.blocks }
+    requires labels { AreFitting p.now }
+    ensures { OnOk result (code.new ≡ code.old ++ blocks_items frame.now 0 (length p.now.blocks) p.now.blocks) }
+{
+    let count = p.blocks.len() as u32;
+    let mut label = count;
+    for b in 0..count {
+        let block = p.blocks.get(b as usize);
+        code.push(Item::Label(b))?;
+        push_block(code, frame, b + 1, label, block)?;
+        label += block_labels(block);
+    }
+    Ok(())
+}
+
+/// The items of the instructions of a block, before the block `next`.
+fn push_block(
+    code: &mut Labelled,
+    frame: &Frame,
+    next: u32,
+    label: u32,
+    block: &AirBlock,
+) -> Result<(), NoMemory>
+    requires { IsFittingBlock block.now }
+    ensures { OnOk result (code.new ≡ code.old
+        ++ insts_items frame.now next label block.now.targets block.now.insts) }
+{
+    for k in 0..block.insts.len() {
+        push_items(code, frame, next, label, &block.targets, block.insts.get(k))?;
+    }
+    Ok(())
+}
+
+/// How many labels an instruction has of its own.
+fn own_labels(op: &AirOp) -> u32
+    ensures { result ≡ own_labels op.now }
+{
+    match op {
+        AirOp::Switch(cases) => switch_labels(cases),
+        _ => 0,
+    }
+}
+
+/// How many labels the instructions of a block have of their own.
+fn block_labels(block: &AirBlock) -> u32
+    requires { block_labels block.now < 2 ^ 32 }
+    ensures { result ≡ block_labels block.now }
+{
+    let mut count = 0;
+    for inst in block.insts.as_slice() {
+        count += own_labels(&inst.op);
+    }
+    count
 }

@@ -1,0 +1,135 @@
+-- Words stand behind each label of a block.
+use Rattle.std.proofs.Common.{◌≡◌, ◌≢◌, ℕ, zero, suc, ◌+◌, ◌-◌, ◌<◌, ◌≤◌, Bool, true, false, ⊎_elim, List, [], ◌∷◌, ◌++◌, Some, None, length, get_or, refl, sym, ap, ◌∙◌, subst, arith, append_assoc, length-append}
+use Rattle.std.specs.Prelude.{All, nat_eq, slice_get, if◌then◌else◌}
+use Rattle.std.proofs.lemmas.Bool.{cases_lt, ne_eqb}
+use Rattle.std.proofs.lemmas.Option.{slice_get-get_or, slice_get_within, get_or_from_slice_get}
+use Rattle.a64_inst.specs.declared.inst.Cond.TheVariants.{Eq}
+use Rattle.a64_inst.specs.declared.inst.BranchKind.TheVariants.{Ret}
+use Rattle.a64_inst.specs.declared.inst.Inst.{Inst}
+use Rattle.a64_inst.specs.declared.inst.Inst.TheVariants.{AddSubImm, BranchReg, PairSp}
+use Rattle.a64_inst.specs.declared.item.Item.{Item}
+use Rattle.a64_inst.specs.declared.item.Item.TheVariants.{If, IfBit, IfZero, Jump, Label, Plain}
+use Rattle.b3_base.specs.declared.word.Width.{Width}
+use Rattle.air_ir.specs.Kinds.{target_count}
+use Rattle.air_ir.specs.WellFormed.{IsGoodBlock, IsWellFormed}
+use Rattle.air_ir.specs.declared.frame.Frame.{Frame}
+use Rattle.air_ir.specs.declared.op.AirOp.{AirOp}
+use Rattle.air_ir.specs.declared.op.AirOp.TheVariants as op
+use Rattle.air_ir.specs.declared.op.Test.{Test}
+use Rattle.air_ir.specs.declared.op.Test.TheVariants.{Compare, NonZero, Bit}
+use Rattle.air_ir.specs.declared.operand.Operand.{Operand}
+use Rattle.air_ir.specs.declared.procedure.AirBlock.{AirBlock}
+use Rattle.air_ir.specs.declared.procedure.AirInst.{AirInst}
+use Rattle.air_ir.specs.declared.procedure.AirProc.{AirProc}
+use Rattle.a64_layout.specs.Branch.{size_in}
+use Rattle.a64_layout.specs.Layout.{Set, place, position_of}
+use Rattle.a64_layout.proofs.Least.{place-next, place_mono}
+use Rattle.a64_emit.specs.Code.{arg_at, branch_item, branches, compared, emitted, fetch, fetch_tested, inst_items, insts_items, jump_to, source_at, width_at}
+use Rattle.a64_emit.specs.Computing.{reg_of}
+use Rattle.a64_emit.specs.Places.{epilogue, leave, plains, restores}
+use Rattle.a64_emit.specs.Switched.{compare_case, switch_items}
+use Rattle.a64_emit.proofs.Positions.{Among, BlockStands, among_first, among_rest, block_stands, positions_rise}
+
+pub some_same : (a b : ℕ) → Some a ≡ Some b → a ≡ b
+some_same a b e = cc
+
+pub none_some : (n : ℕ) → None ≡ Some n → ⊥
+none_some n e = cc
+
+-- one of some items has words
+pub record HasWords (items : List Item) : Type 0 where
+  pub at : ℕ
+  pub item : Item
+  pub there : slice_get items at ≡ Some item
+  pub size : (long : Bool) → 1 ≤ size_in long (Some item)
+
+pub words_first : (item : Item) (items : List Item) → ((long : Bool) → 1 ≤ size_in long (Some item)) → HasWords (item ∷ items)
+words_first item items size = record { at = 0; item = item; there = refl; size = size }
+
+-- what stands among others stands among more
+all_among : (xs ys : List Item) → Among (xs ++ ys) 0 (xs ++ ys)
+all_among xs ys j item there = ap (slice_get (xs ++ ys)) (omega arith) ∙ there
+
+pub words_left : (xs ys : List Item) → HasWords xs → HasWords (xs ++ ys)
+words_left xs ys h = record {
+  at = h.at;
+  item = h.item;
+  there = ap (slice_get (xs ++ ys)) (omega arith) ∙ among_first (xs ++ ys) 0 xs ys (all_among xs ys) h.at h.item h.there;
+  size = h.size;
+}
+
+pub words_right : (xs ys : List Item) → HasWords ys → HasWords (xs ++ ys)
+words_right xs ys h = record {
+  at = 0 + length xs + h.at;
+  item = h.item;
+  there = among_rest (xs ++ ys) 0 xs ys (all_among xs ys) h.at h.item h.there;
+  size = h.size;
+}
+
+-- so words stand there in a code
+pub words_ahead : (code : List Item) (long : Set) (k : ℕ) (items : List Item) → Among code k items → HasWords items → place code long k < place code long (length code)
+words_ahead code long k items among h =
+    let there = among h.at h.item h.there in
+    let within = slice_get_within code (k + h.at) h.item there in
+    let next = place-next code long (k + h.at) in
+    let same = ap (size_in (long (k + h.at))) there in
+    let some = h.size (long (k + h.at)) in
+    let up = place_mono code long (k + h.at + 1) (length code) (omega arith) in
+    let on = place_mono code long k (k + h.at) (omega arith) in
+    omega arith
+
+branch_size : (test : Test) (passes : Bool) (width : Width) (reg label : ℕ) (long : Bool) → 1 ≤ size_in long (Some (branch_item test passes width reg label))
+branch_size (Compare cond) passes width reg label true = omega arith
+branch_size (Compare cond) passes width reg label false = omega arith
+branch_size NonZero passes width reg label true = omega arith
+branch_size NonZero passes width reg label false = omega arith
+branch_size (Bit bit) passes width reg label true = omega arith
+branch_size (Bit bit) passes width reg label false = omega arith
+
+pub branches_words : (t : Test) (width : Width) (reg next then_label else_label : ℕ) → HasWords (branches t width reg next then_label else_label)
+branches_words t width reg next then_label else_label =
+    elim (nat_eq then_label next) as (λ b. HasWords (if b then branch_item t false width reg else_label ∷ [] else branch_item t true width reg then_label ∷ jump_to next else_label)) [
+      | true ↦ words_first (branch_item t false width reg else_label) [] (branch_size t false width reg else_label)
+      | false ↦ words_first (branch_item t true width reg then_label) (jump_to next else_label) (branch_size t true width reg then_label)
+    ]
+
+pub jump_words : (next label : ℕ) → label < next → HasWords (jump_to next label)
+jump_words next label lt =
+    let no : nat_eq label next ≡ false = ne_eqb label next (λ e. omega arith) in
+    subst (λ b. HasWords (if b then [] else Jump label ∷ [])) (sym no) (words_first (Jump label) [] (λ long. omega arith))
+
+pub switch_words : (width : Width) (reg next label : ℕ) (cases targets : List ℕ) → length targets ≡ suc (length cases)
+    → ((j : ℕ) → j < length targets → get_or targets j 0 < next) → HasWords (switch_items width reg next label cases targets)
+unfolding switch_items
+switch_words width reg next label [] [] count below = absurd (omega arith)
+switch_words width reg next label [] (target ∷ targets) count below = jump_words next target (below 0 (omega arith))
+switch_words width reg next label (case ∷ cases) [] count below = absurd (omega arith)
+switch_words width reg next label (case ∷ cases) (target ∷ targets) count below =
+    words_right (plains (compare_case width reg case)) (If Eq target ∷ switch_items width reg next label cases targets)
+    (words_first (If Eq target) (switch_items width reg next label cases targets) (λ long. elim long as (λ b. 1 ≤ size_in b (Some (If Eq target))) [ true ↦ omega arith | false ↦ omega arith ]))
+
+plain_words : (insts : List Inst) → 0 < length insts → HasWords (plains insts)
+plain_words [] some = absurd (omega arith)
+plain_words (inst ∷ insts) some = words_first (Plain inst) (plains insts) (λ long. omega arith)
+
+epilogue_some : (f : Frame) → 0 < length (epilogue f)
+unfolding epilogue
+epilogue_some f = let total = length-append (restores f f.saved) leave in omega arith
+
+-- what ends the last block has words: its targets are blocks before the next one
+pub terminal_words : (f : Frame) (next label : ℕ) (targets : List ℕ) (o : AirOp) (os : List Operand) → target_count o ≡ Some (length targets)
+    → ((j : ℕ) → j < length targets → get_or targets j 0 < next) → HasWords (inst_items f next label targets o os)
+unfolding inst_items
+terminal_words f next label targets (op.BranchIf test) os ends below =
+    words_right (plains (fetch_tested f test os ++ compared test os)) (branches test (width_at os 0) (reg_of (source_at os 0 15)) next (get_or targets 0 0) (get_or targets 1 0))
+    (branches_words test (width_at os 0) (reg_of (source_at os 0 15)) next (get_or targets 0 0) (get_or targets 1 0))
+terminal_words f next label targets op.Jump os ends below =
+    let one : 1 ≡ length targets = some_same 1 (length targets) ends in
+    jump_words next (get_or targets 0 0) (below 0 (omega arith))
+terminal_words f next label targets (op.Switch cases) os ends below =
+    let count : suc (length cases) ≡ length targets = some_same (suc (length cases)) (length targets) ends in
+    words_right (plains (fetch f 15 (arg_at os 0))) (switch_items (width_at os 0) (reg_of (source_at os 0 15)) next label cases targets)
+    (switch_words (width_at os 0) (reg_of (source_at os 0 15)) next label cases targets (sym count) below)
+terminal_words f next label targets op.Return os ends below = plain_words (epilogue f) (epilogue_some f)
+terminal_words f next label targets op.Oops os ends below = words_first _ [] (λ long. omega arith)
+terminal_words f next label targets o os ends below = absurd (none_some (length targets) ends)

@@ -1,0 +1,64 @@
+-- How the code of blocks grows by that of one instruction more, or one block.
+use Rattle.std.proofs.Common.{◌≡◌, ℕ, zero, suc, ◌+◌, ◌<◌, ◌≤◌, List, [], ◌∷◌, ◌++◌, Some, refl, sym, ap, ◌∙◌, subst, arith, length, drop, append_assoc, append-nil}
+use Rattle.std.specs.Prelude.{slice_get, sum_by}
+use Rattle.a64_inst.specs.declared.item.Item.{Item}
+use Rattle.a64_inst.specs.declared.item.Item.TheVariants.{Label}
+use Rattle.air_ir.specs.declared.frame.Frame.{Frame}
+use Rattle.air_ir.specs.declared.procedure.AirBlock.{AirBlock}
+use Rattle.air_ir.specs.declared.procedure.AirInst.{AirInst}
+use Rattle.a64_emit.specs.Code.{block_labels, blocks_items, inst_items, insts_items}
+
+dropped : {X : Type 0} (xs : List X) (k : ℕ) (x : X) → slice_get xs k ≡ Some x → drop k xs ≡ x ∷ drop (suc k) xs
+dropped [] k x there = absurd cc
+dropped (a ∷ xs) zero x there = let same : a ≡ x = cc in ap (λ y. y ∷ xs) same
+dropped (a ∷ xs) (suc k) x there = dropped xs k x there
+
+none_left : {X : Type 0} (xs : List X) (k : ℕ) → length xs ≤ k → drop k xs ≡ []
+none_left [] zero le = refl
+none_left [] (suc k) le = refl
+none_left (a ∷ xs) zero le = absurd (omega arith)
+none_left (a ∷ xs) (suc k) le = none_left xs k (omega arith)
+
+one_more : (k : ℕ) → suc k ≡ k + 1
+one_more k = omega arith
+
+pub insts_next : (f : Frame) (next label : ℕ) (targets : List ℕ) (insts : List AirInst) (k : ℕ) (i : AirInst) (code after whole : List Item)
+    → code ++ insts_items f next label targets (drop k insts) ≡ whole → slice_get insts k ≡ Some i → after ≡ code ++ inst_items f next label targets i.op i.operands
+    → after ++ insts_items f next label targets (drop (k + 1) insts) ≡ whole
+unfolding insts_items
+insts_next f next label targets insts k i code after whole left there pushed =
+    let rest : List Item = insts_items f next label targets (drop (suc k) insts) in
+    ap (λ n. after ++ insts_items f next label targets (drop n insts)) (sym (one_more k)) ∙ ap (λ (xs : List Item). xs ++ rest) pushed
+    ∙ append_assoc code (inst_items f next label targets i.op i.operands) rest
+    ∙ ap (λ (xs : List AirInst). code ++ insts_items f next label targets xs) (sym (dropped insts k i there)) ∙ left
+
+pub insts_done : (f : Frame) (next label : ℕ) (targets : List ℕ) (insts : List AirInst) (k : ℕ) (code whole : List Item)
+    → code ++ insts_items f next label targets (drop k insts) ≡ whole → length insts ≤ k → code ≡ whole
+unfolding insts_items
+insts_done f next label targets insts k code whole left le =
+    sym (append-nil code) ∙ ap (λ (xs : List AirInst). code ++ insts_items f next label targets xs) (sym (none_left insts k le)) ∙ left
+
+pub blocks_next : (f : Frame) (blocks : List AirBlock) (b label : ℕ) (block : AirBlock) (code between after whole : List Item)
+    → code ++ blocks_items f b label (drop b blocks) ≡ whole → slice_get blocks b ≡ Some block → between ≡ code ++ Label b ∷ []
+    → after ≡ between ++ insts_items f (b + 1) label block.targets block.insts
+    → after ++ blocks_items f (b + 1) (label + block_labels block) (drop (b + 1) blocks) ≡ whole
+unfolding blocks_items
+blocks_next f blocks b label block code between after whole left there labelled pushed =
+    let insts : List Item = insts_items f (b + 1) label block.targets block.insts in
+    let rest : List Item = blocks_items f (b + 1) (label + block_labels block) (drop (suc b) blocks) in
+    ap (λ n. after ++ blocks_items f (b + 1) (label + block_labels block) (drop n blocks)) (sym (one_more b))
+    ∙ ap (λ (xs : List Item). xs ++ rest) (pushed ∙ ap (λ (xs : List Item). xs ++ insts) labelled)
+    ∙ append_assoc (code ++ Label b ∷ []) insts rest ∙ append_assoc code (Label b ∷ []) (insts ++ rest)
+    ∙ ap (λ (xs : List AirBlock). code ++ blocks_items f b label xs) (sym (dropped blocks b block there)) ∙ left
+
+pub blocks_done : (f : Frame) (blocks : List AirBlock) (b label : ℕ) (code whole : List Item)
+    → code ++ blocks_items f b label (drop b blocks) ≡ whole → length blocks ≤ b → code ≡ whole
+unfolding blocks_items
+blocks_done f blocks b label code whole left le =
+    sym (append-nil code) ∙ ap (λ (xs : List AirBlock). code ++ blocks_items f b label xs) (sym (none_left blocks b le)) ∙ left
+
+-- the labels of the blocks that are left
+pub labels_left : (blocks : List AirBlock) (b : ℕ) (block : AirBlock) → slice_get blocks b ≡ Some block
+    → sum_by block_labels (drop b blocks) ≡ block_labels block + sum_by block_labels (drop (b + 1) blocks)
+labels_left blocks b block there =
+    ap (sum_by block_labels) (dropped blocks b block there) ∙ ap (λ n. block_labels block + sum_by block_labels (drop n blocks)) (one_more b)

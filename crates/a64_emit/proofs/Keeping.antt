@@ -1,0 +1,141 @@
+-- How the relation of a run of Air and the machine is kept.
+use mathlib.Core.Path.{fun_ext}
+use Rattle.std.proofs.Common.{◌≡◌, ◌≢◌, ℕ, ◌+◌, ◌-◌, ◌*◌, ◌/◌, ◌%◌, ◌^◌, ◌<◌, ◌≤◌, ◌⊎◌, Bool, true, false, inl, inr, ⊎_elim, List, [], ◌∷◌, ◌++◌, map, Option, Some, None, refl, sym, ap, ◌∙◌, subst, arith, nat_eq, eq-eqb, length, get_or}
+use Rattle.std.specs.Prelude.{◌&&◌, ◌||◌, nat_le, nat_lt, is_some, if◌then◌else◌, All, Contains, IfSome, IsSomeAnd, slice_get}
+use Rattle.std.specs.List.{list_any}
+use Rattle.std.proofs.lemmas.Bool.{cases_lt, ne_eqb}
+use Rattle.std.proofs.lemmas.Bool.Decides.{nat_tests}
+use Rattle.std.proofs.lemmas.List.Elements.{All-contains}
+use Rattle.std.proofs.lemmas.List.Folds.{list_any_none}
+use Rattle.std.proofs.lemmas.Option.{get_or_from_slice_get}
+use Rattle.b3_base.specs.Arithmetic.{low}
+use Rattle.b3_base.specs.Memory.{AreApart, AreBytes, byte_address, is_mapped, read_word, write_word}
+use Rattle.b3_base.specs.Observed.{Memory}
+use Rattle.b3_base.specs.Word.{bits}
+use Rattle.b3_base.specs.declared.word.Width.{Width}
+use Rattle.b3_base.specs.declared.word.Width.TheVariants.{W32, W64}
+use Rattle.b3_base.proofs.MemoryLaws.{is_mapped_all, write_word-AreBytes, write_word_keeps}
+use Rattle.b3_base.proofs.WordLaws.{read-write_apart, read-write_same, read_word-lt, write_word_other}
+use Rattle.b3_ir.specs.declared.value.Reg.{Reg as Register}
+use Rattle.stackmap.specs.Rules.{IsAllocatable}
+use Rattle.stackmap.specs.declared.site.Rep.TheVariants.{Slot}
+use Rattle.stackmap.specs.declared.site.SavedRow.{SavedRow}
+use Rattle.stackmap.specs.declared.site.SlotRow.{SlotRow}
+use Rattle.exit_table.specs.Good.{AreDisjoint, IsGoodRep, IsGoodSlot, IsWordOffset, saved_span, slot_span, spans_of, word_span}
+use Rattle.a64_inst.specs.Step.{AreWords, Registers}
+use Rattle.air_ir.specs.Operands.{Held, Empty, Holds, Homes, put, read}
+use Rattle.air_ir.specs.Steps.{State}
+use Rattle.air_ir.specs.declared.operand.Home.{Home}
+use Rattle.air_ir.specs.declared.operand.Home.TheVariants.{Reg, Spill}
+use Rattle.air_ir.proofs.HomeLaws.{put-other, put-same}
+use Rattle.air_frame.specs.Frames.{IsFrameOf}
+use Rattle.air_frame.specs.Needs.{names, writes}
+use Rattle.a64_layout.specs.Machine.{Machine}
+use Rattle.a64_run.specs.Machine.{saved_at}
+use Rattle.a64_run.specs.Placement.{frame_pointer_of, in_frame, in_slot, is_within, slot_address, visible}
+use Rattle.a64_emit.specs.Places.{spill_offset}
+use Rattle.a64_emit.specs.Related.{Carries, HasFrame, IsRelated, word_below}
+use Rattle.a64_emit.specs.Setting.{IsSet, Setting, row}
+use Rattle.a64_emit.proofs.Straight.{IsWhole}
+use Rattle.a64_emit.proofs.Words.{IsPlaced}
+
+-- ---- what homes carry
+
+pub some_is : (x y : ℕ) → Some x ≡ Some y → x ≡ y
+some_is x y e = cc
+
+low_low : (x y w : ℕ) → x % 2 ^ 64 ≡ y % 2 ^ 64 → y % 2 ^ 32 ≡ w → x % 2 ^ 32 ≡ w
+low_low x y w e f = omega arith
+
+-- a word that carries what stands in a home has the word that is read there
+pub reads_carried : (width : Width) (held : Held) (word w : ℕ) → Carries held word → read width held ≡ Some w → low width word ≡ w
+unfolding read
+reads_carried W32 Empty word w carries e = absurd cc
+reads_carried W64 Empty word w carries e = absurd cc
+reads_carried W32 (Holds W32 held) word w carries e = carries ∙ some_is _ w e
+reads_carried W32 (Holds W64 held) word w carries e = low_low word held w carries (some_is _ w e)
+reads_carried W64 (Holds W32 held) word w carries e = absurd cc
+reads_carried W64 (Holds W64 held) word w carries e = carries ∙ some_is _ w e
+
+-- ---- registers that may change
+
+-- a register that isn't one of the scratch registers
+abbrev pub IsKept : ℕ → Type 0
+IsKept r = (r ≤ 14) ⊎ (18 ≤ r)
+
+pub allocatable_kept : (r : Register) → IsAllocatable r → IsKept r.0
+allocatable_kept r h = ⊎_elim (λ low. inl low) (λ high. inr (omega (arith, high.0))) h
+
+-- scratch registers have changed alone
+pub record KeepsAll (c d : Machine) : Type 0 where
+  pub sp : d.registers.sp ≡ c.registers.sp
+  pub memory : d.memory ≡ c.memory
+  pub x : (r : ℕ) → IsKept r → d.registers.x r ≡ c.registers.x r
+  pub words : AreWords d.registers
+
+keeps_frame : (z : Setting) (c d : Machine) → KeepsAll c d → HasFrame z c → HasFrame z d
+keeps_frame z c d k f = record {
+  sp = k.sp ∙ f.sp;
+  x29 = k.x 29 (inr (omega arith)) ∙ f.x29;
+  words = k.words;
+  bytes = subst AreBytes (sym k.memory) f.bytes;
+  whole = λ address inside. ap (λ (m : Memory). is_some (m address)) k.memory ∙ f.whole address inside;
+  mapped = λ address there. ap (λ (m : Memory). is_some (m address)) k.memory ∙ f.mapped address there;
+  caller = ap (λ (m : Memory). read_word m (frame_pointer_of z.entry - 0) 8) k.memory ∙ f.caller;
+  link = ap (λ (m : Memory). read_word m (frame_pointer_of z.entry + 8) 8) k.memory ∙ f.link;
+  saved = λ s there. ap (λ (m : Memory). read_word m (frame_pointer_of z.entry - s.offset) 8) k.memory ∙ f.saved s there;
+  unsaved = λ r least most none. k.x r (inr (omega arith)) ∙ f.unsaved r least most none;
+}
+
+pub keeps_related : (z : Setting) (s : State) (c d : Machine) → KeepsAll c d → IsRelated z s c → IsRelated z s d
+keeps_related z s c d k rel = record {
+  frame = keeps_frame z c d k rel.frame;
+  registers = λ r may. subst (Carries (s.homes (Reg r))) (sym (k.x r.0 (allocatable_kept r may))) (rel.registers r may);
+  spills = λ n offset named there.
+      let word = rel.spills n offset named there in
+      (word.0, ap (λ (m : Memory). read_word m (frame_pointer_of z.entry - offset) 8) k.memory ∙ word.1, word.2);
+  memory = rel.memory ∙ ap (visible (row z) z.entry) (sym k.memory);
+}
+
+-- a word of the machine is one of 64 bits
+pub word-small : (z : Setting) (c : Machine) (offset w : ℕ) → HasFrame z c → word_below z c offset ≡ Some w → w < 2 ^ 64
+word-small z c offset w f there = subst (λ o. IfSome o (λ v. v < 2 ^ (8 * 8))) there (read_word-lt c.memory (frame_pointer_of z.entry - offset) 8 f.bytes)
+
+some_byte : (o : Option ℕ) → is_some o ≡ true → (byte : ℕ) × (o ≡ Some byte)
+some_byte None e = absurd cc
+some_byte (Some byte) e = (byte, refl)
+
+still_aligned : (sp bytes : ℕ) → sp % 16 ≡ 0 → bytes % 16 ≡ 0 → bytes ≤ sp → (sp - bytes) % 16 ≡ 0
+still_aligned sp bytes a b le = omega arith
+
+eighth : (n : ℕ) → n % 16 ≡ 0 → n % 8 ≡ 0
+eighth n e = omega arith
+
+module _ (z : Setting) (set : IsSet z) (serves : IsFrameOf z.procedure z.frame) where
+  pub whole_of : (c : Machine) → HasFrame z c → IsWhole z c
+  whole_of c f = record {
+    aligned = rw f.sp (still_aligned z.entry.sp z.frame.bytes set.aligned serves.good.aligned set.room);
+    whole = λ address inside. some_byte (c.memory address) (f.whole address inside);
+  }
+
+  pub placed : (c : Machine) (offset : ℕ) → HasFrame z c → IsWordOffset z.frame.bytes offset → IsPlaced z c offset
+  placed c offset f place = record {
+    sp = f.sp;
+    small = set.ranged.sp;
+    room = set.room;
+    limit = serves.good.limit;
+    place = place;
+    aligned = eighth z.frame.bytes serves.good.aligned;
+  }
+
+  -- where a spill place that is named stands
+  there_is : (o : Option ℕ) → IsSomeAnd o (λ offset. IsGoodRep (row z) W64 (Slot offset)) → (offset : ℕ) × (o ≡ Some offset) × IsGoodRep (row z) W64 (Slot offset)
+  there_is None h = absurd h
+  there_is (Some offset) h = (offset, refl, h)
+
+  pub spill_stands : (n : ℕ) → names z.procedure n ≡ true
+      → (slice_get z.frame.spills n ≡ Some (spill_offset z.frame n)) × IsGoodRep (row z) W64 (Slot (spill_offset z.frame n))
+  spill_stands n named =
+      let place = there_is (slice_get z.frame.spills n) (serves.spilled n named) in
+      let same : spill_offset z.frame n ≡ place.0 = get_or_from_slice_get z.frame.spills n place.0 0 place.1 in
+      (place.1 ∙ ap Some (sym same), subst (λ offset. IsGoodRep (row z) W64 (Slot offset)) (sym same) place.2)

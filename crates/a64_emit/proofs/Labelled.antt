@@ -1,0 +1,428 @@
+-- Emitted code is well labelled.
+use Rattle.std.proofs.Common.{◌≡◌, ◌≢◌, ℕ, pos, negsuc, zero, suc, ◌+◌, ◌-◌, ◌*◌, ◌/◌, ◌%◌, ◌^◌, ◌<◌, ◌≤◌, ◌⊎◌, Bool, true, false, inl, inr, ⊎_elim, List, [], ◌∷◌, ◌++◌, Option, Some, None, length, get_or, refl, sym, ap, ◌∙◌, subst, arith, length-append}
+use Rattle.std.specs.Prelude.{All, nat_eq, nat_le, nat_lt, slice_get, if◌then◌else◌}
+use Rattle.std.specs.List.{count_by}
+use Rattle.std.proofs.lemmas.Bool.{cases_lt, ne_eqb}
+use Rattle.std.proofs.lemmas.Bool.Decides.{nat_tests}
+use Rattle.std.proofs.lemmas.Int.{ints}
+use Rattle.std.proofs.lemmas.List.Elements.{All-head, All-tail}
+use Rattle.std.proofs.lemmas.List.Sums.{sum_by-append}
+use Rattle.std.proofs.lemmas.Option.{slice_get-get_or, slice_get_within, get_or_from_slice_get}
+use Rattle.b3_base.specs.Arithmetic.{low}
+use Rattle.a64_inst.specs.declared.inst.Cond.TheVariants.{Eq}
+use Rattle.b3_base.specs.Word.{bits}
+use Rattle.b3_base.specs.declared.word.Width.{Width}
+use Rattle.b3_base.specs.declared.word.Width.TheVariants.{W32, W64}
+use Rattle.exit_table.specs.Good.{IsGoodSaved}
+use Rattle.stackmap.specs.declared.site.SavedRow.{SavedRow}
+use Rattle.a64_inst.specs.WellFormed.{IsReg, IsWellFormed, last_half}
+use Rattle.a64_inst.specs.declared.inst.AccessKind.TheVariants.{LdrX, StrX}
+use Rattle.a64_inst.specs.declared.inst.Inst.{Inst}
+use Rattle.a64_inst.specs.declared.inst.Inst.TheVariants.{Access, AddSubImm, Break, Select}
+use Rattle.a64_inst.specs.declared.item.Item.{Item}
+use Rattle.a64_inst.specs.declared.item.Item.TheVariants.{If, IfBit, IfZero, Jump, Label, Mark, Plain}
+use Rattle.air_ir.specs.declared.frame.Frame.{Frame}
+use Rattle.air_ir.specs.declared.op.AirOp.{AirOp}
+use Rattle.air_ir.specs.declared.op.AirOp.TheVariants as op
+use Rattle.air_ir.specs.declared.op.Test.{Test}
+use Rattle.air_ir.specs.declared.op.Test.TheVariants.{Compare, NonZero, Bit}
+use Rattle.air_ir.specs.declared.operand.Arg.{Arg}
+use Rattle.air_ir.specs.declared.operand.Arg.TheVariants.{At, Imm, Addr, Index, FrameSlot}
+use Rattle.air_ir.specs.declared.operand.Home.TheVariants.{Reg, Spill, Tmp}
+use Rattle.air_ir.specs.declared.operand.Operand.{Operand}
+use Rattle.air_ir.specs.declared.operand.Role.{Role}
+use Rattle.air_ir.specs.declared.operand.Role.TheVariants.{Use, LateUse, EarlyDef, Def, Clobber}
+use Rattle.air_ir.specs.WellFormed.{IsGoodBlock, IsGoodInst, NamesOwn, IsWellFormed as IsGoodProc}
+use Rattle.a64_emit.proofs.Fits.{fitting}
+use Rattle.air_ir.specs.declared.procedure.AirBlock.{AirBlock}
+use Rattle.air_ir.specs.declared.procedure.AirInst.{AirInst}
+use Rattle.air_ir.specs.declared.procedure.AirProc.{AirProc}
+use Rattle.a64_layout.specs.Branch.{IsTest, branch_in}
+use Rattle.a64_layout.specs.Layout.{position_of}
+use Rattle.a64_layout.specs.Text.{is_any_label, is_any_mark, label_count, mark_count}
+use Rattle.a64_emit.specs.Code.{arg_at, block_labels, blocks_items, branch_item, branches, compared, compute_code, copy_code, copy_reg, bring, emitted, fetch, fetch_below, fetch_tested, inst_code, inst_items, insts_items, jump_to, put_result, result_at, result_reg, select_code, set_code, source_at, source_of, test_at, test_count, width_at}
+use Rattle.a64_emit.specs.Computing.{computing, condition, move_reg, reg_of, testing}
+use Rattle.a64_emit.specs.Constants.{constant, filling, half_count, half_move, half_moves, half_word, is_inverted}
+use Rattle.a64_emit.specs.Fitting.{IsComputed, IsFitting, IsTested}
+use Rattle.a64_emit.specs.Places.{above_sp, epilogue, leave, load_at, lower_sp, plains, prologue, restores, saves, spill_offset, store_at, unless_zero}
+use Rattle.a64_emit.specs.Switched.{compare_case, switch_items}
+use Rattle.a64_emit.specs.declared.source.Source.{Source}
+use Rattle.a64_emit.proofs.Positions.{Each, each_append}
+use Rattle.a64_emit.proofs.Shapes.{computing_plain, move_plain, testing_plain}
+
+-- ---- instructions
+
+-- the fields of each instruction are in range
+abbrev pub AllWell : List Inst → Type 0
+AllWell [] = Unit {0}
+AllWell (inst ∷ insts) = IsWellFormed inst × AllWell insts
+
+well_append : (xs ys : List Inst) → AllWell xs → AllWell ys → AllWell (xs ++ ys)
+well_append [] ys first rest = rest
+well_append (x ∷ xs) ys first rest = (first.0, well_append xs ys first.1 rest)
+
+le_of : (a b : ℕ) → nat_le a b ≡ true → a ≤ b
+le_of a b e = grind (arith, nat_tests)
+
+load_well : (reg bytes : ℕ) → reg ≤ 31 → bytes < 2 ^ 21 → AllWell (load_at reg bytes)
+unfolding load_at
+load_well reg bytes le small =
+    elim (nat_le bytes 32760) as (λ b. nat_le bytes 32760 ≡ b → AllWell (if b then Access LdrX reg 31 (bytes / 8) ∷ [] else
+    AddSubImm W64 false false reg 31 (bytes / 4096) true ∷ Access LdrX reg reg (bytes % 4096 / 8) ∷ [])) [
+      | true ↦ λ e. let near = le_of bytes 32760 e in ((le, omega arith, omega arith), tt)
+      | false ↦ λ e. ((le, omega arith, omega arith), ((le, le, omega arith), tt))
+    ] refl
+
+store_well : (reg bytes : ℕ) → reg ≤ 31 → bytes < 2 ^ 21 → AllWell (store_at reg bytes)
+unfolding store_at
+store_well reg bytes le small =
+    elim (nat_le bytes 32760) as (λ b. nat_le bytes 32760 ≡ b → AllWell (if b then Access StrX reg 31 (bytes / 8) ∷ [] else
+    AddSubImm W64 false false 15 31 (bytes / 4096) true ∷ Access StrX reg 15 (bytes % 4096 / 8) ∷ [])) [
+      | true ↦ λ e. let near = le_of bytes 32760 e in ((le, omega arith, omega arith), tt)
+      | false ↦ λ e. ((omega arith, omega arith, omega arith), ((le, omega arith, omega arith), tt))
+    ] refl
+
+-- ---- constants
+
+half_small : (word hw : ℕ) → half_word word hw < 2 ^ 16
+half_small word hw = omega arith
+
+last_is : (width : Width) (hw : ℕ) → hw < half_count width → hw ≤ last_half width
+last_is W32 hw lt = omega arith
+last_is W64 hw lt = omega arith
+
+move_well : (width : Width) (inverted started : Bool) (reg half hw : ℕ) → reg ≤ 31 → half < 2 ^ 16 → hw ≤ last_half width → IsWellFormed (half_move width inverted started reg half hw)
+move_well width inverted true reg half hw le small last = (le, small, last)
+move_well width true false reg half hw le small last = (le, omega arith, last)
+move_well width false false reg half hw le small last = (le, small, last)
+
+fill_small : (inverted : Bool) → filling inverted < 2 ^ 16
+fill_small true = omega arith
+fill_small false = omega arith
+
+count_pos : (width : Width) → 0 < half_count width
+count_pos W32 = omega arith
+count_pos W64 = omega arith
+
+moves_well : (width : Width) (inverted : Bool) (reg word : ℕ) (started : Bool) (n hw : ℕ) → reg ≤ 31 → hw + n ≡ half_count width
+    → AllWell (half_moves width inverted reg word started n hw)
+unfolding half_moves
+moves_well width inverted reg word true zero hw le count = tt
+moves_well width inverted reg word false zero hw le count = (move_well width inverted false reg (filling inverted) 0 le (fill_small inverted) (last_is width 0 (count_pos width)), tt)
+moves_well width inverted reg word started (suc n) hw le count =
+    elim (nat_eq (half_word word hw) (filling inverted)) as (λ b. AllWell (if b then half_moves width inverted reg word started n (hw + 1) else
+    half_move width inverted started reg (half_word word hw) hw ∷ half_moves width inverted reg word true n (hw + 1))) [
+      | true ↦ moves_well width inverted reg word started n (hw + 1) le (omega arith)
+      | false ↦ (move_well width inverted started reg (half_word word hw) hw le (half_small word hw) (last_is width hw (omega arith)),
+          moves_well width inverted reg word true n (hw + 1) le (omega arith))
+    ]
+
+constant_well : (width : Width) (reg word : ℕ) → reg ≤ 31 → AllWell (constant width reg word)
+unfolding constant
+constant_well width reg word le = moves_well width (is_inverted width word) reg word false (half_count width) 0 le (omega arith)
+
+-- ---- operands
+
+-- the registers of an argument are those of the processor
+abbrev pub IsSmallArg : Arg → Type 0
+IsSmallArg (At (Reg r)) = r.0 ≤ 30
+IsSmallArg arg = Unit {0}
+
+abbrev pub AreSmall : List Operand → Type 0
+AreSmall os = (k : ℕ) → IsSmallArg (arg_at os k)
+
+source_small : (scratch : ℕ) (arg : Arg) → scratch ≤ 30 → IsSmallArg arg → reg_of (source_of scratch arg) ≤ 31
+source_small scratch (At (Reg r)) le small = omega arith
+source_small scratch (At (Spill n)) le small = omega arith
+source_small scratch (At (Tmp n)) le small = omega arith
+source_small scratch (Imm word) le small = omega arith
+source_small scratch (Addr base offset) le small = omega arith
+source_small scratch (Index base index shift) le small = omega arith
+source_small scratch (FrameSlot n) le small = omega arith
+
+result_small : (arg : Arg) → IsSmallArg arg → result_reg arg ≤ 31
+result_small (At (Reg r)) small = omega arith
+result_small (At (Spill n)) small = omega arith
+result_small (At (Tmp n)) small = omega arith
+result_small (Imm word) small = omega arith
+result_small (Addr base offset) small = omega arith
+result_small (Index base index shift) small = omega arith
+result_small (FrameSlot n) small = omega arith
+
+module _ (f : Frame) (limit : f.bytes < 2 ^ 21) where
+  pub fetch_well : (scratch : ℕ) (arg : Arg) → scratch ≤ 31 → AllWell (fetch f scratch arg)
+  unfolding fetch
+  fetch_well scratch (At (Spill n)) le = load_well scratch (above_sp f (spill_offset f n)) le (omega arith)
+  fetch_well scratch (At (Reg r)) le = tt
+  fetch_well scratch (At (Tmp n)) le = tt
+  fetch_well scratch (Imm word) le = tt
+  fetch_well scratch (Addr base offset) le = tt
+  fetch_well scratch (Index base index shift) le = tt
+  fetch_well scratch (FrameSlot n) le = tt
+
+  below_well : (n : ℕ) (os : List Operand) (k scratch : ℕ) → scratch ≤ 31 → AllWell (fetch_below n f os k scratch)
+  below_well n os k scratch le = elim (nat_lt k n) as (λ b. AllWell (if b then fetch f scratch (arg_at os k) else [])) [ true ↦ fetch_well scratch (arg_at os k) le | false ↦ tt ]
+
+  put_well : (reg : ℕ) (arg : Arg) → reg ≤ 31 → AllWell (put_result f reg arg)
+  unfolding put_result
+  put_well reg (At (Spill n)) le = store_well reg (above_sp f (spill_offset f n)) le (omega arith)
+  put_well reg (At (Reg r)) le = tt
+  put_well reg (At (Tmp n)) le = tt
+  put_well reg (Imm word) le = tt
+  put_well reg (Addr base offset) le = tt
+  put_well reg (Index base index shift) le = tt
+  put_well reg (FrameSlot n) le = tt
+
+  bring_well : (width : Width) (reg : ℕ) (arg : Arg) → reg ≤ 31 → IsSmallArg arg → AllWell (bring f width reg arg)
+  unfolding bring
+  bring_well width reg (At (Reg from)) le small =
+      elim (nat_eq reg from.0) as (λ b. AllWell (if b then [] else move_reg width reg from.0 ∷ [])) [ true ↦ tt | false ↦ ((move_plain width reg from.0 le (omega arith)).fields, tt) ]
+  bring_well width reg (At (Spill n)) le small = load_well reg (above_sp f (spill_offset f n)) le (omega arith)
+  bring_well width reg (At (Tmp n)) le small = tt
+  bring_well width reg (Imm word) le small = constant_well width reg word le
+  bring_well width reg (Addr base offset) le small = tt
+  bring_well width reg (Index base index shift) le small = tt
+  bring_well width reg (FrameSlot n) le small = tt
+
+  copy_small : (from to : Arg) → IsSmallArg from → IsSmallArg to → copy_reg from to ≤ 31
+  copy_small (At (Reg r)) (At (Spill n)) small_from small_to = omega arith
+  copy_small (At (Reg r)) (At (Reg q)) small_from small_to = omega arith
+  copy_small (At (Reg r)) (At (Tmp q)) small_from small_to = omega arith
+  copy_small (At (Reg r)) (Imm word) small_from small_to = omega arith
+  copy_small (At (Reg r)) (Addr base offset) small_from small_to = omega arith
+  copy_small (At (Reg r)) (Index base index shift) small_from small_to = omega arith
+  copy_small (At (Reg r)) (FrameSlot n) small_from small_to = omega arith
+  copy_small (At (Spill n)) to small_from small_to = result_small to small_to
+  copy_small (At (Tmp n)) to small_from small_to = result_small to small_to
+  copy_small (Imm word) to small_from small_to = result_small to small_to
+  copy_small (Addr base offset) to small_from small_to = result_small to small_to
+  copy_small (Index base index shift) to small_from small_to = result_small to small_to
+  copy_small (FrameSlot n) to small_from small_to = result_small to small_to
+
+  compute_well : (o : AirOp) (os : List Operand) → AreSmall os → IsComputed o (width_at os 0) (source_at os 1 16) → AllWell (compute_code f o os)
+  compute_well o os small fits =
+      let rd : ℕ = result_reg (result_at os) in
+      let le_rd = result_small (result_at os) (small (length os - 1)) in
+      let n : ℕ = length os - 1 in
+      well_append ((fetch_below n f os 0 15 ++ fetch_below n f os 1 16) ++ fetch_below n f os 2 17)
+      (computing o (width_at os 0) rd (source_at os 0 15) (source_at os 1 16) (source_at os 2 17) ∷ put_result f rd (result_at os))
+      (well_append (fetch_below n f os 0 15 ++ fetch_below n f os 1 16) (fetch_below n f os 2 17)
+      (well_append (fetch_below n f os 0 15) (fetch_below n f os 1 16) (below_well n os 0 15 (omega arith)) (below_well n os 1 16 (omega arith)))
+      (below_well n os 2 17 (omega arith)))
+      ((computing_plain o (width_at os 0) rd (source_at os 0 15) (source_at os 1 16) (source_at os 2 17) le_rd (source_small 15 (arg_at os 0) (omega arith) (small 0))
+      (source_small 16 (arg_at os 1) (omega arith) (small 1)) (source_small 17 (arg_at os 2) (omega arith) (small 2)) fits).fields, put_well rd (result_at os) le_rd)
+
+  pub tested_well : (t : Test) (os : List Operand) → AllWell (fetch_tested f t os)
+  tested_well t os = well_append (fetch f 15 (arg_at os 0)) (fetch_below (test_count t) f os 1 16) (fetch_well 15 (arg_at os 0) (omega arith)) (below_well (test_count t) os 1 16 (omega arith))
+
+  test_well : (t : Test) (os : List Operand) → AreSmall os → IsTested t (width_at os 0) (source_at os 1 16) → IsWellFormed (test_at t os)
+  test_well t os small fits =
+      (testing_plain t (width_at os 0) (source_at os 0 15) (source_at os 1 16) (source_small 15 (arg_at os 0) (omega arith) (small 0))
+      (source_small 16 (arg_at os 1) (omega arith) (small 1)) fits).fields
+
+  pub compared_well : (t : Test) (os : List Operand) → AreSmall os → IsTested t (width_at os 0) (source_at os 1 16) → AllWell (compared t os)
+  compared_well (Compare cond) os small fits = (test_well (Compare cond) os small fits, tt)
+  compared_well NonZero os small fits = tt
+  compared_well (Bit bit) os small fits = tt
+
+  pub code_well : (o : AirOp) (os : List Operand) → AreSmall os → IsFitting o os → AllWell (inst_code f o os)
+  unfolding inst_code
+  code_well op.Move os small fits =
+      let reg : ℕ = copy_reg (arg_at os 0) (arg_at os 1) in
+      let le = copy_small (arg_at os 0) (arg_at os 1) (small 0) (small 1) in
+      well_append (bring f (width_at os 0) reg (arg_at os 0)) (put_result f reg (arg_at os 1)) (bring_well (width_at os 0) reg (arg_at os 0) le (small 0)) (put_well reg (arg_at os 1) le)
+  code_well (op.SetIf t) os small fits =
+      let le = result_small (result_at os) (small (length os - 1)) in
+      well_append (fetch_tested f t os) _ (tested_well t os) (test_well t os small fits, ((le, omega arith, omega arith), put_well (result_reg (result_at os)) (result_at os) le))
+  code_well (op.SelectIf t) os small fits =
+      let n : ℕ = test_count t in
+      let le = result_small (result_at os) (small (length os - 1)) in
+      let first : List Inst = fetch f 15 (arg_at os n) in
+      let second : List Inst = fetch f 16 (arg_at os (n + 1)) in
+      well_append ((fetch_tested f t os ++ test_at t os ∷ first) ++ second) _
+      (well_append (fetch_tested f t os ++ test_at t os ∷ first) second
+      (well_append (fetch_tested f t os) (test_at t os ∷ first) (tested_well t os) (test_well t os small fits, fetch_well 15 (arg_at os n) (omega arith)))
+      (fetch_well 16 (arg_at os (n + 1)) (omega arith)))
+      ((le, source_small 15 (arg_at os n) (omega arith) (small n), source_small 16 (arg_at os (n + 1)) (omega arith) (small (n + 1))), put_well (result_reg (result_at os)) (result_at os) le)
+  code_well (op.BranchIf t) os small fits = compute_well (op.BranchIf t) os small tt
+  code_well o os small fits = compute_well o os small fits
+
+-- ---- the frame
+
+  saves_well : (rows : List SavedRow) → All (IsGoodSaved f.bytes) rows → AllWell (saves f rows)
+  unfolding saves
+  saves_well [] goods = tt
+  saves_well (s ∷ rows) goods =
+      let high = (All-head (IsGoodSaved f.bytes) s rows goods).high in
+      well_append (store_at s.reg.0 (above_sp f s.offset)) (saves f rows) (store_well s.reg.0 (above_sp f s.offset) (omega arith) (omega arith))
+      (saves_well rows (All-tail (IsGoodSaved f.bytes) s rows goods))
+
+  restores_well : (rows : List SavedRow) → All (IsGoodSaved f.bytes) rows → AllWell (restores f rows)
+  unfolding restores
+  restores_well [] goods = tt
+  restores_well (s ∷ rows) goods =
+      let high = (All-head (IsGoodSaved f.bytes) s rows goods).high in
+      well_append (load_at s.reg.0 (above_sp f s.offset)) (restores f rows) (load_well s.reg.0 (above_sp f s.offset) (omega arith) (omega arith))
+      (restores_well rows (All-tail (IsGoodSaved f.bytes) s rows goods))
+
+  unless_well : (n : ℕ) (insts : List Inst) → AllWell insts → AllWell (unless_zero n insts)
+  unless_well n insts well = elim (nat_eq n 0) as (λ b. AllWell (if b then [] else insts)) [ true ↦ tt | false ↦ well ]
+
+  lower_well : (bytes : ℕ) → bytes < 2 ^ 21 → AllWell (lower_sp bytes)
+  unfolding lower_sp
+  lower_well bytes small =
+      well_append (unless_zero (bytes / 4096) (AddSubImm W64 true false 31 31 (bytes / 4096) true ∷ [])) (unless_zero (bytes % 4096) (AddSubImm W64 true false 31 31 (bytes % 4096) false ∷ []))
+      (unless_well (bytes / 4096) (AddSubImm W64 true false 31 31 (bytes / 4096) true ∷ []) ((omega arith, omega arith, omega arith), tt))
+      (unless_well (bytes % 4096) (AddSubImm W64 true false 31 31 (bytes % 4096) false ∷ []) ((omega arith, omega arith, omega arith), tt))
+
+  pub prologue_well : All (IsGoodSaved f.bytes) f.saved → AllWell (prologue f)
+  unfolding prologue
+  prologue_well goods =
+      ((omega arith, omega arith, omega (arith, ints), omega (arith, ints), tt), ((omega arith, omega arith, omega arith),
+      well_append (lower_sp (f.bytes - 16)) (saves f f.saved) (lower_well (f.bytes - 16) (omega arith)) (saves_well f.saved goods)))
+
+  pub epilogue_well : All (IsGoodSaved f.bytes) f.saved → AllWell (epilogue f)
+  unfolding epilogue
+  epilogue_well goods =
+      well_append (restores f f.saved) leave (restores_well f.saved goods)
+      ((omega arith, omega arith, omega arith), ((omega arith, omega arith, omega (arith, ints), omega (arith, ints), λ e. omega arith), (omega arith, tt)))
+
+-- ---- items
+
+-- the fields of an item are in range, and a label that it is or names is below a number; it is no mark
+abbrev pub IsFair : ℕ → Item → Type 0
+IsFair n (Plain inst) = IsWellFormed inst
+IsFair n (Jump label) = label < n
+IsFair n (If cond label) = label < n
+IsFair n (IfZero width nonzero reg label) = IsReg reg × (label < n)
+IsFair n (IfBit nonzero reg at label) = IsReg reg × (at < 64) × (label < n)
+IsFair n (Label label) = label < n
+IsFair n (Mark mark) = ⊥
+
+plains_fair : (n : ℕ) (insts : List Inst) → AllWell insts → Each (IsFair n) (plains insts)
+plains_fair n [] well = tt
+plains_fair n (inst ∷ insts) well = (well.0, plains_fair n insts well.1)
+
+jump_fair : (n next label : ℕ) → label < n → Each (IsFair n) (jump_to next label)
+jump_fair n next label lt = elim (nat_eq label next) as (λ b. Each (IsFair n) (if b then [] else Jump label ∷ [])) [ true ↦ tt | false ↦ (lt, tt) ]
+
+bits_most : (width : Width) → bits width ≤ 64
+bits_most W32 = omega arith
+bits_most W64 = omega arith
+
+branch_fair : (n : ℕ) (t : Test) (passes : Bool) (width : Width) (b : Source) (reg label : ℕ) → IsTested t width b → reg ≤ 31 → label < n → IsFair n (branch_item t passes width reg label)
+branch_fair n (Compare cond) passes width b reg label fits le lt = lt
+branch_fair n NonZero passes width b reg label fits le lt = (le, lt)
+branch_fair n (Bit bit) passes width b reg label fits le lt = let most = bits_most width in (le, omega (arith, fits), lt)
+
+branches_fair : (n : ℕ) (t : Test) (width : Width) (b : Source) (reg next then_label else_label : ℕ) → IsTested t width b → reg ≤ 31 → then_label < n → else_label < n
+    → Each (IsFair n) (branches t width reg next then_label else_label)
+branches_fair n t width b reg next then_label else_label fits le lt_then lt_else =
+    elim (nat_eq then_label next) as (λ c. Each (IsFair n) (if c then branch_item t false width reg else_label ∷ [] else branch_item t true width reg then_label ∷ jump_to next else_label)) [
+      | true ↦ (branch_fair n t false width b reg else_label fits le lt_else, tt)
+      | false ↦ (branch_fair n t true width b reg then_label fits le lt_then, jump_fair n next else_label lt_else)
+    ]
+
+case_well : (width : Width) (reg case : ℕ) → reg ≤ 31 → AllWell (compare_case width reg case)
+case_well W32 reg case le = well_append (constant W32 16 (low W32 case)) _ (constant_well W32 16 (low W32 case) (omega arith)) ((omega arith, le, omega arith, omega arith, omega arith), tt)
+case_well W64 reg case le = well_append (constant W64 16 (low W64 case)) _ (constant_well W64 16 (low W64 case) (omega arith)) ((omega arith, le, omega arith, omega arith, omega arith), tt)
+
+switch_fair : (n : ℕ) (width : Width) (reg next label : ℕ) (cases targets : List ℕ) → reg ≤ 31 → ((j : ℕ) → j < length targets → get_or targets j 0 < n)
+    → Each (IsFair n) (switch_items width reg next label cases targets)
+unfolding switch_items
+switch_fair n width reg next label [] [] le below = tt
+switch_fair n width reg next label [] (target ∷ targets) le below = jump_fair n next target (below 0 (omega arith))
+switch_fair n width reg next label (case ∷ cases) [] le below = tt
+switch_fair n width reg next label (case ∷ cases) (target ∷ targets) le below =
+    each_append (IsFair n) (plains (compare_case width reg case)) (If Eq target ∷ switch_items width reg next label cases targets)
+    (plains_fair n (compare_case width reg case) (case_well width reg case le))
+    (below 0 (omega arith), switch_fair n width reg next label cases targets le (λ j lt. below (suc j) (omega arith)))
+
+pub get_or_none : {X : Type 0} (xs : List X) (j : ℕ) (d : X) → length xs ≤ j → get_or xs j d ≡ d
+get_or_none [] j d le = refl
+get_or_none (x ∷ xs) zero d le = absurd (omega arith)
+get_or_none (x ∷ xs) (suc j) d le = get_or_none xs j d (omega arith)
+
+-- where there are no targets, 0 counts
+target_below : (n : ℕ) (targets : List ℕ) (j : ℕ) → 0 < n → ((j : ℕ) → j < length targets → get_or targets j 0 < n) → get_or targets j 0 < n
+target_below n targets j some below =
+    ⊎_elim (λ lt. below j lt) (λ ge. let none : get_or targets j 0 ≡ 0 = get_or_none targets j 0 ge in omega arith) (cases_lt j (length targets))
+
+-- an instruction whose code is fair in a procedure of so many blocks
+pub record IsFairInst (n : ℕ) (targets : List ℕ) (o : AirOp) (os : List Operand) : Type 0 where
+  pub small : AreSmall os
+  pub fits : IsFitting o os
+  pub below : (j : ℕ) → j < length targets → get_or targets j 0 < n
+
+module _ (f : Frame) (limit : f.bytes < 2 ^ 21) (goods : All (IsGoodSaved f.bytes) f.saved) (n : ℕ) (some : 0 < n) where
+  pub inst_fair : (next label : ℕ) (targets : List ℕ) (o : AirOp) (os : List Operand) → IsFairInst n targets o os → Each (IsFair n) (inst_items f next label targets o os)
+  unfolding inst_items
+  inst_fair next label targets (op.BranchIf t) os h =
+      let reg : ℕ = reg_of (source_at os 0 15) in
+      let le = source_small 15 (arg_at os 0) (omega arith) (h.small 0) in
+      each_append (IsFair n) (plains (fetch_tested f t os ++ compared t os)) (branches t (width_at os 0) reg next (get_or targets 0 0) (get_or targets 1 0))
+      (plains_fair n (fetch_tested f t os ++ compared t os) (well_append (fetch_tested f t os) (compared t os) (tested_well f limit t os) (compared_well f limit t os h.small h.fits)))
+      (branches_fair n t (width_at os 0) (source_at os 1 16) reg next (get_or targets 0 0) (get_or targets 1 0) h.fits le (target_below n targets 0 some h.below) (target_below n targets 1 some h.below))
+  inst_fair next label targets op.Jump os h = jump_fair n next (get_or targets 0 0) (target_below n targets 0 some h.below)
+  inst_fair next label targets (op.Switch cases) os h =
+      let reg : ℕ = reg_of (source_at os 0 15) in
+      let le = source_small 15 (arg_at os 0) (omega arith) (h.small 0) in
+      each_append (IsFair n) (plains (fetch f 15 (arg_at os 0))) (switch_items (width_at os 0) reg next label cases targets)
+      (plains_fair n (fetch f 15 (arg_at os 0)) (fetch_well f limit 15 (arg_at os 0) (omega arith))) (switch_fair n (width_at os 0) reg next label cases targets le h.below)
+  inst_fair next label targets op.Return os h = plains_fair n (epilogue f) (epilogue_well f limit goods)
+  inst_fair next label targets op.Oops os h = (omega arith, tt)
+  inst_fair next label targets o os h = plains_fair n (inst_code f o os) (code_well f limit o os h.small h.fits)
+
+-- ---- the procedure
+
+allocatable_small : (r : ℕ) → (r ≤ 14) ⊎ ((19 ≤ r) × (r ≤ 28)) → r ≤ 30
+allocatable_small r is = ⊎_elim (λ (le : r ≤ 14). omega arith) (λ (h : (19 ≤ r) × (r ≤ 28)). omega (arith, h.1)) is
+
+named_small : (p : AirProc) (role : Role) (arg : Arg) → NamesOwn p role arg → IsSmallArg arg
+named_small p EarlyDef (At (Reg r)) named = named.0
+named_small p Clobber (At (Reg r)) named = named.0
+named_small p Use (At (Reg r)) named = allocatable_small r.0 named
+named_small p LateUse (At (Reg r)) named = allocatable_small r.0 named
+named_small p Def (At (Reg r)) named = allocatable_small r.0 named
+named_small p role (At (Spill n)) named = tt
+named_small p role (At (Tmp n)) named = tt
+named_small p role (Imm word) named = tt
+named_small p role (Addr base offset) named = tt
+named_small p role (Index base index shift) named = tt
+named_small p role (FrameSlot n) named = tt
+
+names_small : (p : AirProc) (os : List Operand) → All (λ (o : Operand). NamesOwn p o.role o.arg) os → AreSmall os
+names_small p os named k =
+    let none : Operand = record { role = Use; width = W64; arg = Imm 0 } in
+    ⊎_elim
+    (λ lt. named_small p (get_or os k none).role (get_or os k none).arg (named k none lt))
+    (λ ge. subst (λ (o : Operand). IsSmallArg o.arg) (sym (get_or_none os k none ge)) tt)
+    (cases_lt k (length os))
+
+module _ (p : AirProc) (f : Frame) (well : IsGoodProc p) (limit : f.bytes < 2 ^ 21) (goods : All (IsGoodSaved f.bytes) f.saved) where
+  insts_fair : (next label : ℕ) (targets : List ℕ) (insts : List AirInst) → All (IsGoodInst p) insts → ((j : ℕ) → j < length targets → get_or targets j 0 < length p.blocks)
+      → Each (IsFair (length p.blocks)) (insts_items f next label targets insts)
+  unfolding insts_items
+  insts_fair next label targets [] good below = tt
+  insts_fair next label targets (i ∷ insts) good below =
+      let here = All-head (IsGoodInst p) i insts good in
+      each_append (IsFair (length p.blocks)) (inst_items f next label targets i.op i.operands) (insts_items f next label targets insts)
+      (inst_fair f limit goods (length p.blocks) well.entry next label targets i.op i.operands
+      (record { small = names_small p i.operands here.names; fits = fitting p.returns i.op i.operands here.operands; below = below }))
+      (insts_fair next label targets insts (All-tail (IsGoodInst p) i insts good) below)
+
+  blocks_fair : (first label : ℕ) (blocks : List AirBlock) → All (IsGoodBlock p) blocks → first + length blocks ≤ length p.blocks
+      → Each (IsFair (length p.blocks)) (blocks_items f first label blocks)
+  unfolding blocks_items
+  blocks_fair first label [] good le = tt
+  blocks_fair first label (block ∷ blocks) good le =
+      let here = All-head (IsGoodBlock p) block blocks good in
+      (omega arith, each_append (IsFair (length p.blocks)) (insts_items f (first + 1) label block.targets block.insts) (blocks_items f (first + 1) (label + block_labels block) blocks)
+      (insts_fair (first + 1) label block.targets block.insts here.insts (λ j lt. (here.targets j 0 lt).1))
+      (blocks_fair (first + 1) (label + block_labels block) blocks (All-tail (IsGoodBlock p) block blocks good) (omega arith)))
+
+  pub code_fair : Each (IsFair (length p.blocks)) (emitted p f)
+  unfolding emitted
+  code_fair =
+      each_append (IsFair (length p.blocks)) (plains (prologue f)) (blocks_items f 0 (length p.blocks) p.blocks)
+      (plains_fair (length p.blocks) (prologue f) (prologue_well f limit goods)) (blocks_fair 0 (length p.blocks) p.blocks well.blocks (omega arith))

@@ -1,0 +1,388 @@
+-- Where the blocks stand in the code of a procedure.
+use Rattle.std.proofs.Common.{◌≡◌, ℕ, zero, suc, ◌+◌, ◌-◌, ◌<◌, ◌≤◌, Bool, true, false, not, cond, ⊎_elim, List, [], ◌∷◌, ◌++◌, Some, None, length, get_or, refl, sym, ap, ◌∙◌, subst, arith, append_assoc, length-append, eq-eqb}
+use Rattle.std.proofs.lemmas.List.{append-nil}
+use Rattle.std.proofs.lemmas.Option.{slice_get-get_or}
+use Rattle.std.specs.Prelude.{map, nat_eq, slice_get, if◌then◌else◌}
+use Rattle.std.specs.List.{position_or_len}
+use Rattle.std.proofs.lemmas.Bool.{cases_lt, ne_eqb}
+use Rattle.a64_inst.specs.declared.inst.Inst.{Inst}
+use Rattle.a64_inst.specs.declared.item.Item.{Item}
+use Rattle.a64_inst.specs.declared.item.Item.TheVariants.{If, IfBit, IfZero, Jump, Label, Mark, Plain}
+use Rattle.b3_base.specs.declared.word.Width.{Width}
+use Rattle.air_ir.specs.declared.frame.Frame.{Frame}
+use Rattle.air_ir.specs.declared.op.AirOp.{AirOp}
+use Rattle.air_ir.specs.declared.op.AirOp.TheVariants as op
+use Rattle.air_ir.specs.declared.op.Test.{Test}
+use Rattle.air_ir.specs.declared.op.Test.TheVariants.{Compare, NonZero, Bit}
+use Rattle.air_ir.specs.declared.operand.Operand.{Operand}
+use Rattle.air_ir.specs.declared.procedure.AirBlock.{AirBlock}
+use Rattle.air_ir.specs.declared.procedure.AirInst.{AirInst}
+use Rattle.air_ir.specs.declared.procedure.AirProc.{AirProc}
+use Rattle.a64_layout.specs.Layout.{is_label, position_of}
+use Rattle.a64_layout.specs.Text.{is_any_label}
+use Rattle.a64_emit.specs.Code.{arg_at, block_labels, blocks_items, branch_item, branches, compared, emitted, fetch, fetch_tested, inst_code, inst_items, insts_items, jump_to, source_at, width_at}
+use Rattle.a64_emit.specs.Computing.{reg_of}
+use Rattle.a64_emit.specs.Places.{epilogue, plains, prologue}
+use Rattle.a64_emit.specs.Switched.{compare_case, switch_items}
+
+-- ---- items one after the other
+
+-- these items stand among others from item k on
+abbrev pub Among : List Item → ℕ → List Item → Type 0
+Among code k items = (j : ℕ) (item : Item) → slice_get items j ≡ Some item → slice_get code (k + j) ≡ Some item
+
+get_front : (a b : List Item) (n : ℕ) (x : Item) → slice_get a n ≡ Some x → slice_get (a ++ b) n ≡ Some x
+get_front [] b n x e = cc
+get_front (y ∷ a) b zero x e = e
+get_front (y ∷ a) b (suc n) x e = get_front a b n x e
+
+get_behind : (a b : List Item) (n : ℕ) → slice_get (a ++ b) (length a + n) ≡ slice_get b n
+get_behind [] b n = ap (slice_get b) (omega arith)
+get_behind (x ∷ a) b n = let e : length (x ∷ a) + n ≡ suc (length a + n) = omega arith in ap (slice_get (x ∷ (a ++ b))) e ∙ get_behind a b n
+
+pub among_split : (code before items rest : List Item) → code ≡ before ++ (items ++ rest) → Among code (length before) items
+among_split code before items rest split j item there =
+    ap (λ (xs : List Item). slice_get xs (length before + j)) split ∙ get_behind before (items ++ rest) j ∙ get_front items rest j item there
+
+pub among_first : (code : List Item) (k : ℕ) (xs ys : List Item) → Among code k (xs ++ ys) → Among code k xs
+among_first code k xs ys among j item there = among j item (get_front xs ys j item there)
+
+pub among_rest : (code : List Item) (k : ℕ) (xs ys : List Item) → Among code k (xs ++ ys) → Among code (k + length xs) ys
+among_rest code k xs ys among j item there =
+    ap (slice_get code) (omega arith) ∙ among (length xs + j) item (get_behind xs ys j ∙ there)
+
+-- ---- what holds of each item
+
+abbrev pub Each : (Item → Type 0) → List Item → Type 0
+Each P [] = Unit {0}
+Each P (item ∷ items) = P item × Each P items
+
+pub each_append : (P : Item → Type 0) (xs ys : List Item) → Each P xs → Each P ys → Each P (xs ++ ys)
+each_append P [] ys first rest = rest
+each_append P (x ∷ xs) ys first rest = (first.0, each_append P xs ys first.1 rest)
+
+-- an item that is no label
+abbrev pub IsInner : Item → Type 0
+IsInner item = is_any_label item ≡ false
+
+pub plains_inner : (insts : List Inst) → Each IsInner (plains insts)
+plains_inner [] = tt
+plains_inner (inst ∷ insts) = (refl, plains_inner insts)
+
+pub jump_inner : (next label : ℕ) → Each IsInner (jump_to next label)
+jump_inner next label = elim (nat_eq label next) as (λ b. Each IsInner (if b then [] else Jump label ∷ [])) [ true ↦ tt | false ↦ (refl, tt) ]
+
+branch_item_inner : (test : Test) (passes : Bool) (width : Width) (reg label : ℕ) → IsInner (branch_item test passes width reg label)
+branch_item_inner (Compare cond) passes width reg label = refl
+branch_item_inner NonZero passes width reg label = refl
+branch_item_inner (Bit bit) passes width reg label = refl
+
+branches_inner : (test : Test) (width : Width) (reg next then_label else_label : ℕ) → Each IsInner (branches test width reg next then_label else_label)
+branches_inner test width reg next then_label else_label =
+    elim (nat_eq then_label next) as (λ b. Each IsInner (if b then branch_item test false width reg else_label ∷ [] else
+    branch_item test true width reg then_label ∷ jump_to next else_label)) [
+      | true ↦ (branch_item_inner test false width reg else_label, tt)
+      | false ↦ (branch_item_inner test true width reg then_label, jump_inner next else_label)
+    ]
+
+pub switch_inner : (width : Width) (reg next label : ℕ) (cases targets : List ℕ) → Each IsInner (switch_items width reg next label cases targets)
+unfolding switch_items
+switch_inner width reg next label [] [] = tt
+switch_inner width reg next label [] (target ∷ targets) = jump_inner next target
+switch_inner width reg next label (case ∷ cases) [] = tt
+switch_inner width reg next label (case ∷ cases) (target ∷ targets) =
+    each_append IsInner (plains (compare_case width reg case)) (_ ∷ switch_items width reg next label cases targets) (plains_inner (compare_case width reg case))
+    (refl, switch_inner width reg next label cases targets)
+
+pub inst_inner : (f : Frame) (next label : ℕ) (targets : List ℕ) (o : AirOp) (os : List Operand) → Each IsInner (inst_items f next label targets o os)
+unfolding inst_items
+inst_inner f next label targets (op.BranchIf test) os =
+    each_append IsInner (plains (fetch_tested f test os ++ compared test os))
+    (branches test (width_at os 0) (reg_of (source_at os 0 15)) next (get_or targets 0 0) (get_or targets 1 0))
+    (plains_inner (fetch_tested f test os ++ compared test os))
+    (branches_inner test (width_at os 0) (reg_of (source_at os 0 15)) next (get_or targets 0 0) (get_or targets 1 0))
+inst_inner f next label targets op.Jump os = jump_inner next (get_or targets 0 0)
+inst_inner f next label targets (op.Switch cases) os =
+    each_append IsInner (plains (fetch f 15 (arg_at os 0))) (switch_items (width_at os 0) (reg_of (source_at os 0 15)) next label cases targets)
+    (plains_inner (fetch f 15 (arg_at os 0))) (switch_inner (width_at os 0) (reg_of (source_at os 0 15)) next label cases targets)
+inst_inner f next label targets op.Return os = plains_inner (epilogue f)
+inst_inner f next label targets op.Oops os = (refl, tt)
+inst_inner f next label targets o os = plains_inner (inst_code f o os)
+
+pub insts_inner : (f : Frame) (next label : ℕ) (targets : List ℕ) (insts : List AirInst) → Each IsInner (insts_items f next label targets insts)
+unfolding insts_items
+insts_inner f next label targets [] = tt
+insts_inner f next label targets (i ∷ is) =
+    each_append IsInner (inst_items f next label targets i.op i.operands) (insts_items f next label targets is)
+    (inst_inner f next label targets i.op i.operands) (insts_inner f next label targets is)
+
+-- ---- positions of labels
+
+-- an item that isn't this label
+abbrev pub IsNot : ℕ → Item → Type 0
+IsNot label item = is_label label item ≡ false
+
+is_not : (label : ℕ) (item : Item) → IsInner item → IsNot label item
+is_not label (Plain inst) inner = refl
+is_not label (Jump to) inner = refl
+is_not label (If cond to) inner = refl
+is_not label (IfZero width nonzero reg to) inner = refl
+is_not label (IfBit nonzero reg at to) inner = refl
+is_not label (Label to) inner = cc
+is_not label (Mark mark) inner = refl
+
+pub none_is : (label : ℕ) (items : List Item) → Each IsInner items → Each (IsNot label) items
+none_is label [] inner = tt
+none_is label (item ∷ items) inner = (is_not label item inner.0, none_is label items inner.1)
+
+first_is : (label : ℕ) (rest : List Item) → position_or_len (is_label label) (Label label ∷ rest) ≡ 0
+first_is label rest = ap (λ b. cond (not b) (1 + position_or_len (is_label label) rest) 0) (eq-eqb label label refl)
+
+first_not : (label : ℕ) (item : Item) (rest : List Item) → IsNot label item → position_or_len (is_label label) (item ∷ rest) ≡ 1 + position_or_len (is_label label) rest
+first_not label item rest none = ap (λ b. cond (not b) (1 + position_or_len (is_label label) rest) 0) none
+
+position_after : (label : ℕ) (before rest : List Item) → Each (IsNot label) before → position_or_len (is_label label) (before ++ Label label ∷ rest) ≡ length before
+position_after label [] rest none = first_is label rest
+position_after label (item ∷ before) rest none =
+    let more = position_after label before rest none.1 in
+    first_not label item (before ++ Label label ∷ rest) none.0 ∙ omega arith
+
+pub position_behind : (label : ℕ) (before rest : List Item) → Each (IsNot label) before → position_of (before ++ Label label ∷ rest) label ≡ length before
+unfolding position_of
+position_behind label before rest none = position_after label before rest none
+
+-- ---- the items of blocks
+
+-- one of some blocks: what stands before it and after it
+pub record BlockAmong (f : Frame) (items : List Item) (first : ℕ) (blocks : List AirBlock) (i : ℕ) (block : AirBlock) : Type 0 where
+  pub before : List Item
+  pub rest : List Item
+  pub own : ℕ
+  pub split : items ≡ before ++ (Label (first + i) ∷ (insts_items f (first + i + 1) own block.targets block.insts ++ rest))
+  pub clear : (label : ℕ) → first + i ≤ label → Each (IsNot label) before
+  pub more : i + 1 < length blocks → (behind : List Item) × (rest ≡ Label (first + i + 1) ∷ behind)
+  pub last : i + 1 ≡ length blocks → rest ≡ []
+  pub none : i ≡ 0 → before ≡ []
+  pub after : (label : ℕ) → label ≤ first + i → Each (IsNot label) rest
+
+blocks_rest : (f : Frame) (first label : ℕ) (blocks : List AirBlock) → 0 < length blocks → (behind : List Item) × (blocks_items f first label blocks ≡ Label first ∷ behind)
+unfolding blocks_items
+blocks_rest f first label [] some = absurd (omega arith)
+blocks_rest f first label (block ∷ blocks) some = (_, refl)
+
+blocks_none : (f : Frame) (first label : ℕ) (blocks : List AirBlock) → length blocks ≡ 0 → blocks_items f first label blocks ≡ []
+unfolding blocks_items
+blocks_none f first label [] none = refl
+blocks_none f first label (block ∷ blocks) none = absurd (omega arith)
+
+other_label : (a b : ℕ) → a < b → IsNot b (Label a)
+other_label a b lt = ne_eqb a b (λ e. omega arith)
+
+above_label : (a b : ℕ) → b < a → IsNot b (Label a)
+above_label a b lt = ne_eqb a b (λ e. omega arith)
+
+-- the labels of blocks are their numbers
+blocks_clear : (f : Frame) (first label : ℕ) (blocks : List AirBlock) (other : ℕ) → other < first → Each (IsNot other) (blocks_items f first label blocks)
+unfolding blocks_items
+blocks_clear f first label [] other lt = tt
+blocks_clear f first label (block ∷ blocks) other lt =
+    (above_label first other lt, each_append (IsNot other) (insts_items f (first + 1) label block.targets block.insts) (blocks_items f (first + 1) (label + block_labels block) blocks)
+    (none_is other (insts_items f (first + 1) label block.targets block.insts) (insts_inner f (first + 1) label block.targets block.insts))
+    (blocks_clear f (first + 1) (label + block_labels block) blocks other (omega arith)))
+
+pub block_among : (f : Frame) (first label : ℕ) (blocks : List AirBlock) (i : ℕ) (block : AirBlock) → slice_get blocks i ≡ Some block
+    → BlockAmong f (blocks_items f first label blocks) first blocks i block
+unfolding blocks_items
+block_among f first label [] i block there = cc
+block_among f first label (b ∷ bs) zero block there =
+    let same : b ≡ block = cc in
+    let e : first ≡ first + 0 = omega arith in
+    record {
+      before = [];
+      rest = blocks_items f (first + 1) (label + block_labels b) bs;
+      own = label;
+      split = ap (λ (x : AirBlock). Label first ∷ (insts_items f (first + 1) label x.targets x.insts ++ blocks_items f (first + 1) (label + block_labels b) bs)) same
+          ∙ ap (λ n. Label n ∷ (insts_items f (n + 1) label block.targets block.insts ++ blocks_items f (first + 1) (label + block_labels b) bs)) e;
+      clear = λ other le. tt;
+      more = λ lt. let rest = blocks_rest f (first + 1) (label + block_labels b) bs (omega arith) in (rest.0, rest.1 ∙ ap (λ n. Label (n + 1) ∷ rest.0) e);
+      last = λ is. blocks_none f (first + 1) (label + block_labels b) bs (omega arith);
+      none = λ is. refl;
+      after = λ other le. blocks_clear f (first + 1) (label + block_labels b) bs other (omega arith);
+    }
+block_among f first label (b ∷ bs) (suc i) block there =
+    let more = block_among f (first + 1) (label + block_labels b) bs i block there in
+    let e : first + 1 + i ≡ first + suc i = omega arith in
+    let items : List Item = insts_items f (first + 1) label b.targets b.insts in
+    let tail : ℕ → List Item = λ n. Label n ∷ (insts_items f (n + 1) more.own block.targets block.insts ++ more.rest) in
+    record {
+      before = Label first ∷ (items ++ more.before);
+      rest = more.rest;
+      own = more.own;
+      split = ap (λ (xs : List Item). Label first ∷ (items ++ xs)) (more.split ∙ ap (λ n. more.before ++ tail n) e)
+          ∙ ap (λ (xs : List Item). Label first ∷ xs) (sym (append_assoc items more.before (tail (first + suc i))));
+      clear = λ other le. (other_label first other (omega arith), each_append (IsNot other) items more.before
+          (none_is other items (insts_inner f (first + 1) label b.targets b.insts)) (more.clear other (omega arith)));
+      more = λ lt. let rest = more.more (omega arith) in (rest.0, rest.1 ∙ ap (λ n. Label (n + 1) ∷ rest.0) e);
+      last = λ is. more.last (omega arith);
+      none = λ is. absurd (omega arith);
+      after = λ other le. more.after other (omega arith);
+    }
+
+-- ---- the blocks of a procedure
+
+-- where a block stands in the code: its label, its items, and then the next label, or the end
+pub record BlockStands (p : AirProc) (f : Frame) (b : ℕ) (block : AirBlock) : Type 0 where
+  pub own : ℕ
+  pub label : slice_get (emitted p f) (position_of (emitted p f) b) ≡ Some (Label b)
+  pub items : Among (emitted p f) (position_of (emitted p f) b + 1) (insts_items f (b + 1) own block.targets block.insts)
+  pub next : b + 1 < length p.blocks → position_of (emitted p f) (b + 1) ≡ position_of (emitted p f) b + 1 + length (insts_items f (b + 1) own block.targets block.insts)
+  pub last : b + 1 ≡ length p.blocks → length (emitted p f) ≡ position_of (emitted p f) b + 1 + length (insts_items f (b + 1) own block.targets block.insts)
+  pub first : b ≡ 0 → position_of (emitted p f) b ≡ length (prologue f)
+  pub only : (k : ℕ) → slice_get (emitted p f) k ≡ Some (Label b) → k ≡ position_of (emitted p f) b
+
+pub each_at : (P : Item → Type 0) (items : List Item) (k : ℕ) (item : Item) → Each P items → slice_get items k ≡ Some item → P item
+each_at P [] k item each there = absurd cc
+each_at P (x ∷ items) zero item each there = let same : x ≡ item = cc in subst P same each.0
+each_at P (x ∷ items) (suc k) item each there = each_at P items k item each.1 there
+
+get_within : (a b : List Item) (n : ℕ) (x : Item) → n < length a → slice_get (a ++ b) n ≡ Some x → slice_get a n ≡ Some x
+get_within [] b n x lt e = absurd (omega arith)
+get_within (y ∷ a) b zero x lt e = e
+get_within (y ∷ a) b (suc n) x lt e = get_within a b n x (omega arith) e
+
+same_number : (label : ℕ) → is_label label (Label label) ≡ true
+same_number label = eq-eqb label label refl
+
+not_there : (label : ℕ) → IsNot label (Label label) → ⊥
+not_there label none = let yes = same_number label in cc
+
+-- a label stands once where no item before it or behind it is that label
+one_label : (label : ℕ) (front rest : List Item) (k : ℕ) → Each (IsNot label) front → Each (IsNot label) rest
+    → slice_get (front ++ Label label ∷ rest) k ≡ Some (Label label) → k ≡ length front
+one_label label front rest k before behind there =
+    ⊎_elim
+    (λ lt. absurd (not_there label (each_at (IsNot label) front k (Label label) before (get_within front (Label label ∷ rest) k (Label label) lt there))))
+    (λ ge. ⊎_elim
+    (λ more.
+    let e : length front + suc (k - length front - 1) ≡ k = omega arith in
+    let at : slice_get rest (k - length front - 1) ≡ Some (Label label) =
+    sym (get_behind front (Label label ∷ rest) (suc (k - length front - 1))) ∙ ap (slice_get (front ++ Label label ∷ rest)) e ∙ there in
+    absurd (not_there label (each_at (IsNot label) rest (k - length front - 1) (Label label) behind at)))
+    (λ le. omega arith)
+    (cases_lt (length front) k))
+    (cases_lt k (length front))
+
+pub length_plains : (insts : List Inst) → length (plains insts) ≡ length insts
+length_plains [] = refl
+length_plains (inst ∷ insts) = let more = length_plains insts in omega arith
+
+module _ (p : AirProc) (f : Frame) (b : ℕ) (block : AirBlock) (there : slice_get p.blocks b ≡ Some block) where
+  among : BlockAmong f (blocks_items f 0 (length p.blocks) p.blocks) 0 p.blocks b block
+  among = block_among f 0 (length p.blocks) p.blocks b block there
+
+  front : List Item
+  front = plains (prologue f) ++ among.before
+
+  inside : List Item
+  inside = insts_items f (b + 1) among.own block.targets block.insts
+
+  split : emitted p f ≡ front ++ (Label b ∷ (inside ++ among.rest))
+  unfolding emitted front inside
+  split =
+      let e : 0 + b ≡ b = omega arith in
+      ap (λ (xs : List Item). plains (prologue f) ++ xs)
+      (among.split ∙ ap (λ n. among.before ++ (Label n ∷ (insts_items f (n + 1) among.own block.targets block.insts ++ among.rest))) e)
+      ∙ sym (append_assoc (plains (prologue f)) among.before (Label b ∷ (inside ++ among.rest)))
+
+  clear : (label : ℕ) → b ≤ label → Each (IsNot label) front
+  unfolding front
+  clear label le =
+      each_append (IsNot label) (plains (prologue f)) among.before (none_is label (plains (prologue f)) (plains_inner (prologue f))) (among.clear label (omega arith))
+
+  at : position_of (emitted p f) b ≡ length front
+  at = ap (λ xs. position_of xs b) split ∙ position_behind b front (inside ++ among.rest) (clear b (omega arith))
+
+  -- up to the end of the block
+  whole : List Item
+  whole = front ++ (Label b ∷ inside)
+
+  whole_length : length whole ≡ position_of (emitted p f) b + 1 + length inside
+  unfolding whole
+  whole_length = let count = length-append front (Label b ∷ inside) in let here = at in omega arith
+
+  whole_split : emitted p f ≡ whole ++ among.rest
+  unfolding whole
+  whole_split = split ∙ sym (append_assoc front (Label b ∷ inside) among.rest)
+
+  whole_clear : Each (IsNot (b + 1)) whole
+  unfolding whole inside
+  whole_clear =
+      each_append (IsNot (b + 1)) front (Label b ∷ inside) (clear (b + 1) (omega arith))
+      (other_label b (b + 1) (omega arith), none_is (b + 1) inside (insts_inner f (b + 1) among.own block.targets block.insts))
+
+  next_at : b + 1 < length p.blocks → position_of (emitted p f) (b + 1) ≡ length whole
+  next_at lt =
+      let rest = among.more lt in
+      let e : 0 + b + 1 ≡ b + 1 = omega arith in
+      let same : emitted p f ≡ whole ++ (Label (b + 1) ∷ rest.0) = whole_split ∙ ap (λ (xs : List Item). whole ++ xs) (rest.1 ∙ ap (λ n. Label n ∷ rest.0) e) in
+      ap (λ xs. position_of xs (b + 1)) same ∙ position_behind (b + 1) whole rest.0 whole_clear
+
+  last_at : b + 1 ≡ length p.blocks → length (emitted p f) ≡ length whole
+  last_at is = ap (λ (xs : List Item). length xs) (whole_split ∙ ap (λ (xs : List Item). whole ++ xs) (among.last is) ∙ append-nil whole)
+
+  label_at : slice_get (emitted p f) (position_of (emitted p f) b) ≡ Some (Label b)
+  label_at =
+      ap (slice_get (emitted p f)) (at ∙ omega arith)
+      ∙ among_split (emitted p f) front (Label b ∷ inside) among.rest (split ∙ refl) 0 (Label b) refl
+
+  items_at : Among (emitted p f) (position_of (emitted p f) b + 1) inside
+  items_at =
+      let behind : Among (emitted p f) (length front) (Label b ∷ inside) = among_split (emitted p f) front (Label b ∷ inside) among.rest (split ∙ refl) in
+      let e : length front + length (Label b ∷ []) ≡ position_of (emitted p f) b + 1 = let here = at in omega arith in
+      subst (λ k. Among (emitted p f) k inside) e (among_rest (emitted p f) (length front) (Label b ∷ []) inside behind)
+
+  first_at : b ≡ 0 → position_of (emitted p f) b ≡ length (prologue f)
+  unfolding front
+  first_at is =
+      let count = length_plains (prologue f) in
+      at ∙ ap (λ (xs : List Item). length (plains (prologue f) ++ xs)) (among.none is) ∙ ap (λ (xs : List Item). length xs) (append-nil (plains (prologue f))) ∙ count
+
+  only_at : (k : ℕ) → slice_get (emitted p f) k ≡ Some (Label b) → k ≡ position_of (emitted p f) b
+  unfolding inside
+  only_at k is =
+      one_label b front (inside ++ among.rest) k (clear b (omega arith))
+      (each_append (IsNot b) inside among.rest (none_is b inside (insts_inner f (b + 1) among.own block.targets block.insts)) (among.after b (omega arith)))
+      (ap (λ (xs : List Item). slice_get xs k) (sym split) ∙ is)
+      ∙ sym at
+
+  pub block_stands : BlockStands p f b block
+  unfolding inside
+  block_stands = record {
+    own = among.own;
+    label = label_at;
+    items = items_at;
+    next = λ lt. next_at lt ∙ whole_length;
+    last = λ is. last_at is ∙ whole_length;
+    first = first_at;
+    only = only_at;
+  }
+
+-- the labels of blocks stand in order
+module _ (p : AirProc) (f : Frame) where
+  next_higher : (b : ℕ) → b + 1 < length p.blocks → position_of (emitted p f) b < position_of (emitted p f) (b + 1)
+  next_higher b lt =
+      let d : AirBlock = record { insts = []; targets = [] } in
+      let stands = block_stands p f b (get_or p.blocks b d) (slice_get-get_or p.blocks b d (omega arith)) in
+      let next = stands.next lt in
+      omega arith
+
+  pub positions_rise : (b c : ℕ) → b < c → c < length p.blocks → position_of (emitted p f) b < position_of (emitted p f) c
+  positions_rise b zero lt within = absurd (omega arith)
+  positions_rise b (suc c) lt within =
+      let e : suc c ≡ c + 1 = omega arith in
+      let step : position_of (emitted p f) c < position_of (emitted p f) (suc c) =
+      subst (λ n. position_of (emitted p f) c < position_of (emitted p f) n) (sym e) (next_higher c (omega arith)) in
+      ⊎_elim
+      (λ less. let before = positions_rise b c less (omega arith) in omega arith)
+      (λ more. let same : b ≡ c = omega arith in let at = ap (position_of (emitted p f)) same in omega arith)
+      (cases_lt b c)

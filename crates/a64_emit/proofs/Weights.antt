@@ -1,0 +1,332 @@
+-- The words of each instruction, and of a procedure.
+use Rattle.std.proofs.Common.{◌≡◌, ◌≢◌, ℕ, zero, suc, ◌+◌, ◌-◌, ◌*◌, ◌/◌, ◌%◌, ◌^◌, ◌<◌, ◌≤◌, max, Bool, true, false, ⊎_elim, List, [], ◌∷◌, ◌++◌, Option, Some, None, map, length, get_or, refl, sym, ap, ◌∙◌, subst, arith, length-append}
+use Rattle.std.specs.Prelude.{All, nat_eq, nat_le, nat_lt, slice_get, if◌then◌else◌}
+use Rattle.std.specs.List.{filter, sum_by}
+use Rattle.std.proofs.lemmas.Bool.{cases_lt}
+use Rattle.std.proofs.lemmas.List.{length-map}
+use Rattle.std.proofs.lemmas.List.Elements.{All-head, All-tail}
+use Rattle.std.proofs.lemmas.List.Sums.{count_by-le-length, length-filter, sum_by-append, sum_by-cons}
+use Rattle.b3_base.specs.Arithmetic.{low}
+use Rattle.b3_base.specs.declared.word.Width.{Width}
+use Rattle.b3_base.specs.declared.word.Width.TheVariants.{W32, W64}
+use Rattle.stackmap.specs.declared.site.Returns.{Returns}
+use Rattle.stackmap.specs.declared.site.SavedRow.{SavedRow}
+use Rattle.a64_inst.specs.declared.inst.Cond.{Cond}
+use Rattle.a64_inst.specs.declared.inst.Cond.TheVariants.{Eq}
+use Rattle.a64_inst.specs.declared.inst.Inst.{Inst}
+use Rattle.a64_inst.specs.declared.inst.Inst.TheVariants.{AddSubImm, AddSubReg}
+use Rattle.a64_inst.specs.declared.item.Item.{Item}
+use Rattle.a64_inst.specs.declared.item.Item.TheVariants.{If, IfBit, IfZero, Jump, Label, Plain}
+use Rattle.air_ir.specs.Forms.{AllFit, HasOperands, Takes, home, test_takes}
+use Rattle.air_ir.specs.Weight.{arg_words, inst_weight, op_words, words_by, weight}
+use Rattle.air_ir.specs.WellFormed.{IsGoodBlock, IsGoodInst, IsWellFormed}
+use Rattle.air_ir.specs.declared.frame.Frame.{Frame}
+use Rattle.air_ir.specs.declared.op.AirOp.{AirOp}
+use Rattle.air_ir.specs.declared.op.AirOp.TheVariants as op
+use Rattle.air_ir.specs.declared.op.Test.{Test}
+use Rattle.air_ir.specs.declared.op.Test.TheVariants.{Compare, NonZero, Bit}
+use Rattle.air_ir.specs.declared.operand.Arg.{Arg}
+use Rattle.air_ir.specs.declared.operand.Operand.{Operand}
+use Rattle.air_ir.specs.declared.procedure.AirBlock.{AirBlock}
+use Rattle.air_ir.specs.declared.procedure.AirInst.{AirInst}
+use Rattle.air_ir.specs.declared.procedure.AirProc.{AirProc}
+use Rattle.air_frame.specs.Frames.{IsFrameOf}
+use Rattle.air_frame.specs.Needs.{callee_saved, writes}
+use Rattle.a64_layout.specs.Branch.{size_of}
+use Rattle.a64_layout.specs.Layout.{most_words}
+use Rattle.a64_emit.specs.Built.{IsBuilt, is_built}
+use Rattle.a64_emit.specs.Code.{arg_at, block_labels, blocks_items, branch_code, branch_item, branches, bring, compared, compute_code, copy_code, copy_reg, emitted, fetch, fetch_below, fetch_tested, inst_code, inst_items, insts_items, jump_to, own_labels, put_result, result_at, result_reg, select_code, set_code, source_at, test_at, test_count, width_at}
+use Rattle.a64_emit.specs.Computing.{reg_of}
+use Rattle.a64_emit.specs.Constants.{constant}
+use Rattle.a64_emit.specs.Fitting.{AreFitting}
+use Rattle.a64_emit.specs.Places.{above_sp, epilogue, leave, load_at, lower_sp, plains, prologue, restores, saves, store_at, unless_zero}
+use Rattle.a64_emit.specs.Switched.{compare_case, switch_items}
+use Rattle.a64_emit.proofs.Sizes.{bring_most, below_most, compute_most, constant_most, fetch_most, load_most, most_is, operand_words, place_least, place_words, plain_words, put_most, store_most, words_of}
+
+-- ---- operands
+
+pub fit_count : (ts : List Takes) (os : List Operand) → AllFit ts os → length os ≡ length ts
+unfolding AllFit
+fit_count [] [] fits = refl
+fit_count [] (o ∷ os) fits = absurd fits
+fit_count (t ∷ ts) [] fits = absurd fits
+fit_count (t ∷ ts) (o ∷ os) fits = let more = fit_count ts os fits.1 in omega arith
+
+-- ---- branches
+
+pub jump_most : (next label : ℕ) → words_of (jump_to next label) ≤ 1
+jump_most next label = elim (nat_eq label next) as (λ b. words_of (if b then [] else Jump label ∷ []) ≤ 1) [ true ↦ omega arith | false ↦ omega arith ]
+
+branch_most : (t : Test) (passes : Bool) (width : Width) (reg label : ℕ) → size_of true (branch_item t passes width reg label) ≤ 2
+branch_most (Compare cond) passes width reg label = omega arith
+branch_most NonZero passes width reg label = omega arith
+branch_most (Bit bit) passes width reg label = omega arith
+
+branches_most : (t : Test) (width : Width) (reg next then_label else_label : ℕ) → words_of (branches t width reg next then_label else_label) ≤ 3
+branches_most t width reg next then_label else_label =
+    let first = branch_most t false width reg else_label in
+    let second = branch_most t true width reg then_label in
+    let jump = jump_most next else_label in
+    elim (nat_eq then_label next) as (λ b. words_of (if b then branch_item t false width reg else_label ∷ [] else branch_item t true width reg then_label ∷ jump_to next else_label) ≤ 3) [
+      | true ↦ let sum = sum_by-cons (size_of true) (branch_item t false width reg else_label) [] in omega arith
+      | false ↦ let sum = sum_by-cons (size_of true) (branch_item t true width reg then_label) (jump_to next else_label) in omega arith
+    ]
+
+switch_most : (width : Width) (reg next label : ℕ) (cases targets : List ℕ) → words_of (switch_items width reg next label cases targets) ≤ 7 * length cases + 1
+unfolding switch_items
+switch_most width reg next label [] [] = omega arith
+switch_most width reg next label [] (target ∷ targets) = jump_most next target
+switch_most width reg next label (case ∷ cases) [] = omega arith
+switch_most width reg next label (case ∷ cases) (target ∷ targets) =
+    let items : List Item = switch_items width reg next label cases targets in
+    let more = switch_most width reg next label cases targets in
+    let word = constant_most width 16 (low width case) in
+    let inst : Inst = AddSubReg width true true 31 reg 16 0 0 in
+    let count : length (compare_case width reg case) ≡ length (constant width 16 (low width case)) + 1 = length-append (constant width 16 (low width case)) (inst ∷ []) in
+    let plain = plain_words (compare_case width reg case) in
+    let both = sum_by-append (size_of true) (plains (compare_case width reg case)) (If Eq target ∷ items) in
+    let sum = sum_by-cons (size_of true) (If Eq target) items in
+    omega arith
+
+-- ---- lists of some operands
+
+of_one : (os : List Operand) → length os ≡ 1 → (a : Operand) × (os ≡ a ∷ [])
+of_one [] count = absurd (omega arith)
+of_one (a ∷ []) count = (a, refl)
+of_one (a ∷ b ∷ os) count = absurd (omega arith)
+
+of_two : (os : List Operand) → length os ≡ 2 → (a : Operand) × (b : Operand) × (os ≡ a ∷ b ∷ [])
+of_two [] count = absurd (omega arith)
+of_two (a ∷ os) count = let rest = of_one os (omega arith) in (a, rest.0, ap (λ (xs : List Operand). a ∷ xs) rest.1)
+
+of_three : (os : List Operand) → length os ≡ 3 → (a : Operand) × (b : Operand) × (c : Operand) × (os ≡ a ∷ b ∷ c ∷ [])
+of_three [] count = absurd (omega arith)
+of_three (a ∷ os) count = let rest = of_two os (omega arith) in (a, rest.0, rest.1, ap (λ (xs : List Operand). a ∷ xs) rest.2)
+
+of_four : (os : List Operand) → length os ≡ 4 → (a : Operand) × (b : Operand) × (c : Operand) × (d : Operand) × (os ≡ a ∷ b ∷ c ∷ d ∷ [])
+of_four [] count = absurd (omega arith)
+of_four (a ∷ os) count = let rest = of_three os (omega arith) in (a, rest.0, rest.1, rest.2, ap (λ (xs : List Operand). a ∷ xs) rest.3)
+
+of_five : (os : List Operand) → length os ≡ 5 → (a : Operand) × (b : Operand) × (c : Operand) × (d : Operand) × (e : Operand) × (os ≡ a ∷ b ∷ c ∷ d ∷ e ∷ [])
+of_five [] count = absurd (omega arith)
+of_five (a ∷ os) count = let rest = of_four os (omega arith) in (a, rest.0, rest.1, rest.2, rest.3, ap (λ (xs : List Operand). a ∷ xs) rest.4)
+
+most_of : (n a b d : ℕ) → n ≤ 2 + (a + b) + d → n ≤ 2 + (0 + a + b + d)
+most_of n a b d le = omega arith
+
+two_of : (n a d : ℕ) → n ≤ 2 + a + d → n ≤ 2 + (0 + a + d)
+two_of n a d le = omega arith
+
+four_of : (n a x y d : ℕ) → n ≤ 2 + a + x + y + d → n ≤ 2 + (0 + a + x + y + d)
+four_of n a x y d le = omega arith
+
+five_of : (n a b x y d : ℕ) → n ≤ 2 + (a + b) + x + y + d → n ≤ 2 + (0 + a + b + x + y + d)
+five_of n a b x y d le = omega arith
+
+module _ (f : Frame) where
+  -- ---- instructions
+
+  tested_two : (cond : Cond) (a b : Operand) (os : List Operand) → length (fetch_tested f (Compare cond) (a ∷ b ∷ os)) ≤ arg_words a.arg + arg_words b.arg
+  tested_two cond a b os =
+      let first = fetch_most f 15 a.arg in
+      let second = fetch_most f 16 b.arg in
+      let least_a = place_least a.arg in
+      let least_b = place_least b.arg in
+      let one : length (fetch_tested f (Compare cond) (a ∷ b ∷ os)) ≡ length (fetch f 15 a.arg) + length (fetch f 16 b.arg) = length-append (fetch f 15 a.arg) (fetch f 16 b.arg) in
+      omega arith
+
+  fetched_alone : (a : Operand) → length (fetch f 15 a.arg ++ []) ≤ arg_words a.arg
+  fetched_alone a =
+      let first = fetch_most f 15 a.arg in
+      let least_a = place_least a.arg in
+      let one : length (fetch f 15 a.arg ++ []) ≡ length (fetch f 15 a.arg) + 0 = length-append (fetch f 15 a.arg) [] in
+      omega arith
+
+  -- a test, an instruction and what puts its result
+  tested_words : (tested : List Inst) (i j : Inst) (d : Arg) (n : ℕ) → length tested ≤ n → length (tested ++ i ∷ j ∷ put_result f (result_reg d) d) ≤ 2 + n + arg_words d
+  tested_words tested i j d n le =
+      let put = put_most f (result_reg d) d in
+      let least = place_least d in
+      let all : length (tested ++ i ∷ j ∷ put_result f (result_reg d) d) ≡ length tested + length (i ∷ j ∷ put_result f (result_reg d) d) = length-append tested (i ∷ j ∷ put_result f (result_reg d) d) in
+      omega arith
+
+  pub set_most : (t : Test) (os : List Operand) → length os ≡ test_count t + 1 → length (set_code f t os) ≤ 2 + sum_by (operand_words f) os
+  set_most (Compare cond) os count =
+      let shape = of_three os count in
+      let a : Operand = shape.0 in
+      let b : Operand = shape.1 in
+      let d : Operand = shape.2 in
+      subst (λ xs. length (set_code f (Compare cond) xs) ≤ 2 + sum_by (operand_words f) xs) (sym shape.3)
+      (let most = tested_words (fetch_tested f (Compare cond) (a ∷ b ∷ d ∷ [])) (test_at (Compare cond) (a ∷ b ∷ d ∷ [])) _ d.arg (arg_words a.arg + arg_words b.arg) (tested_two cond a b (d ∷ [])) in most_of _ (arg_words a.arg) (arg_words b.arg) (arg_words d.arg) most)
+  set_most NonZero os count =
+      let shape = of_two os count in
+      let a : Operand = shape.0 in
+      let d : Operand = shape.1 in
+      subst (λ xs. length (set_code f NonZero xs) ≤ 2 + sum_by (operand_words f) xs) (sym shape.2)
+      (two_of _ (arg_words a.arg) (arg_words d.arg) (tested_words (fetch_tested f NonZero (a ∷ d ∷ [])) (test_at NonZero (a ∷ d ∷ [])) _ d.arg (arg_words a.arg) (fetched_alone a)))
+  set_most (Bit k) os count =
+      let shape = of_two os count in
+      let a : Operand = shape.0 in
+      let d : Operand = shape.1 in
+      subst (λ xs. length (set_code f (Bit k) xs) ≤ 2 + sum_by (operand_words f) xs) (sym shape.2)
+      (two_of _ (arg_words a.arg) (arg_words d.arg) (tested_words (fetch_tested f (Bit k) (a ∷ d ∷ [])) (test_at (Bit k) (a ∷ d ∷ [])) _ d.arg (arg_words a.arg) (fetched_alone a)))
+
+  -- a test, two words that are fetched, an instruction and what puts its result
+  select_words : (tested : List Inst) (i j : Inst) (x y d : Arg) (n : ℕ) → length tested ≤ n
+      → length (tested ++ i ∷ fetch f 15 x ++ fetch f 16 y ++ j ∷ put_result f (result_reg d) d) ≤ 2 + n + arg_words x + arg_words y + arg_words d
+  select_words tested i j x y d n le =
+      let first = fetch_most f 15 x in
+      let second = fetch_most f 16 y in
+      let put = put_most f (result_reg d) d in
+      let least_x = place_least x in
+      let least_y = place_least y in
+      let least_d = place_least d in
+      let a : length (tested ++ i ∷ fetch f 15 x) ≡ length tested + suc (length (fetch f 15 x)) = length-append tested (i ∷ fetch f 15 x) in
+      let b : length (tested ++ i ∷ fetch f 15 x ++ fetch f 16 y) ≡ length (tested ++ i ∷ fetch f 15 x) + length (fetch f 16 y) = length-append (tested ++ i ∷ fetch f 15 x) (fetch f 16 y) in
+      let c : length (tested ++ i ∷ fetch f 15 x ++ fetch f 16 y ++ j ∷ put_result f (result_reg d) d) ≡ length (tested ++ i ∷ fetch f 15 x ++ fetch f 16 y) + suc (length (put_result f (result_reg d) d)) =
+      length-append (tested ++ i ∷ fetch f 15 x ++ fetch f 16 y) (j ∷ put_result f (result_reg d) d) in
+      omega arith
+
+  pub select_most : (t : Test) (os : List Operand) → length os ≡ test_count t + 3 → length (select_code f t os) ≤ 2 + sum_by (operand_words f) os
+  select_most (Compare cond) os count =
+      let shape = of_five os count in
+      let a : Operand = shape.0 in
+      let b : Operand = shape.1 in
+      let x : Operand = shape.2 in
+      let y : Operand = shape.3 in
+      let d : Operand = shape.4 in
+      let xs : List Operand = a ∷ b ∷ x ∷ y ∷ d ∷ [] in
+      subst (λ os. length (select_code f (Compare cond) os) ≤ 2 + sum_by (operand_words f) os) (sym shape.5)
+      (five_of _ (arg_words a.arg) (arg_words b.arg) (arg_words x.arg) (arg_words y.arg) (arg_words d.arg)
+      (select_words (fetch_tested f (Compare cond) xs) (test_at (Compare cond) xs) _ x.arg y.arg d.arg (arg_words a.arg + arg_words b.arg) (tested_two cond a b (x ∷ y ∷ d ∷ []))))
+  select_most NonZero os count =
+      let shape = of_four os count in
+      let a : Operand = shape.0 in
+      let x : Operand = shape.1 in
+      let y : Operand = shape.2 in
+      let d : Operand = shape.3 in
+      let xs : List Operand = a ∷ x ∷ y ∷ d ∷ [] in
+      subst (λ os. length (select_code f NonZero os) ≤ 2 + sum_by (operand_words f) os) (sym shape.4)
+      (four_of _ (arg_words a.arg) (arg_words x.arg) (arg_words y.arg) (arg_words d.arg)
+      (select_words (fetch_tested f NonZero xs) (test_at NonZero xs) _ x.arg y.arg d.arg (arg_words a.arg) (fetched_alone a)))
+  select_most (Bit k) os count =
+      let shape = of_four os count in
+      let a : Operand = shape.0 in
+      let x : Operand = shape.1 in
+      let y : Operand = shape.2 in
+      let d : Operand = shape.3 in
+      let xs : List Operand = a ∷ x ∷ y ∷ d ∷ [] in
+      subst (λ os. length (select_code f (Bit k) os) ≤ 2 + sum_by (operand_words f) os) (sym shape.4)
+      (four_of _ (arg_words a.arg) (arg_words x.arg) (arg_words y.arg) (arg_words d.arg)
+      (select_words (fetch_tested f (Bit k) xs) (test_at (Bit k) xs) _ x.arg y.arg d.arg (arg_words a.arg) (fetched_alone a)))
+
+  pub copy_most : (os : List Operand) → length os ≡ 2 → length (copy_code f (width_at os 0) (arg_at os 0) (arg_at os 1)) ≤ 1 + sum_by (operand_words f) os
+  copy_most os count =
+      let shape = of_two os count in
+      let a : Operand = shape.0 in
+      let d : Operand = shape.1 in
+      subst (λ xs. length (copy_code f (width_at xs 0) (arg_at xs 0) (arg_at xs 1)) ≤ 1 + sum_by (operand_words f) xs) (sym shape.2)
+      (let reg : ℕ = copy_reg a.arg d.arg in
+      let first = bring_most f a.width reg a.arg in
+      let put = put_most f reg d.arg in
+      let least = place_least d.arg in
+      let both = length-append (bring f a.width reg a.arg) (put_result f reg d.arg) in
+      omega arith)
+
+  -- ---- what ends a block
+
+  before_branches : (t : Test) (os : List Operand) → length os ≡ test_count t → length (fetch_tested f t os ++ compared t os) ≤ 1 + sum_by (operand_words f) os
+  before_branches (Compare cond) os count =
+      let shape = of_two os count in
+      let a : Operand = shape.0 in
+      let b : Operand = shape.1 in
+      subst (λ xs. length (fetch_tested f (Compare cond) xs ++ compared (Compare cond) xs) ≤ 1 + sum_by (operand_words f) xs) (sym shape.2)
+      (let tested = tested_two cond a b [] in
+      let both = length-append (fetch_tested f (Compare cond) (a ∷ b ∷ [])) (compared (Compare cond) (a ∷ b ∷ [])) in
+      omega arith)
+  before_branches NonZero os count = one_before os count
+    where
+      one_before : (os : List Operand) → length os ≡ 1 → length (fetch_tested f NonZero os ++ compared NonZero os) ≤ 1 + sum_by (operand_words f) os
+      one_before os count =
+          let shape = of_one os count in
+          let a : Operand = shape.0 in
+          subst (λ xs. length (fetch_tested f NonZero xs ++ compared NonZero xs) ≤ 1 + sum_by (operand_words f) xs) (sym shape.1)
+          (let alone = fetched_alone a in
+          let both = length-append (fetch f 15 a.arg ++ []) [] in
+          omega arith)
+  before_branches (Bit k) os count = one_before os count
+    where
+      one_before : (os : List Operand) → length os ≡ 1 → length (fetch_tested f (Bit k) os ++ compared (Bit k) os) ≤ 1 + sum_by (operand_words f) os
+      one_before os count =
+          let shape = of_one os count in
+          let a : Operand = shape.0 in
+          subst (λ xs. length (fetch_tested f (Bit k) xs ++ compared (Bit k) xs) ≤ 1 + sum_by (operand_words f) xs) (sym shape.1)
+          (let alone = fetched_alone a in
+          let both = length-append (fetch f 15 a.arg ++ []) [] in
+          omega arith)
+
+  pub branch_code_most : (next : ℕ) (targets : List ℕ) (t : Test) (os : List Operand) → length os ≡ test_count t → words_of (branch_code f next targets t os) ≤ 4 + sum_by (operand_words f) os
+  branch_code_most next targets t os count =
+      let before = before_branches t os count in
+      let plain = plain_words (fetch_tested f t os ++ compared t os) in
+      let items : List Item = branches t (width_at os 0) (reg_of (source_at os 0 15)) next (get_or targets 0 0) (get_or targets 1 0) in
+      let most = branches_most t (width_at os 0) (reg_of (source_at os 0 15)) next (get_or targets 0 0) (get_or targets 1 0) in
+      let both = sum_by-append (size_of true) (plains (fetch_tested f t os ++ compared t os)) items in
+      omega arith
+
+  pub switch_code_most : (next label : ℕ) (cases targets : List ℕ) (os : List Operand) → length os ≡ 1
+      → words_of (plains (fetch f 15 (arg_at os 0)) ++ switch_items (width_at os 0) (reg_of (source_at os 0 15)) next label cases targets) ≤ 10 * length cases + 2 + sum_by (operand_words f) os
+  switch_code_most next label cases targets os count =
+      let shape = of_one os count in
+      let a : Operand = shape.0 in
+      subst (λ xs. words_of (plains (fetch f 15 (arg_at xs 0)) ++ switch_items (width_at xs 0) (reg_of (source_at xs 0 15)) next label cases targets) ≤ 10 * length cases + 2 + sum_by (operand_words f) xs) (sym shape.1)
+      (let first = fetch_most f 15 a.arg in
+      let least = place_least a.arg in
+      let plain = plain_words (fetch f 15 a.arg) in
+      let most = switch_most a.width (reg_of (source_at (a ∷ []) 0 15)) next label cases targets in
+      let both = sum_by-append (size_of true) (plains (fetch f 15 a.arg)) (switch_items a.width (reg_of (source_at (a ∷ []) 0 15)) next label cases targets) in
+      omega arith)
+
+  saves_most : (rows : List SavedRow) → length (saves f rows) ≤ 2 * length rows
+  unfolding saves
+  saves_most [] = omega arith
+  saves_most (s ∷ rows) =
+      let here = store_most s.reg.0 (above_sp f s.offset) in
+      let more = saves_most rows in
+      let both = length-append (store_at s.reg.0 (above_sp f s.offset)) (saves f rows) in
+      omega arith
+
+  restores_most : (rows : List SavedRow) → length (restores f rows) ≤ 2 * length rows
+  unfolding restores
+  restores_most [] = omega arith
+  restores_most (s ∷ rows) =
+      let here = load_most s.reg.0 (above_sp f s.offset) in
+      let more = restores_most rows in
+      let both = length-append (load_at s.reg.0 (above_sp f s.offset)) (restores f rows) in
+      omega arith
+
+  unless_most : (n : ℕ) (inst : Inst) → length (unless_zero n (inst ∷ [])) ≤ 1
+  unless_most n inst = elim (nat_eq n 0) as (λ b. length (if b then [] else inst ∷ []) ≤ 1) [ true ↦ omega arith | false ↦ omega arith ]
+
+  lower_most : (bytes : ℕ) → length (lower_sp bytes) ≤ 2
+  unfolding lower_sp
+  lower_most bytes =
+      let first = unless_most (bytes / 4096) (AddSubImm W64 true false 31 31 (bytes / 4096) true) in
+      let second = unless_most (bytes % 4096) (AddSubImm W64 true false 31 31 (bytes % 4096) false) in
+      let both = length-append (unless_zero (bytes / 4096) (AddSubImm W64 true false 31 31 (bytes / 4096) true ∷ [])) (unless_zero (bytes % 4096) (AddSubImm W64 true false 31 31 (bytes % 4096) false ∷ [])) in
+      omega arith
+
+  pub prologue_most : length f.saved ≤ 10 → length (prologue f) ≤ 24
+  unfolding prologue
+  prologue_most few =
+      let low = lower_most (f.bytes - 16) in
+      let saved = saves_most f.saved in
+      let both = length-append (lower_sp (f.bytes - 16)) (saves f f.saved) in
+      omega arith
+
+  pub epilogue_most : length f.saved ≤ 10 → length (epilogue f) ≤ 24
+  unfolding epilogue
+  epilogue_most few =
+      let restored = restores_most f.saved in
+      let both = length-append (restores f f.saved) leave in
+      omega arith

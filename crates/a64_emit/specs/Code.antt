@@ -1,0 +1,187 @@
+-- The code of a procedure.
+use Rattle.std.specs.Prelude.{ℕ, ◌+◌, ◌-◌, Bool, true, false, nat_eq, nat_lt, if◌then◌else◌, List, [], ◌∷◌, ◌++◌, length, get_or, sum_by}
+use Rattle.b3_base.specs.declared.word.Width.{Width}
+use Rattle.b3_base.specs.declared.word.Width.TheVariants.{W32, W64}
+use Rattle.a64_inst.specs.declared.inst.Inst.{Inst}
+use Rattle.a64_inst.specs.declared.inst.Inst.TheVariants.{Break, Select}
+use Rattle.a64_inst.specs.declared.item.Item.{Item}
+use Rattle.a64_inst.specs.declared.item.Item.TheVariants.{If, IfBit, IfZero, Jump, Label, Plain}
+use Rattle.a64_layout.specs.Branch.{opposite_cond}
+use Rattle.air_ir.specs.declared.frame.Frame.{Frame}
+use Rattle.air_ir.specs.declared.op.AirOp.{AirOp}
+use Rattle.air_ir.specs.declared.op.AirOp.TheVariants as op
+use Rattle.air_ir.specs.declared.op.Test.{Test}
+use Rattle.air_ir.specs.declared.op.Test.TheVariants.{Compare, NonZero, Bit}
+use Rattle.air_ir.specs.declared.operand.Arg.{Arg}
+use Rattle.air_ir.specs.declared.operand.Arg.TheVariants.{At, Imm}
+use Rattle.air_ir.specs.declared.operand.Home.TheVariants.{Reg, Spill}
+use Rattle.air_ir.specs.declared.operand.Operand.{Operand}
+use Rattle.air_ir.specs.declared.operand.Role.TheVariants.{Use}
+use Rattle.air_ir.specs.declared.procedure.AirBlock.{AirBlock}
+use Rattle.air_ir.specs.declared.procedure.AirInst.{AirInst}
+use Rattle.air_ir.specs.declared.procedure.AirProc.{AirProc}
+use Rattle.a64_emit.specs.declared.source.Source.{Source}
+use Rattle.a64_emit.specs.declared.source.Source.TheVariants.{InReg, Constant}
+use Rattle.a64_emit.specs.Computing.{computing, condition, move_reg, reg_of, takes_two, testing}
+use Rattle.a64_emit.specs.Constants.{constant}
+use Rattle.a64_emit.specs.Places.{above_sp, epilogue, load_at, plains, prologue, spill_offset, store_at}
+use Rattle.a64_emit.specs.Switched.{switch_items, switch_labels}
+
+-- ---- operands
+
+abbrev pub operand_at : List Operand → ℕ → Operand
+operand_at os k = get_or os k (record { role = Use; width = W64; arg = Imm 0 })
+
+abbrev pub arg_at : List Operand → ℕ → Arg
+arg_at os k = (operand_at os k).arg
+
+abbrev pub width_at : List Operand → ℕ → Width
+width_at os k = (operand_at os k).width
+
+-- where the word of an argument is once it is fetched: what stands in a spill place in the scratch register
+abbrev pub source_of : ℕ → Arg → Source
+source_of scratch (At (Reg reg)) = InReg reg.0
+source_of scratch (Imm word) = Constant word
+source_of scratch _ = InReg scratch
+
+unfoldable pub fetch : Frame → ℕ → Arg → List Inst
+fetch f scratch (At (Spill n)) = load_at scratch (above_sp f (spill_offset f n))
+fetch f scratch _ = []
+
+-- operand k is fetched where it is one of the first n
+abbrev pub fetch_below : ℕ → Frame → List Operand → ℕ → ℕ → List Inst
+fetch_below n f os k scratch = if nat_lt k n then fetch f scratch (arg_at os k) else []
+
+abbrev pub source_at : List Operand → ℕ → ℕ → Source
+source_at os k scratch = source_of scratch (arg_at os k)
+
+-- the register in which a result is made, and what puts it in its place
+abbrev pub result_reg : Arg → ℕ
+result_reg (At (Reg reg)) = reg.0
+result_reg _ = 17
+
+unfoldable pub put_result : Frame → ℕ → Arg → List Inst
+put_result f reg (At (Spill n)) = store_at reg (above_sp f (spill_offset f n))
+put_result f reg _ = []
+
+abbrev pub result_at : List Operand → Arg
+result_at os = arg_at os (length os - 1)
+
+-- ---- instructions
+
+-- a word brought to a register
+unfoldable pub bring : Frame → Width → ℕ → Arg → List Inst
+bring f width reg (At (Reg from)) = if nat_eq reg from.0 then [] else move_reg width reg from.0 ∷ []
+bring f width reg (At (Spill n)) = load_at reg (above_sp f (spill_offset f n))
+bring f width reg (Imm word) = constant width reg word
+bring f width reg _ = []
+
+-- the register from which a copied word is stored: its own where it has one
+abbrev pub copy_reg : Arg → Arg → ℕ
+copy_reg (At (Reg from)) (At (Spill n)) = from.0
+copy_reg from to = result_reg to
+
+abbrev pub copy_code : Frame → Width → Arg → Arg → List Inst
+copy_code f width from to = bring f width (copy_reg from to) from ++ put_result f (copy_reg from to) to
+
+abbrev pub compute_code : Frame → AirOp → List Operand → List Inst
+compute_code f op os =
+    fetch_below (length os - 1) f os 0 15 ++ fetch_below (length os - 1) f os 1 16 ++ fetch_below (length os - 1) f os 2 17
+    ++ computing op (width_at os 0) (result_reg (result_at os)) (source_at os 0 15) (source_at os 1 16) (source_at os 2 17)
+    ∷ put_result f (result_reg (result_at os)) (result_at os)
+
+-- the words that a test takes, and how many they are
+abbrev pub test_count : Test → ℕ
+test_count test = if takes_two test then 2 else 1
+
+abbrev pub fetch_tested : Frame → Test → List Operand → List Inst
+fetch_tested f test os = fetch f 15 (arg_at os 0) ++ fetch_below (test_count test) f os 1 16
+
+abbrev pub test_at : Test → List Operand → Inst
+test_at test os = testing test (width_at os 0) (source_at os 0 15) (source_at os 1 16)
+
+abbrev pub set_code : Frame → Test → List Operand → List Inst
+set_code f test os =
+    fetch_tested f test os
+    ++ test_at test os
+    ∷ Select W32 true (result_reg (result_at os)) 31 31 (opposite_cond (condition test))
+    ∷ put_result f (result_reg (result_at os)) (result_at os)
+
+abbrev pub select_code : Frame → Test → List Operand → List Inst
+select_code f test os =
+    let n : ℕ = test_count test in
+    fetch_tested f test os
+    ++ test_at test os
+    ∷ fetch f 15 (arg_at os n) ++ fetch f 16 (arg_at os (n + 1))
+    ++ Select (width_at os n) false (result_reg (result_at os)) (reg_of (source_at os n 15)) (reg_of (source_at os (n + 1) 16)) (condition test)
+    ∷ put_result f (result_reg (result_at os)) (result_at os)
+
+-- the code of an instruction that doesn't end its block
+unfoldable pub inst_code : Frame → AirOp → List Operand → List Inst
+inst_code f op.Move os = copy_code f (width_at os 0) (arg_at os 0) (arg_at os 1)
+inst_code f (op.SetIf test) os = set_code f test os
+inst_code f (op.SelectIf test) os = select_code f test os
+inst_code f op os = compute_code f op os
+
+-- ---- terminals
+
+-- a jump to a block, which costs no word where it is the next one
+abbrev pub jump_to : ℕ → ℕ → List Item
+jump_to next label = if nat_eq label next then [] else Jump label ∷ []
+
+-- a branch to a label where a test passes, or where it doesn't
+abbrev pub branch_item : Test → Bool → Width → ℕ → ℕ → Item
+branch_item (Compare cond) passes width reg label = If (if passes then cond else opposite_cond cond) label
+branch_item NonZero passes width reg label = IfZero width passes reg label
+branch_item (Bit bit) passes width reg label = IfBit passes reg bit label
+
+abbrev pub branches : Test → Width → ℕ → ℕ → ℕ → ℕ → List Item
+branches test width reg next then_label else_label =
+    if nat_eq then_label next then branch_item test false width reg else_label ∷ [] else
+    branch_item test true width reg then_label ∷ jump_to next else_label
+
+-- the flags are asked by a comparison alone
+abbrev pub compared : Test → List Operand → List Inst
+compared (Compare cond) os = test_at (Compare cond) os ∷ []
+compared test os = []
+
+abbrev pub branch_code : Frame → ℕ → List ℕ → Test → List Operand → List Item
+branch_code f next targets test os =
+    plains (fetch_tested f test os ++ compared test os)
+    ++ branches test (width_at os 0) (reg_of (source_at os 0 15)) next (get_or targets 0 0) (get_or targets 1 0)
+
+-- the items of an instruction of a block with these targets, before the block `next`; a Switch may use labels from
+-- `label` on
+unfoldable pub inst_items : Frame → ℕ → ℕ → List ℕ → AirOp → List Operand → List Item
+inst_items f next label targets (op.BranchIf test) os = branch_code f next targets test os
+inst_items f next label targets op.Jump os = jump_to next (get_or targets 0 0)
+inst_items f next label targets (op.Switch cases) os =
+    plains (fetch f 15 (arg_at os 0)) ++ switch_items (width_at os 0) (reg_of (source_at os 0 15)) next label cases targets
+inst_items f next label targets op.Return os = plains (epilogue f)
+inst_items f next label targets op.Oops os = Plain (Break 3) ∷ []
+inst_items f next label targets op os = plains (inst_code f op os)
+
+-- ---- blocks
+
+unfoldable pub insts_items : Frame → ℕ → ℕ → List ℕ → List AirInst → List Item
+insts_items f next label targets [] = []
+insts_items f next label targets (i ∷ is) =
+    inst_items f next label targets i.op i.operands ++ insts_items f next label targets is
+
+-- how many labels an instruction has of its own
+abbrev pub own_labels : AirOp → ℕ
+own_labels (op.Switch cases) = switch_labels cases
+own_labels _ = 0
+
+abbrev pub block_labels : AirBlock → ℕ
+block_labels b = sum_by (λ (i : AirInst). own_labels i.op) b.insts
+
+-- the items of blocks, the first of which has this number; their own labels are those from `label` on
+unfoldable pub blocks_items : Frame → ℕ → ℕ → List AirBlock → List Item
+blocks_items f b label [] = []
+blocks_items f b label (block ∷ blocks) =
+    Label b ∷ insts_items f (b + 1) label block.targets block.insts
+    ++ blocks_items f (b + 1) (label + block_labels block) blocks
+
+unfoldable pub emitted : AirProc → Frame → List Item
+emitted p f = plains (prologue f) ++ blocks_items f 0 (length p.blocks) p.blocks

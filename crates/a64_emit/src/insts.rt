@@ -1,0 +1,304 @@
+//! Instructions that don't end their block: operands are fetched, the op works on registers, and its result is put in
+//! its place.
+
+ghost use Rattle.std.specs.Prelude.{◌≡◌, ◌+◌, ◌++◌, ◌≤◌, length, OnOk};
+ghost use Rattle.a64_emit.specs.Code.{arg_at, compute_code, copy_code, copy_reg, bring, fetch, fetch_below, fetch_tested, inst_code, operand_at, put_result, result_at, result_reg, select_code, set_code, source_at, source_of, test_at, test_count, width_at};
+ghost use Rattle.a64_emit.specs.Fitting.{IsFitting, IsComputed, IsTested};
+ghost use Rattle.a64_emit.specs.Places.{plains};
+
+use crate::computing::{computing, condition, move_reg, opposite, reg_of, takes_two, testing};
+use crate::constants::push_constant;
+use crate::places::{above_sp, push, push_load, push_store, spill_offset};
+use crate::source::Source;
+use a64_inst::{Inst, Labelled};
+use air_ir::{AirOp, Arg, Frame, Home, Operand, Operands, Role, Test};
+use b3_base::{NoMemory, Width};
+
+/// Operand k; where there is none, the constant 0.
+pub(crate) fn operand_at(operands: &Operands, k: usize) -> Operand
+    ensures { result ≡ operand_at operands.now k }
+{
+    if k < operands.len() {
+        return *operands.get(k);
+    }
+    Operand {
+        role: Role::Use,
+        width: Width::W64,
+        arg: Arg::Imm(0),
+    }
+}
+
+/// Where the word of an argument is once it is fetched with this scratch register.
+fn source_of(scratch: u8, arg: Arg) -> Source
+    ensures { result ≡ source_of scratch arg }
+{
+    match arg {
+        Arg::At(Home::Reg(reg)) => Source::InReg(reg.0),
+        Arg::Imm(word) => Source::Constant(word),
+        _ => Source::InReg(scratch),
+    }
+}
+
+pub(crate) fn source_at(operands: &Operands, k: usize, scratch: u8) -> Source
+    ensures { result ≡ source_at operands.now k scratch }
+{
+    source_of(scratch, operand_at(operands, k).arg)
+}
+
+/// What stands in a spill place is loaded into the scratch register.
+#[tactic(auto, unfolding(crate::specs::Code::fetch))]
+pub(crate) fn push_fetch(
+    code: &mut Labelled,
+    frame: &Frame,
+    scratch: u8,
+    arg: Arg,
+) -> Result<(), NoMemory>
+    ensures { OnOk result (code.new ≡ code.old ++ plains (fetch frame.now scratch arg)) }
+{
+    match arg {
+        Arg::At(Home::Spill(number)) => {
+            push_load(code, scratch, above_sp(frame, spill_offset(frame, number)))
+        }
+        _ => Ok(()),
+    }
+}
+
+/// Operand k is fetched where it is one of the first n.
+fn push_fetch_below(
+    code: &mut Labelled,
+    n: usize,
+    frame: &Frame,
+    operands: &Operands,
+    k: usize,
+    scratch: u8,
+) -> Result<(), NoMemory>
+    ensures { OnOk result (code.new ≡ code.old ++ plains (fetch_below n frame.now operands.now k scratch)) }
+{
+    if k < n {
+        return push_fetch(code, frame, scratch, operand_at(operands, k).arg);
+    }
+    Ok(())
+}
+
+/// The register in which a result is made.
+fn result_reg(arg: Arg) -> u8
+    ensures { result ≡ result_reg arg }
+{
+    match arg {
+        Arg::At(Home::Reg(reg)) => reg.0,
+        _ => 17,
+    }
+}
+
+/// A result is stored where its place is a spill place.
+#[tactic(auto, unfolding(crate::specs::Code::put_result))]
+fn push_result(code: &mut Labelled, frame: &Frame, reg: u8, arg: Arg) -> Result<(), NoMemory>
+    ensures { OnOk result (code.new ≡ code.old ++ plains (put_result frame.now reg arg)) }
+{
+    match arg {
+        Arg::At(Home::Spill(number)) => {
+            push_store(code, reg, above_sp(frame, spill_offset(frame, number)))
+        }
+        _ => Ok(()),
+    }
+}
+
+/// The last operand.
+fn result_at(operands: &Operands) -> Arg
+    ensures { result ≡ result_at operands.now }
+{
+    operand_at(operands, operands.len().saturating_sub(1)).arg
+}
+
+// ---- copies
+
+/// A word is brought to a register.
+#[tactic(auto, unfolding(crate::specs::Code::bring))]
+fn push_bring(
+    code: &mut Labelled,
+    frame: &Frame,
+    width: Width,
+    reg: u8,
+    arg: Arg,
+) -> Result<(), NoMemory>
+    ensures { OnOk result (code.new ≡ code.old ++ plains (bring frame.now width reg arg)) }
+{
+    match arg {
+        Arg::At(Home::Reg(from)) => {
+            if reg == from.0 {
+                return Ok(());
+            }
+            push(code, move_reg(width, reg, from.0))
+        }
+        Arg::At(Home::Spill(number)) => {
+            push_load(code, reg, above_sp(frame, spill_offset(frame, number)))
+        }
+        Arg::Imm(word) => push_constant(code, width, reg, word),
+        _ => Ok(()),
+    }
+}
+
+/// The register from which a copied word is stored.
+fn copy_reg(from: Arg, to: Arg) -> u8
+    ensures { result ≡ copy_reg from to }
+{
+    match (from, to) {
+        (Arg::At(Home::Reg(reg)), Arg::At(Home::Spill(_))) => reg.0,
+        _ => result_reg(to),
+    }
+}
+
+fn push_copy(
+    code: &mut Labelled,
+    frame: &Frame,
+    width: Width,
+    from: Arg,
+    to: Arg,
+) -> Result<(), NoMemory>
+    ensures { OnOk result (code.new ≡ code.old ++ plains (copy_code frame.now width from to)) }
+{
+    push_bring(code, frame, width, copy_reg(from, to), from)?;
+    push_result(code, frame, copy_reg(from, to), to)
+}
+
+// ---- ops that compute
+
+fn push_compute(
+    code: &mut Labelled,
+    frame: &Frame,
+    op: &AirOp,
+    operands: &Operands,
+) -> Result<(), NoMemory>
+    requires { IsComputed op.now (width_at operands.now 0) (source_at operands.now 1 16) }
+    ensures { OnOk result (code.new ≡ code.old ++ plains (compute_code frame.now op.now operands.now)) }
+{
+    let to = result_at(operands);
+    let n = operands.len().saturating_sub(1);
+    push_fetch_below(code, n, frame, operands, 0, 15)?;
+    push_fetch_below(code, n, frame, operands, 1, 16)?;
+    push_fetch_below(code, n, frame, operands, 2, 17)?;
+    let inst = computing(
+        op,
+        operand_at(operands, 0).width,
+        result_reg(to),
+        source_at(operands, 0, 15),
+        source_at(operands, 1, 16),
+        source_at(operands, 2, 17),
+    );
+    push(code, inst)?;
+    push_result(code, frame, result_reg(to), to)
+}
+
+/// How many words a test takes.
+fn test_count(test: Test) -> usize
+    ensures value { result ≡ test_count test }
+    ensures most { result ≤ 2 }
+{
+    if takes_two(test) { 2 } else { 1 }
+}
+
+/// The words that a test takes are fetched.
+pub(crate) fn push_tested(
+    code: &mut Labelled,
+    frame: &Frame,
+    test: Test,
+    operands: &Operands,
+) -> Result<(), NoMemory>
+    ensures { OnOk result (code.new ≡ code.old ++ plains (fetch_tested frame.now test operands.now)) }
+{
+    push_fetch(code, frame, 15, operand_at(operands, 0).arg)?;
+    push_fetch_below(code, test_count(test), frame, operands, 1, 16)
+}
+
+/// What sets the flags of a test.
+pub(crate) fn test_at(test: Test, operands: &Operands) -> Inst
+    requires { IsTested test (width_at operands.now 0) (source_at operands.now 1 16) }
+    ensures { result ≡ test_at test operands.now }
+{
+    testing(
+        test,
+        operand_at(operands, 0).width,
+        source_at(operands, 0, 15),
+        source_at(operands, 1, 16),
+    )
+}
+
+fn push_set(
+    code: &mut Labelled,
+    frame: &Frame,
+    test: Test,
+    operands: &Operands,
+) -> Result<(), NoMemory>
+    requires { IsTested test (width_at operands.now 0) (source_at operands.now 1 16) }
+    ensures { OnOk result (code.new ≡ code.old ++ plains (set_code frame.now test operands.now)) }
+{
+    let to = result_at(operands);
+    push_tested(code, frame, test, operands)?;
+    push(code, test_at(test, operands))?;
+    push(
+        code,
+        Inst::Select {
+            width: Width::W32,
+            inc: true,
+            rd: result_reg(to),
+            rn: 31,
+            rm: 31,
+            cond: opposite(condition(test)),
+        },
+    )?;
+    push_result(code, frame, result_reg(to), to)
+}
+
+fn push_select(
+    code: &mut Labelled,
+    frame: &Frame,
+    test: Test,
+    operands: &Operands,
+) -> Result<(), NoMemory>
+    requires { IsTested test (width_at operands.now 0) (source_at operands.now 1 16) }
+    ensures { OnOk result (code.new ≡ code.old ++ plains (select_code frame.now test operands.now)) }
+{
+    let to = result_at(operands);
+    let n = test_count(test);
+    push_tested(code, frame, test, operands)?;
+    push(code, test_at(test, operands))?;
+    push_fetch(code, frame, 15, operand_at(operands, n).arg)?;
+    push_fetch(code, frame, 16, operand_at(operands, n + 1).arg)?;
+    push(
+        code,
+        Inst::Select {
+            width: operand_at(operands, n).width,
+            inc: false,
+            rd: result_reg(to),
+            rn: reg_of(source_at(operands, n, 15)),
+            rm: reg_of(source_at(operands, n + 1, 16)),
+            cond: condition(test),
+        },
+    )?;
+    push_result(code, frame, result_reg(to), to)
+}
+
+/// The code of an instruction that doesn't end its block.
+#[tactic(auto, unfolding(crate::specs::Code::inst_code))]
+pub(crate) fn push_inst(
+    code: &mut Labelled,
+    frame: &Frame,
+    op: &AirOp,
+    operands: &Operands,
+) -> Result<(), NoMemory>
+    requires { IsFitting op.now operands.now }
+    ensures { OnOk result (code.new ≡ code.old ++ plains (inst_code frame.now op.now operands.now)) }
+{
+    match op {
+        AirOp::Move => push_copy(
+            code,
+            frame,
+            operand_at(operands, 0).width,
+            operand_at(operands, 0).arg,
+            operand_at(operands, 1).arg,
+        ),
+        AirOp::SetIf(test) => push_set(code, frame, *test, operands),
+        AirOp::SelectIf(test) => push_select(code, frame, *test, operands),
+        _ => push_compute(code, frame, op, operands),
+    }
+}
