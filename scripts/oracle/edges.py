@@ -170,5 +170,32 @@ def many_blocks(blocks=4096):
     return "\n".join(p.end(p.put("Int64", "Mul", sums[2], sums[2]))) + "\n", edge_pairs("f")
 
 
+def diamonds(blocks=4096):
+    """So many blocks, most of them in fours: a comparison, two ways, and a Phi where they meet."""
+    p, at = Lines("f"), 0
+    a, b, last = [p.argument(r, "Int64") for r in (0, 1, 2)]
+
+    def jump(number, to):
+        p.put("Void", "Jump")
+        p.lines.append("  Successors: #%d" % to)
+        p.lines.append("BB#%d:" % number)
+
+    while at + 4 < blocks:
+        test = p.put("Int32", "LessThan", last, b)
+        p.put("Void", "Branch", test)
+        p.lines += ["  Successors: Then:#%d, Else:#%d" % (at + 1, at + 2), "BB#%d:" % (at + 1)]
+        phi = p.count + 6
+        for kind, other, block in (("Add", a, at + 2), ("BitXor", b, at + 3)):
+            p.put("Void", "Upsilon", p.put("Int64", kind, last, other), "^%d" % phi)
+            jump(block, at + 3)
+        last = p.put("Int64", "Phi")
+        jump(at + 4, at + 4)
+        at += 4
+    while at + 1 < blocks:
+        jump(at + 1, at + 1)
+        at += 1
+    return "\n".join(p.end(last)) + "\n", edge_pairs("f")
+
+
 def edge_pairs(name):
     return [(name, [a, b]) for a in EDGES[64][:7] for b in (0, 5, 2**63 + 9)]
