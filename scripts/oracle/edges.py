@@ -53,10 +53,12 @@ def words(rng, w):
     return [word | rng.getrandbits(32) << 32 if w == 32 else word for word in EDGES[w] + [rng.getrandbits(w)]]
 
 
-def of_arguments(rng, name, kind, types, own):
-    """An opcode over its arguments, and the calls that it is run by."""
+def of_arguments(rng, name, kind, types, own, widened):
+    """An opcode over its arguments, and the calls that it is run by; an Int32 may be widened, so that what stands above
+    it counts."""
     p = Lines(name)
-    p.end(p.put(own, kind, *[p.argument(r, ty) for r, ty in enumerate(types)]))
+    got = p.put(own, kind, *[p.argument(r, ty) for r, ty in enumerate(types)])
+    p.end(p.put("Int64", "ZExt32", got) if widened else got)
     rows = [[]]
     for place, ty in enumerate(types):
         given = AMOUNTS if kind in SHIFTS and place == 1 else words(rng, int(ty[3:]))
@@ -91,7 +93,8 @@ def pure_opcodes():
     rng, pieces = random.Random(5), []
     for kind in PURE:
         for types, own, _ in FORMS[kind.partition("<")[0]]:
-            pieces.append(of_arguments(rng, "f%d" % len(pieces), kind, types, own))
+            for widened in [False, True][: 1 + (own == "Int32")]:
+                pieces.append(of_arguments(rng, "f%d" % len(pieces), kind, types, own, widened))
             if len(types) != 2:
                 continue
             w = int(types[0][3:])
@@ -113,9 +116,13 @@ def of_bit(rng, name, ty, bit, select):
     return p.lines, [(name, [word ^ more, 77]) for word in words(rng, bits) for more in (0, 1 << bit)]
 
 
-def one_bits():
+def tests():
+    """Branches on words, and Branches and Selects on one bit of them."""
     rng, pieces = random.Random(6), []
     for ty, bits in (("Int32", 32), ("Int64", 64)):
+        p = Lines("f%d" % len(pieces))
+        p.branch(p.argument(0, ty))
+        pieces.append((p.lines, [("f%d" % len(pieces), [word]) for word in words(rng, bits)]))
         for bit in [bit for bit in (0, 1, 15, 31, 32, 47, 63) if bit < bits]:
             for select in (False, True):
                 pieces.append(of_bit(rng, "f%d" % len(pieces), ty, bit, select))
@@ -199,3 +206,59 @@ def diamonds(blocks=4096):
 
 def edge_pairs(name):
     return [(name, [a, b]) for a in EDGES[64][:7] for b in (0, 5, 2**63 + 9)]
+
+
+SWAPS = """procedure swaps
+BB#0:
+    Int64 b@0 = ArgumentReg(%x0)
+    Int64 b@1 = ArgumentReg(%x1)
+    Int64 b@2 = ArgumentReg(%x2)
+    Void b@3 = Upsilon(b@0, ^7)
+    Void b@4 = Upsilon(b@1, ^8)
+    Void b@5 = Upsilon(b@2, ^9)
+    Void b@6 = Jump()
+  Successors: #1
+BB#1:
+    Int64 b@7 = Phi()
+    Int64 b@8 = Phi()
+    Int64 b@9 = Phi()
+    Int64 b@10 = Const64(1)
+    Void b@11 = Upsilon(b@8, ^7)
+    Void b@12 = Upsilon(b@7, ^8)
+    Int64 b@13 = Sub(b@9, b@10)
+    Void b@14 = Upsilon(b@13, ^9)
+    Int32 b@15 = GreaterThan(b@13, b@10)
+    Void b@16 = Branch(b@15)
+  Successors: Then:#1, Else:#2
+BB#2:
+    Int32 b@17 = Const32(7)
+    Int64 b@18 = Shl(b@7, b@17)
+    Int64 b@19 = BitXor(b@18, b@8)
+    Void b@20 = Return(b@19)
+procedure later
+BB#0:
+    Int64 b@0 = ArgumentReg(%x0)
+    Int32 b@1 = Trunc(b@0)
+    Void b@2 = Upsilon(b@1, ^4)
+    Void b@3 = Upsilon(b@0, ^8)
+    Int32 b@4 = Phi()
+    Int32 b@5 = Mul(b@4, b@4)
+    Void b@6 = Upsilon(b@5, ^4)
+    Int64 b@7 = ZExt32(b@4)
+    Int64 b@8 = Phi()
+    Void b@9 = Upsilon(b@7, ^8)
+    Int64 b@10 = Sub(b@8, b@7)
+    Void b@11 = Branch(b@10)
+  Successors: Then:#1, Else:#2
+BB#1:
+    Void b@12 = Return(b@10)
+BB#2:
+    Int64 b@13 = SExt32(b@5)
+    Void b@14 = Return(b@13)
+"""
+
+
+def locations():
+    """Phis that change places, and Phis that stand behind other values and Upsilons of their block."""
+    calls = [("swaps", [5, 9, count]) for count in (0, 1, 2, 3, 100, 101)]
+    return SWAPS, calls + [("later", [word | high << 32]) for word in EDGES[32] for high in (0, 1, 2**32 - 1)]

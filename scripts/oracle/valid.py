@@ -5,7 +5,8 @@ from oracle.rules import COMPARISONS, COMPILED, FORMS, INTS, OPEN, SHIFTS, site_
 from oracle.text import ACCESSES, ANYWHERE, CHECKS, TERMINALS
 
 WHOLE = [opcode for opcode in FORMS if opcode not in TERMINALS]
-PART = tuple(opcode for opcode in COMPILED if opcode not in TERMINALS)
+# A Phi is made before the values of its block.
+PART = tuple(opcode for opcode in COMPILED if opcode not in (*TERMINALS, "Phi"))
 WORDS = [0, 1, 2, 5, 7, 2**31 - 1, 2**31, 2**32 - 1, 2**32, 2**63 - 1, 2**63, 2**64 - 1]
 QUOTIENTS = ("Div", "Mod", "UDiv", "UMod")
 # Opcodes whose second child may become a part of the instruction where it is a constant that fits.
@@ -103,6 +104,23 @@ def ending(rng, b, returns, whole, blocks):
     return name, [rng.randrange(least, blocks) for _ in range(count)]
 
 
+def ending_loops(rng, ends):
+    """Terminals that go on to later blocks, but for some Branches of which each goes back a number of times that is
+    told at the start; and the blocks of these."""
+    last, new, loops = len(ends) - 1, [], set()
+    for b, (name, targets) in enumerate(ends):
+        if b == last:
+            name, targets = "Return", []
+        elif name in ("Return", "Oops") and rng.random() < 0.8:
+            name, targets = "Branch", [0, 0]
+        targets = [rng.randint(b + 1, min(b + 2, last) if rng.random() < 0.8 else last) for _ in targets]
+        if name == "Branch" and b and rng.random() < 0.7:
+            targets[0] = rng.randint(1, b)
+            loops.add(b)
+        new.append((name, targets))
+    return new, loops
+
+
 class Maker:
     """A procedure that is being made."""
 
@@ -111,6 +129,10 @@ class Maker:
         self.count = rng.choice(counts)
         self.returns = rng.choice(["Void", "Int32", "Int64"] if whole else ["Void", "Int32", "Int32", "Int64", "Int64"])
         self.ends = [ending(rng, b, self.returns, whole, self.count) for b in range(self.count)]
+        self.loops = {}
+        if not whole and rng.random() < 0.6:
+            self.ends, loops = ending_loops(rng, self.ends)
+            self.loops = {b: blank_value("Phi", rng.choice(INTS)) for b in sorted(loops)}
         self.blocks = [[] for _ in range(self.count)]
         self.slots = [rng.choice([1, 8, 24, 4096]) for _ in range(rng.choice([0, 0, 1, 3]))] if whole else []
         self.name, self.known, self.phis = name, [], []
@@ -251,7 +273,9 @@ class Maker:
         name, targets = self.ends[self.at]
         v = blank_value(name, "Void")
         v["targets"] = targets
-        if name == "Branch":
+        if self.at in self.loops:
+            v["children"] = [(self.once_less(v), None)]
+        elif name == "Branch":
             v["children"] = [(self.pick("any") if self.whole else self.condition(), None)]
         if name == "Switch":
             child, v["cases"] = self.selector(targets)
@@ -259,6 +283,18 @@ class Maker:
         if name == "Return" and self.returns != "Void":
             v["children"] = [(self.pick(self.returns), None)]
         self.here.append(v)
+
+    def once_less(self, end):
+        """Counts a loop's number down; gives the condition by which it goes back once more."""
+        phi = self.loops[self.at]
+        ty = phi["ty"]
+        name, one = self.rng.choice([("Sub", 1), ("Add", (1 << int(ty[3:])) - 1)])
+        less = self.made(name, ty, phi, self.constant(ty, one))
+        self.set(phi, less)
+        opcode, number = self.rng.choice([("GreaterThan", 0), ("GreaterEqual", 1), ("LessThan", 1), ("LessEqual", 0)])
+        if opcode.startswith("Less"):
+            end["targets"] = end["targets"][::-1]
+        return self.made(opcode, "Int32", less, self.constant(ty, number))
 
     def make(self):
         rng = self.rng
@@ -271,7 +307,7 @@ class Maker:
         for b in sorted(range(self.count), key=lambda b: len(before[b])):
             self.at, self.here = b, self.blocks[b]
             self.known = [v for d in sorted(before[b]) for v in self.blocks[d]]
-            for v in phis[b]:
+            for v in phis[b] + ([self.loops[b]] if b in self.loops else []):
                 self.add(v)
             for _ in range(rng.randint(0, self.size)):
                 self.value(rng.choice(WHOLE if self.whole else PART + 2 * QUOTIENTS + ("Upsilon",) * 4))
@@ -281,12 +317,17 @@ class Maker:
         return self.finish()
 
     def first_words(self):
-        """Most Phis are set before any block runs."""
+        """Most Phis are set before any block runs, and all numbers of loops."""
         for phi in self.phis:
             if self.rng.random() < (0.95 if self.whole else 0.99):
-                v = blank_value("Upsilon", "Void")
-                v["children"], v["phi"] = [(self.pick(phi["ty"]), None)], phi
-                self.add(v)
+                self.set(phi, self.pick(phi["ty"]))
+        for phi in self.loops.values():
+            self.set(phi, self.constant(phi["ty"], self.rng.choice([1, 2, 3, 7, 20])))
+
+    def set(self, phi, child):
+        v = blank_value("Upsilon", "Void")
+        v["children"], v["phi"] = [(child, None)], phi
+        self.add(v)
 
     def finish(self):
         values = [v for block in self.blocks for v in block]
