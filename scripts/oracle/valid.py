@@ -179,6 +179,11 @@ class Maker:
             return self.made(rng.choice(["Equal", "NotEqual"]), "Int32", test, self.constant("Int32", 0))
         return test
 
+    def between(self):
+        """Values between a condition and its use, Upsilons among them."""
+        for _ in range(0 if self.whole else self.rng.choice([0, 0, 0, 1, 2])):
+            self.value(self.rng.choice(["Add", "Sub", "Equal", "Upsilon", "Upsilon", "SExt8"]))
+
     def divisor(self, opcode, ty):
         """A second child of a quotient: mostly one by which it is defined."""
         what = self.rng.random()
@@ -241,7 +246,9 @@ class Maker:
     def worthwhile(self, opcode, types):
         """Children of what is compiled: constants that fit, conditions, and divisors."""
         if opcode == "Select":
-            return [self.condition(), self.pick(types[1]), self.pick(types[2])]
+            test = self.condition()
+            self.between()
+            return [test, self.pick(types[1]), self.pick(types[2])]
         if opcode in WITH_CONSTANTS:
             return [self.pick(types[0]), self.second(opcode, types[0])]
         if opcode in QUOTIENTS:
@@ -277,6 +284,7 @@ class Maker:
             v["children"] = [(self.once_less(v), None)]
         elif name == "Branch":
             v["children"] = [(self.pick("any") if self.whole else self.condition(), None)]
+            self.between()
         if name == "Switch":
             child, v["cases"] = self.selector(targets)
             v["children"] = [(child, None)]
