@@ -2,7 +2,7 @@
 
 A second reading of the rules, over what text.py reads. Each rule is stated where it is looked at.
 """
-from oracle.text import CHECKS, MASK, TERMINALS
+from oracle.text import ACCESSES, CHECKS, MASK, TERMINALS
 
 INTS = ("Int32", "Int64")
 # The 25 registers that a site may ask for.
@@ -226,18 +226,14 @@ def first_breach(module):
 
 
 # ---- what is not compiled today
-COMPILED = "ArgumentReg Const64 Add Sub Phi Upsilon Jump Branch Return".split()
+UNCOMPILED = ["SlotBase", "FramePointer", "CCall", "Patchpoint", *ACCESSES, *CHECKS]
+COMPILED = [opcode for opcode in FORMS if opcode not in UNCOMPILED]
 
 
 def unbuilt(module):
-    """The first line of a slot, a value without code, the 257th value or the 65th block of a procedure."""
+    """The first line of a slot, or of a value without code."""
     lines = []
     for p in module:
         lines += [line for _, _, line in p["slots"]]
-        lines += [block["line"] for block in p["blocks"][64:65]]
-        values = [v for block in p["blocks"] for v in block["values"]]
-        lines += [v["line"] for v in values[256:257]]
-        for v in values:
-            if v["opcode"] not in COMPILED or v["ty"] == "Int32" or v["opcode"] == "Return" and not v["children"]:
-                lines.append(v["line"])
+        lines += [v["line"] for block in p["blocks"] for v in block["values"] if v["opcode"] in UNCOMPILED]
     return min(lines, default=None)

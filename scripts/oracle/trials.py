@@ -1,6 +1,8 @@
 """Trials: their reading, where a procedure may begin, what its run gives, and what of it is printed."""
+import operator
 import re
 import struct
+from functools import partial
 
 from oracle.text import MASK, NAME, Bad, lines_of, pieces_of, want
 
@@ -132,41 +134,123 @@ def header_fault(at):
 
 
 # ---- runs of what is compiled
+def signed_of(word, bits):
+    return word - (1 << bits) if word >> (bits - 1) else word
+
+
+def divided(chill, rest, bits, a, b):
+    """The signed quotient toward zero, or what is left; None where it is undefined."""
+    a, b = signed_of(a, bits), signed_of(b, bits)
+    if b == 0:
+        return 0 if chill else None
+    if a == -(1 << bits - 1) and b == -1 and not chill:
+        return None
+    quotient = abs(a) // abs(b) * (-1 if (a < 0) != (b < 0) else 1)
+    return a - b * quotient if rest else quotient
+
+
+def compared(of):
+    """A comparison of signed words."""
+    return lambda w, a, b: of(signed_of(a, w), signed_of(b, w))
+
+
+# What each pure opcode gives for the bits of its first child's type and the words of its children, before it is cut
+# to the type of the value; None where that is undefined.
+PURE = {
+    "Identity": lambda w, a: a,
+    "Add": lambda w, a, b: a + b, "Sub": lambda w, a, b: a - b, "Mul": lambda w, a, b: a * b,
+    "BitAnd": lambda w, a, b: a & b, "BitOr": lambda w, a, b: a | b, "BitXor": lambda w, a, b: a ^ b,
+    "Neg": lambda w, a: -a,
+    "Div": partial(divided, False, False), "Div<Chill>": partial(divided, True, False),
+    "Mod": partial(divided, False, True), "Mod<Chill>": partial(divided, True, True),
+    "UDiv": lambda w, a, b: a // b if b else None, "UMod": lambda w, a, b: a % b if b else None,
+    "Shl": lambda w, a, b: a << b % w, "ZShr": lambda w, a, b: a >> b % w,
+    "SShr": lambda w, a, b: signed_of(a, w) >> b % w,
+    "RotL": lambda w, a, b: a << b % w | a >> w - b % w, "RotR": lambda w, a, b: a >> b % w | a << w - b % w,
+    "Clz": lambda w, a: w - a.bit_length(),
+    "SExt8": lambda w, a: signed_of(a % 2**8, 8), "SExt16": lambda w, a: signed_of(a % 2**16, 16),
+    "SExt32": lambda w, a: signed_of(a, 32), "ZExt32": lambda w, a: a, "Trunc": lambda w, a: a,
+    "Equal": lambda w, a, b: a == b, "NotEqual": lambda w, a, b: a != b,
+    "LessThan": compared(operator.lt), "GreaterThan": compared(operator.gt),
+    "LessEqual": compared(operator.le), "GreaterEqual": compared(operator.ge),
+    "Above": lambda w, a, b: a > b, "Below": lambda w, a, b: a < b,
+    "AboveEqual": lambda w, a, b: a >= b, "BelowEqual": lambda w, a, b: a <= b,
+    "Select": lambda w, c, a, b: a if c else b,
+}
+BITS = {"Int32": 32, "Int64": 64, "Void": 1}
+
+
+def prepared(p):
+    """The values of each block with what a run asks of them: the function of a pure opcode, the ids of the children,
+    the bits of the first one, and the mask of the value's type."""
+    if "prepared" not in p:
+        types = {v["id"]: v["ty"] for block in p["blocks"] for v in block["values"]}
+        p["prepared"] = [
+            [
+                (
+                    v, PURE.get(v["opcode"] + v["flag"]), [child for child, _ in v["children"]],
+                    BITS[types[v["children"][0][0]]] if v["children"] else 0, (1 << BITS[v["ty"]]) - 1,
+                )
+                for v in block["values"]
+            ]
+            for block in p["blocks"]
+        ]
+    return p["prepared"]
+
+
+def next_block(v, bits, words):
+    """The block that a Jump, a Branch or a Switch goes to."""
+    targets = v["targets"]
+    if v["opcode"] == "Jump":
+        return targets[0]
+    if v["opcode"] == "Branch":
+        return targets[0 if words[0] else 1]
+    cases = [case % (1 << bits) for case in v["cases"]]
+    return targets[cases.index(words[0])] if words[0] in cases else targets[-1]
+
+
 def evaluate(p, arguments, most):
-    """How a procedure ends within so many blocks, and how many it ran: a word, "undefined" or "going"."""
-    words, locations, at = {}, {}, 0
+    """How a procedure ends within so many blocks, as its status is printed, and how many it ran."""
+    words, locations, at, blocks = {}, {}, 0, prepared(p)
     for count in range(1, most + 1):
-        for v in p["blocks"][at]["values"]:
-            opcode, children = v["opcode"], [words.get(child) for child, _ in v["children"]]
-            if opcode == "ArgumentReg":
-                words[v["id"]] = arguments[v["register"]]
-            elif opcode == "Const64":
+        for v, pure, ids, bits, mask in blocks[at]:
+            opcode, children = v["opcode"], [words[child] for child in ids]
+            if pure:
+                word = pure(bits, *children)
+                if word is None:
+                    return "undefined", count
+                words[v["id"]] = word & mask
+            elif opcode in ("Const32", "Const64"):
                 words[v["id"]] = v["number"]
-            elif opcode == "Add":
-                words[v["id"]] = (children[0] + children[1]) & MASK
-            elif opcode == "Sub":
-                words[v["id"]] = (children[0] - children[1]) & MASK
+            elif opcode == "ArgumentReg":
+                words[v["id"]] = arguments[v["register"]]
             elif opcode == "Upsilon":
                 locations[v["phi"]] = children[0]
             elif opcode == "Phi":
                 if v["id"] not in locations:
                     return "undefined", count
                 words[v["id"]] = locations[v["id"]]
-            elif opcode == "Jump":
-                at = v["targets"][0]
-            elif opcode == "Branch":
-                at = v["targets"][0 if children[0] else 1]
-            else:
-                return children[0], count
+            elif opcode == "Oops":
+                return "undefined", count
+            elif opcode == "Return":
+                return " ".join(["returned"] + ["%d" % word for word in children]), count
+            elif opcode != "Nop":
+                at = next_block(v, bits, children)
     return "going", most
+
+
+def returned_bits(p):
+    """The width of what a procedure returns; 0 where that is no word."""
+    values = [v for block in p["blocks"] for v in block["values"]]
+    types = {v["id"]: v["ty"] for v in values}
+    returned = next((v["children"] for v in values if v["opcode"] == "Return"), [])
+    return BITS[types[returned[0][0]]] if returned else 0
 
 
 def shown(end, memory):
     """What is printed of a run without events."""
-    if end == "undefined":
-        return "status undefined\n"
-    lines = ["status going" if end == "going" else "status returned %d" % end]
-    for at in sorted(memory):
+    lines = ["status " + end]
+    for at in sorted(memory) if end != "undefined" else []:
         if at - 1 not in memory:
             lines.append("memory 0x%x " % at)
         lines[-1] += "%02x" % memory[at]
@@ -179,7 +263,8 @@ def word_text(rng, number):
 
 
 def any_word(rng):
-    return rng.choice([0, 1, 2, 3, 10, MASK, MASK - 1, 2**63, rng.getrandbits(64), rng.getrandbits(20)])
+    edges = [0, 1, 2, 3, 10, MASK, MASK - 1, 2**63, 2**63 - 1, 2**31, 2**31 - 1, 2**32, 2**32 - 1, 2**63 + 2**31]
+    return rng.choice(edges + [rng.getrandbits(64), rng.getrandbits(64), rng.getrandbits(32), rng.getrandbits(10)])
 
 
 def any_bytes(rng):

@@ -1,12 +1,14 @@
-"""Random valid modules of the whole language or of what is compiled, and damages of one thing each."""
-import copy
-
-from oracle.rules import COMPILED, FORMS, INTS, OPEN, SHIFTS, site_breaches
+"""Random valid modules of the whole language or of what is compiled."""
+from oracle.rules import COMPARISONS, COMPILED, FORMS, INTS, OPEN, SHIFTS, site_breaches
 from oracle.text import ACCESSES, ANYWHERE, CHECKS, TERMINALS
 
 WHOLE = [opcode for opcode in FORMS if opcode not in TERMINALS]
-PART = [opcode for opcode in COMPILED if opcode not in TERMINALS]
+# A Phi is made before the values of its block.
+PART = tuple(opcode for opcode in COMPILED if opcode not in (*TERMINALS, "Phi"))
 WORDS = [0, 1, 2, 5, 7, 2**31 - 1, 2**31, 2**32 - 1, 2**32, 2**63 - 1, 2**63, 2**64 - 1]
+QUOTIENTS = ("Div", "Mod", "UDiv", "UMod")
+# Opcodes whose second child may become a part of the instruction where it is a constant that fits.
+WITH_CONSTANTS = ["Add", "Sub", "BitAnd", "BitOr", "BitXor", *SHIFTS, *COMPARISONS]
 
 
 def blank_value(opcode, ty):
@@ -15,6 +17,32 @@ def blank_value(opcode, ty):
 
 def any_word(rng, bits):
     return rng.choice(WORDS + [rng.getrandbits(bits)]) % (1 << bits)
+
+
+def any_mask(rng, bits):
+    """A pattern of a run of ones that repeats, and at times a bit more."""
+    size = rng.choice([size for size in (2, 4, 8, 16, 32, 64) if size <= bits])
+    ones, turned = rng.randint(1, size - 1), rng.randrange(size)
+    run = (1 << ones) - 1
+    run = (run << turned | run >> size - turned) % (1 << size)
+    word = sum(run << at for at in range(0, bits, size))
+    return word if rng.random() < 0.8 else word ^ (1 << rng.randrange(bits))
+
+
+def near_word(rng, bits):
+    """A constant that an instruction may hold, or one beside such a constant."""
+    edge = rng.choice([0, 1, 4095, 4096, 8192, 4096 * rng.randint(1, 4095), 4096 * 4095, 4096 * 4096, 65535, 65536])
+    word = rng.choice([edge, edge, rng.randint(0, 4095), rng.getrandbits(24)]) + rng.choice([0, 0, 0, -1, 1])
+    return word * rng.choice([1, 1, -1]) % (1 << bits)
+
+
+def second_word(rng, opcode, bits):
+    """A constant for the second child of an opcode; for a shift an amount of 32 bits."""
+    if opcode in SHIFTS:
+        return rng.choice([0, 1, 7, 31, 32, 33, 63, 64, 65, 2**31, 2**32 - 1, rng.randrange(64), rng.getrandbits(32)])
+    if opcode.startswith("Bit") and rng.random() < 0.8:
+        return any_mask(rng, bits)
+    return rng.choice([near_word, near_word, any_word])(rng, bits)
 
 
 # ---- sites
@@ -64,22 +92,45 @@ def paths(targets):
 
 
 # ---- procedures
-def ending(rng, last, returns, whole, blocks):
-    """The opcode of a terminal and its successors."""
-    names = ["Jump", "Branch", "Branch", "Return"] + (["Switch", "Oops"] if whole else [])
-    name = "Return" if last and rng.random() < 0.7 else rng.choice(names)
-    count = {"Jump": 1, "Branch": 2, "Switch": rng.randint(1, 5)}.get(name, 0)
-    return name, [rng.randrange(blocks) for _ in range(count)]
+def ending(rng, b, returns, whole, blocks):
+    """The opcode of a terminal and its successors; mostly on to later blocks."""
+    names = ["Jump", "Branch", "Branch", "Return", "Switch"] + (["Oops"] if whole or rng.random() < 0.1 else [])
+    name = "Return" if b == blocks - 1 and rng.random() < 0.7 else rng.choice(names)
+    many = rng.randint(1, 5) if whole or rng.random() < 0.8 else rng.randint(6, 40)
+    least = b + 1 if b + 1 < blocks and rng.random() < 0.7 else 0
+    count = {"Jump": 1, "Branch": 2, "Switch": many}.get(name, 0)
+    return name, [rng.randrange(least, blocks) for _ in range(count)]
+
+
+def ending_loops(rng, ends):
+    """Terminals that go on to later blocks, but for some Branches of which each goes back a number of times that is
+    told at the start; and the blocks of these."""
+    last, new, loops = len(ends) - 1, [], set()
+    for b, (name, targets) in enumerate(ends):
+        if b == last:
+            name, targets = "Return", []
+        elif name in ("Return", "Oops") and rng.random() < 0.8:
+            name, targets = "Branch", [0, 0]
+        targets = [rng.randint(b + 1, min(b + 2, last) if rng.random() < 0.8 else last) for _ in targets]
+        if name == "Branch" and b and rng.random() < 0.7:
+            targets[0] = rng.randint(1, b)
+            loops.add(b)
+        new.append((name, targets))
+    return new, loops
 
 
 class Maker:
     """A procedure that is being made."""
 
-    def __init__(self, rng, name, whole, size):
+    def __init__(self, rng, name, whole, size, counts=(1, 1, 2, 3, 4, 6, 9)):
         self.rng, self.whole, self.size = rng, whole, size
-        self.count = rng.choice([1, 1, 2, 3, 4, 6, 9])
-        self.returns = rng.choice(["Void", "Int32", "Int64"]) if whole else "Int64"
-        self.ends = [ending(rng, b == self.count - 1, self.returns, whole, self.count) for b in range(self.count)]
+        self.count = rng.choice(counts)
+        self.returns = rng.choice(["Void", "Int32", "Int64"] if whole else ["Void", "Int32", "Int32", "Int64", "Int64"])
+        self.ends = [ending(rng, b, self.returns, whole, self.count) for b in range(self.count)]
+        self.loops = {}
+        if not whole and rng.random() < 0.6:
+            self.ends, loops = ending_loops(rng, self.ends)
+            self.loops = {b: blank_value("Phi", rng.choice(INTS)) for b in sorted(loops)}
         self.blocks = [[] for _ in range(self.count)]
         self.slots = [rng.choice([1, 8, 24, 4096]) for _ in range(rng.choice([0, 0, 1, 3]))] if whole else []
         self.name, self.known, self.phis = name, [], []
@@ -89,10 +140,82 @@ class Maker:
         good = [v for v in self.known if v["ty"] == ty or ty == "any" and v["ty"] != "Void"]
         if good and self.rng.random() < 0.95:
             return self.rng.choice(good[-6:] if self.rng.random() < 0.5 else good)
-        ty = self.rng.choice(INTS) if ty == "any" and self.whole else "Int64" if ty == "any" else ty
+        ty = self.rng.choice(INTS) if ty == "any" else ty
+        return self.constant(ty, any_word(self.rng, int(ty[3:])))
+
+    def constant(self, ty, number):
         v = blank_value("Const32" if ty == "Int32" else "Const64", ty)
-        v["number"] = any_word(self.rng, int(ty[3:]))
+        v["number"] = number
         return self.add(v)
+
+    def made(self, opcode, ty, *children):
+        """A value that is made for one use, and mostly has no other."""
+        v = blank_value(opcode, ty)
+        v["children"] = [(child, None) for child in children]
+        return self.add(v) if self.rng.random() < 0.3 else self.add_here(v)
+
+    def second(self, opcode, ty):
+        """A second child: mostly a constant that may become a part of the instruction."""
+        bits = int(ty[3:])
+        ty = "Int32" if opcode in SHIFTS else ty
+        if self.rng.random() < 0.5:
+            return self.pick(ty)
+        return self.constant(ty, second_word(self.rng, opcode, bits))
+
+    def condition(self):
+        """What a Branch or a Select tests: anything, a comparison, or one bit of a word."""
+        rng = self.rng
+        ty, what = rng.choice(INTS), rng.random()
+        if what < 0.25:
+            return self.pick("any")
+        if what < 0.4:
+            one = self.constant(ty, 1 << rng.randrange(int(ty[3:])))
+            return self.made("BitAnd", ty, self.pick(ty), one)
+        opcode = rng.choice(COMPARISONS)
+        test = self.made(opcode, "Int32", self.pick(ty), self.second(opcode, ty))
+        if rng.random() < 0.1:
+            return self.made(rng.choice(["Equal", "NotEqual"]), "Int32", test, self.constant("Int32", 0))
+        return test
+
+    def between(self):
+        """Values between a condition and its use, Upsilons among them."""
+        for _ in range(0 if self.whole else self.rng.choice([0, 0, 0, 1, 2])):
+            self.value(self.rng.choice(["Add", "Sub", "Equal", "Upsilon", "Upsilon", "SExt8"]))
+
+    def divisor(self, opcode, ty):
+        """A second child of a quotient: mostly one by which it is defined."""
+        what = self.rng.random()
+        if what < 0.02:
+            return self.pick(ty)
+        if what < 0.5:
+            return self.made("BitOr", ty, self.pick(ty), self.constant(ty, self.rng.choice([1, 2, 16])))
+        return self.constant(ty, any_word(self.rng, int(ty[3:])) or 3)
+
+    def selector(self, targets):
+        """What a Switch looks at, and its cases: mostly such that cases are hit."""
+        rng = self.rng
+        ty, most = rng.choice(INTS), 4 * len(targets) + 4
+        bits, count = int(ty[3:]), len(targets) - 1
+        if self.whole or rng.random() < 0.4:
+            v = self.pick(ty)
+        else:
+            mask = (1 << rng.choice([2, 3, 5])) - 1
+            v = self.made("BitAnd", ty, self.pick(ty), self.constant(ty, mask))
+            if rng.random() < 0.4:
+                v = self.made("Sub", ty, v, self.constant(ty, rng.choice([2, 4])))
+        near = [w % (1 << bits) for w in range(-9, most)]
+        wide = [any_word(rng, bits) for _ in range(count)]
+        words = rng.sample(sorted(set(near + wide)), count) if rng.random() < 0.5 else rng.sample(near, count)
+        return v, [self.case(word, bits) for word in words]
+
+    def case(self, word, bits):
+        """A word as a case says it: of 64 bits, where one of 32 bits may be spelled with its sign."""
+        signed = word - (1 << bits) if word >> (bits - 1) else word
+        return (word if self.rng.random() < 0.3 else signed) % 2**64
+
+    def add_here(self, v):
+        self.here.append(v)
+        return v
 
     def add(self, v):
         self.here.append(v)
@@ -101,8 +224,7 @@ class Maker:
 
     def value(self, opcode):
         rng = self.rng
-        forms = FORMS[opcode] if self.whole else [form for form in FORMS[opcode] if "Int32" not in form[0] + [form[1]]]
-        types, own, more = rng.choice(forms)
+        types, own, more = rng.choice(FORMS[opcode])
         v = blank_value(opcode, own)
         if opcode == "Upsilon":
             phis = [phi for phi in self.phis if phi["ty"] == types[0]]
@@ -111,13 +233,25 @@ class Maker:
             v["phi"] = rng.choice(phis)
         if opcode == "ArgumentReg" and self.at != 0 or opcode == "SlotBase" and not self.slots:
             return
-        children = [self.pick(ty) for ty in types]
+        children = [self.pick(ty) for ty in types] if self.whole else self.worthwhile(opcode, types)
         if more:
             most = 8 if opcode == "CCall" else rng.choice([3, 3, 12])
             children += [self.pick("any") for _ in range(rng.randint(0, most))]
         v["children"] = [(child, None) for child in children]
         self.fill(v)
         self.add(v)
+
+    def worthwhile(self, opcode, types):
+        """Children of what is compiled: constants that fit, conditions, and divisors."""
+        if opcode == "Select":
+            test = self.condition()
+            self.between()
+            return [test, self.pick(types[1]), self.pick(types[2])]
+        if opcode in WITH_CONSTANTS:
+            return [self.pick(types[0]), self.second(opcode, types[0])]
+        if opcode in QUOTIENTS:
+            return [self.pick(types[0]), self.divisor(opcode, types[1])]
+        return [self.pick(ty) for ty in types]
 
     def fill(self, v):
         rng, opcode = self.rng, v["opcode"]
@@ -135,8 +269,7 @@ class Maker:
             site(rng, v)
 
     def phi(self):
-        ty = self.rng.choice(INTS) if self.whole else "Int64"
-        v = blank_value("Phi", ty)
+        v = blank_value("Phi", self.rng.choice(INTS))
         self.phis.append(v)
         return v
 
@@ -145,41 +278,62 @@ class Maker:
         name, targets = self.ends[self.at]
         v = blank_value(name, "Void")
         v["targets"] = targets
-        if name in ("Branch", "Switch"):
-            v["children"] = [(self.pick("any"), None)]
+        if self.at in self.loops:
+            v["children"] = [(self.once_less(v), None)]
+        elif name == "Branch":
+            v["children"] = [(self.pick("any") if self.whole else self.condition(), None)]
+            self.between()
+        if name == "Switch":
+            child, v["cases"] = self.selector(targets)
+            v["children"] = [(child, None)]
         if name == "Return" and self.returns != "Void":
             v["children"] = [(self.pick(self.returns), None)]
-        if name == "Switch":
-            ty = v["children"][0][0]["ty"]
-            cases = rng.sample(range(-9, 9), len(targets) - 1)
-            v["cases"] = [(case + (1 << 32) if case < 0 and rng.random() < 0.3 else case) % 2**64 for case in cases]
-            if ty == "Int64" and cases:
-                v["cases"][0] = rng.choice([2**63, 2**32 + 77])
         self.here.append(v)
+
+    def once_less(self, end):
+        """Counts a loop's number down; gives the condition by which it goes back once more."""
+        phi = self.loops[self.at]
+        ty = phi["ty"]
+        name, one = self.rng.choice([("Sub", 1), ("Add", (1 << int(ty[3:])) - 1)])
+        less = self.made(name, ty, phi, self.constant(ty, one))
+        self.set(phi, less)
+        opcode, number = self.rng.choice([("GreaterThan", 0), ("GreaterEqual", 1), ("LessThan", 1), ("LessEqual", 0)])
+        if opcode.startswith("Less"):
+            end["targets"] = end["targets"][::-1]
+        return self.made(opcode, "Int32", less, self.constant(ty, number))
 
     def make(self):
         rng = self.rng
         before = paths([targets for _, targets in self.ends])
         phis = {b: [self.phi() for _ in range(rng.choice([0, 0, 1, 2]))] for b in range(self.count)}
+        if not self.whole and rng.random() < 0.9:
+            # A Phi of block 0 is lost where it is not run again.
+            self.phis = self.phis[len(phis[0]) :]
+            phis[0] = []
         for b in sorted(range(self.count), key=lambda b: len(before[b])):
             self.at, self.here = b, self.blocks[b]
             self.known = [v for d in sorted(before[b]) for v in self.blocks[d]]
-            for v in phis[b]:
+            for v in phis[b] + ([self.loops[b]] if b in self.loops else []):
                 self.add(v)
             for _ in range(rng.randint(0, self.size)):
-                self.value(rng.choice(WHOLE if self.whole else PART + ["Add", "Sub", "Upsilon"]))
+                self.value(rng.choice(WHOLE if self.whole else PART + 2 * QUOTIENTS + ("Upsilon",) * 4))
             if b == 0:
                 self.first_words()
             self.end()
         return self.finish()
 
     def first_words(self):
-        """Most Phis are set before any block runs."""
+        """Most Phis are set before any block runs, and all numbers of loops."""
         for phi in self.phis:
-            if self.rng.random() < 0.95:
-                v = blank_value("Upsilon", "Void")
-                v["children"], v["phi"] = [(self.pick(phi["ty"]), None)], phi
-                self.add(v)
+            if self.rng.random() < (0.95 if self.whole else 0.99):
+                self.set(phi, self.pick(phi["ty"]))
+        for phi in self.loops.values():
+            self.set(phi, self.constant(phi["ty"], self.rng.choice([1, 2, 3, 7, 20])))
+
+    def set(self, phi, child):
+        v = blank_value("Upsilon", "Void")
+        v["children"], v["phi"] = [(child, None)], phi
+        self.add(v)
 
     def finish(self):
         values = [v for block in self.blocks for v in block]
@@ -201,262 +355,7 @@ def any_module(rng, whole, size=8):
     return [Maker(rng, "f%d" % k, whole, size).make() for k in range(rng.choice([1, 1, 1, 2, 3]))]
 
 
-# ---- damages: each changes one thing of a module, where it finds it
-def values_of(p, *opcodes):
-    return [v for block in p["blocks"] for v in block["values"] if not opcodes or v["opcode"] in opcodes]
-
-
-def block_of(p, v):
-    return next(block for block in p["blocks"] if any(one is v for one in block["values"]))
-
-
-def id_twice(rng, m, p, v):
-    v["id"] = rng.choice(values_of(p))["id"]
-
-
-def no_terminal(rng, m, p, v):
-    rng.choice(p["blocks"])["values"].pop()
-
-
-def empty_block(rng, m, p, v):
-    rng.choice(p["blocks"])["values"] = []
-
-
-def terminal_inside(rng, m, p, v):
-    block = rng.choice(p["blocks"])
-    new = blank_value(rng.choice(["Oops", "Jump"]), "Void")
-    new["id"], new["targets"] = 2**20, [0] if new["opcode"] == "Jump" else []
-    block["values"].insert(rng.randrange(len(block["values"])), new)
-
-
-def unknown_child(rng, m, p, v):
-    users = [v for v in values_of(p) if v["children"]]
-    if users:
-        v = rng.choice(users)
-        k = rng.randrange(len(v["children"]))
-        v["children"][k] = (2**31 - 1, v["children"][k][1])
-
-
-def unknown_phi(rng, m, p, v):
-    for v in values_of(p, "Upsilon")[-1:]:
-        v["phi"] = 2**31 - 1
-
-
-def other_type(rng, m, p, v):
-    v["ty"] = rng.choice(["Int32", "Int64", "Void"])
-
-
-def other_child(rng, m, p, v):
-    users = [v for v in values_of(p) if v["children"]]
-    if users:
-        v = rng.choice(users)
-        k = rng.randrange(len(v["children"]))
-        v["children"][k] = (rng.choice(values_of(p))["id"], v["children"][k][1])
-
-
-def other_count(rng, m, p, v):
-    if v["children"] and rng.random() < 0.5:
-        v["children"].pop()
-    else:
-        v["children"].append((rng.choice(values_of(p))["id"], None))
-
-
-def other_phi(rng, m, p, v):
-    for v in values_of(p, "Upsilon")[:1]:
-        v["phi"] = rng.choice(values_of(p, "Phi") + [v] + values_of(p)[:1])["id"]
-
-
-def slot_number(rng, m, p, v):
-    p["slots"].append((rng.choice([0, 1, 2, 7]), rng.choice([0, 8]), 0))
-
-
-def slot_gone(rng, m, p, v):
-    bases = values_of(p, "SlotBase")
-    if not bases:
-        bases = [blank_value("SlotBase", "Int64")]
-        bases[0]["id"] = 2**20 + 2
-        p["blocks"][0]["values"].insert(0, bases[0])
-    rng.choice(bases)["slot"] = len(p["slots"]) + rng.choice([0, 1, 2**20])
-
-
-def block_number(rng, m, p, v):
-    rng.choice(p["blocks"])["number"] += rng.choice([-1, 1, 5]) if rng.random() < 0.5 else 1
-    for block in p["blocks"]:
-        block["number"] = max(block["number"], 0)
-
-
-def same_name(rng, m, p, v):
-    m.append(copy.deepcopy(rng.choice(m)))
-
-
-def unknown_successor(rng, m, p, v):
-    ends = [v for v in values_of(p) if v["targets"]]
-    if ends:
-        v = rng.choice(ends)
-        v["targets"][rng.randrange(len(v["targets"]))] = len(p["blocks"]) + rng.choice([0, 3])
-
-
-def other_successor(rng, m, p, v):
-    ends = [v for v in values_of(p) if v["targets"]]
-    if ends:
-        v = rng.choice(ends)
-        v["targets"][rng.randrange(len(v["targets"]))] = rng.randrange(len(p["blocks"]))
-
-
-def case_added(rng, m, p, v):
-    branches = values_of(p, "Branch")
-    if branches and not values_of(p, "Switch"):
-        v = rng.choice(branches)
-        v["opcode"], v["cases"], v["targets"] = "Switch", [7], v["targets"][:1] * 2
-    switches = values_of(p, "Switch")
-    if switches:
-        v = rng.choice(switches)
-        old = rng.choice(v["cases"] + [5])
-        v["cases"].append((old + rng.choice([0, 2**32, -(2**32), 2**63, 2**31, -(2**31) - 20])) % 2**64)
-        v["targets"].append(0)
-
-
-def other_return(rng, m, p, v):
-    """A Return of another type than that of the first one, or with a child where that has none."""
-    returns = values_of(p, "Return")
-    ends = [v for v in values_of(p, *TERMINALS) if v not in returns[:1]]
-    if returns and ends:
-        v = rng.choice(ends)
-        types = {w["id"]: w["ty"] for w in values_of(p)}
-        first = [types.get(child) for child, _ in returns[0]["children"]]
-        words = [w for w in block_of(p, v)["values"] if w["ty"] in INTS and [w["ty"]] != first]
-        for name in ("cases", "phi"):
-            v.pop(name, None)
-        v["opcode"], v["targets"] = "Return", []
-        v["children"] = [(rng.choice(words)["id"], None)] if words and rng.random() < 0.7 else []
-
-
-def argument_moved(rng, m, p, v):
-    arguments = values_of(p, "ArgumentReg")
-    if arguments and rng.random() < 0.5:
-        rng.choice(arguments)["register"] = rng.randint(8, 30)
-    elif len(p["blocks"]) > 1:
-        new = blank_value("ArgumentReg", "Int64")
-        new["id"], new["register"] = 2**20, rng.randint(0, 9)
-        rng.choice(p["blocks"][1:])["values"].insert(0, new)
-
-
-def site_of(rng, p):
-    """A site of the procedure, with what it reports; one is made where there is none."""
-    sites = values_of(p, "Patchpoint", *CHECKS)
-    if sites:
-        return rng.choice(sites)
-    block = rng.choice(p["blocks"])
-    v = blank_value("Patchpoint", rng.choice(["Int32", "Int64", "Void"]))
-    v["id"] = 2**20 + 1
-    block["values"].insert(len(block["values"]) - 1, v)
-    return v
-
-
-def reports(rng, p, v, where):
-    """One child more at the end of a site, of a value before it in its block."""
-    values = block_of(p, v)["values"]
-    before = [w for w in values[: next(k for k, w in enumerate(values) if w is v)] if w["ty"] != "Void"]
-    if before:
-        v["children"].append((rng.choice(before)["id"], where))
-
-
-def strange_constraint(rng, m, p, v):
-    v = site_of(rng, p)
-    if v["opcode"] == "Patchpoint" and rng.random() < 0.5:
-        v["resultConstraint"] = any_constraint(rng)
-    else:
-        reports(rng, p, v, rng.choice(["SomeEarlyRegister", any_constraint(rng)]))
-
-
-def strange_register(rng, m, p, v):
-    v = site_of(rng, p)
-    what = rng.randrange(3)
-    if what == 0:
-        v.setdefault(rng.choice(["earlyClobbered", "lateClobbered"]), []).append(rng.choice([15, 16, 17, 18, 29, 30]))
-        for clobbers in ("earlyClobbered", "lateClobbered"):
-            v[clobbers] = sorted(set(v.get(clobbers, [])))
-    elif what == 1 and v["opcode"] == "Patchpoint":
-        v["resultConstraint"] = rng.choice(["", "late:"]) + "%%x%d" % rng.choice([15, 17, 18, 29, 30])
-    else:
-        reports(rng, p, v, rng.choice(["", "late:"]) + "%%x%d" % rng.choice([15, 16, 17, 18, 29, 30, 4]))
-
-
-def register_twice(rng, m, p, v):
-    v = site_of(rng, p)
-    register = rng.choice([0, 3, 14, 19, 28])
-    late, other = rng.choice(["", "late:"]), rng.choice(["", "late:"])
-    what = rng.randrange(4)
-    if what in (0, 1, 3):
-        reports(rng, p, v, "%s%%x%d" % (late, register))
-    if what == 0:
-        reports(rng, p, v, "%s%%x%d" % (other, register))
-    if what in (1, 2):
-        clobbers = rng.choice(["earlyClobbered", "lateClobbered"])
-        v[clobbers] = sorted(set(v.get(clobbers, []) + [register]))
-    if what in (2, 3) and v["opcode"] == "Patchpoint":
-        v["resultConstraint"] = "%s%%x%d" % (other, register)
-
-
-def many_asked(rng, m, p, v):
-    """As many registers as there are, or one or two more, where nothing else stands in the way."""
-    v = site_of(rng, p)
-    early = sorted(rng.sample(sorted(OPEN) + [15, 16, 17, 30], rng.randint(0, 14)))
-    late = sorted(rng.sample(sorted(OPEN), rng.randint(0, 14)))
-    v["earlyClobbered"], v["lateClobbered"] = early, late
-    v["children"] = v["children"][: CHECKS.get(v["opcode"], 0)]
-    typed = v["opcode"] == "Patchpoint" and v["ty"] != "Void"
-    if typed:
-        v["resultConstraint"] = rng.choice(["SomeRegister", "SomeEarlyRegister"])
-    left = len(OPEN - set(early) - set(late)) - typed + rng.choice([-1, 0, 0, 1, 1, 2])
-    for _ in range(left):
-        reports(rng, p, v, rng.choice(["SomeRegister", "SomeRegisterWithClobber", "SomeLateRegister"]))
-
-
-def call_or_size(rng, m, p, v):
-    calls = values_of(p, "CCall")
-    if calls and rng.random() < 0.6:
-        v = rng.choice(calls)
-        while len(v["children"]) < rng.choice([9, 10, 10]):
-            v["children"].append(v["children"][0])
-    else:
-        v = site_of(rng, p)
-        if v["opcode"] == "Patchpoint":
-            v["size"] = rng.choice([0, 65, 64, 2**31 - 1])
-
-
-def moved(rng, m, p, v):
-    """A value to another place of its block, or to another block."""
-    movable = [v for v in values_of(p) if v["opcode"] not in TERMINALS]
-    if movable:
-        v = rng.choice(movable)
-        home = block_of(p, v)
-        home["values"] = [one for one in home["values"] if one is not v]
-        block = home if rng.random() < 0.4 else rng.choice(p["blocks"])
-        block["values"].insert(rng.randint(0, max(len(block["values"]) - 1, 0)), v)
-
-
-def shift_width(rng, m, p, v):
-    shifts = values_of(p, *SHIFTS)
-    if shifts:
-        v = rng.choice(shifts)
-        v["children"] = [v["children"][0], v["children"][0]]
-
-
-DAMAGES = [
-    id_twice, no_terminal, empty_block, terminal_inside, unknown_child, unknown_phi, other_type, other_child,
-    other_count, other_phi, slot_number, slot_gone, block_number, same_name, unknown_successor, other_successor,
-    case_added, other_return, argument_moved, strange_constraint, strange_register, register_twice, many_asked,
-    call_or_size, moved, moved, moved, other_child, other_successor, shift_width,
-]
-
-
-def damaged(rng, module):
-    """A copy of the module with one thing changed, and at times with two."""
-    module = copy.deepcopy(module)
-    for _ in range(rng.choice([1, 1, 1, 2])):
-        p = rng.choice(module)
-        values = values_of(p)
-        if values and all(block["values"] for block in p["blocks"]):
-            rng.choice(DAMAGES)(rng, module, p, rng.choice(values))
-    return module
+def large_module(rng):
+    """One procedure of what is compiled with many values, or with many blocks."""
+    size, counts = rng.choice([(3000, (1, 2)), (300, (9, 20)), (6, (60, 100))])
+    return [Maker(rng, "f", False, size, counts).make()]
