@@ -1,4 +1,5 @@
 pub mod Endings
+pub mod Commands
 pub mod Beginning
 pub mod Evaluating
 pub mod Completeness

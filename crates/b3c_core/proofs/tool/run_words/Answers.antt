@@ -21,8 +21,8 @@ returns-then-not-takes_trial-clause-ended g c =
       output_faults' = g.K.Sink.faults c.answer_to.new.out;
     } in
     let flag : takes_trial c.in-Some.command ≡ false = search rules in
-    ended_after call c.answer_to.result c.in-Some.command c.in-Ok.bytes [] (sym c.command_of.ensures ∙ c.in-Some.is) (record { all = c.in-Ok.ensures.all; end = c.in-Ok.ensures.end })
-    (omega (arith, c.in-Ok.ensures.bound, c.limit.ensures))
+    ended_after call c.answer_to-2.result c.in-Some.command c.in-Ok.bytes [] (sym c.command_of.ensures ∙ c.in-Some.is)
+    (has_input call c.in-Some.command c.in-Ok.bytes reads (record { all = c.in-Ok.ensures.all; end = c.in-Ok.ensures.end }) (omega (arith, c.in-Ok.ensures.bound, c.limit.ensures)))
     (subst (λ takes. HasReadTrial takes call []) (sym flag) refl)
     (c.answer_to.ensures.answered call refl refl refl refl)
 
