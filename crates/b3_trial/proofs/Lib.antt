@@ -3,3 +3,4 @@ pub mod WordLemmas
 pub mod PieceLemmas
 pub mod BadLines
 pub mod GeneratedLemmas
+pub mod GeneratedSizes

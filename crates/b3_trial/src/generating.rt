@@ -1,6 +1,6 @@
 //! The text of a large module, made from a number.
 
-ghost use Rattle.std.specs.Prelude.{◌≡◌, ◌≤◌, ◌<◌, ◌^◌, ◌++◌, ◌∷◌, [], OnOk, IfOk, codes};
+ghost use Rattle.std.specs.Prelude.{◌≡◌, ◌≤◌, ◌<◌, ◌^◌, ◌++◌, ◌∷◌, [], OnOk, IfOk, codes, length};
 ghost use Rattle.std.specs.Fmt.{decimal};
 ghost use Rattle.b3_ir.specs.Table.{row_of};
 ghost use Rattle.b3_rows.specs.declared.row.Row.TheVariants as rows;
@@ -295,10 +295,11 @@ fn put_procedure(alloc: Global, out: &mut Bytes, state: &mut u64, p: u32) -> Res
     put_last(alloc, out)
 }
 
-/// The text of the module that is made from `n`: 16 procedures of 517 values. It is refused for want of memory
-/// alone.
+/// The text of the module that is made from `n`: 16 procedures of 517 values. It has at most 16,777,216 bytes. It is
+/// refused for want of memory alone.
 pub fn generate(alloc: Global, n: u32) -> Result<Bytes, NoMemory>
-    ensures { IfOk result (λ text. text ≡ spec.generated n) }
+    ensures text { IfOk result (λ text. text ≡ spec.generated n) }
+    ensures small { IfOk result (λ text. length text ≤ 16777216) }
 {
     let mut out = Bytes::new(alloc);
     let mut state = u64::from(n);

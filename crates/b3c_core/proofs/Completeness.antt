@@ -7,6 +7,7 @@ use Rattle.b3_io.specs.Taken.{Takes}
 use Rattle.b3_ir.specs.Procedure.{Procedure}
 use Rattle.b3_rules.specs.Valid.{IsValid}
 use Rattle.b3_supported.specs.Supported.{AreSupported}
+use Rattle.b3_trial.specs.Generated.{generated}
 use Rattle.b3_trial.specs.Trials.{Spells, Trial}
 use Rattle.elf_obj.specs.Read.{IsFileOf as IsObjectOf}
 use Rattle.elf_obj.specs.Reading.{read_object}
@@ -16,9 +17,10 @@ use Rattle.b3c_core.specs.declared.command.Command.{Command}
 use Rattle.b3c_core.specs.declared.command.Command.TheVariants as command
 use Rattle.b3c_core.specs.declared.ending.Ending.{Ending}
 use Rattle.b3c_core.specs.declared.ending.Ending.TheVariants.{Written, Usage, ReadFault, TrialReadFault, WriteFault, TooLong, TrialTooLong, Syntax, Limit, Invalid, BadObject, BadTrial, Misplaced, NotBuilt, NoMemory}
-use Rattle.b3c_core.specs.Compiled.{IsCompiled, IsTextOf, ReadsWhole}
+use Rattle.b3c_core.specs.Compiled.{IsCause, IsCompiled, IsTextOf, ReadsWhole}
+use Rattle.b3c_core.specs.Generating.{IsSummary}
 use Rattle.b3c_core.specs.Tried.{Begins}
-use Rattle.b3c_core.specs.Tool.{Call, HasAnswered, HasEnded, HasRead, HasReadTrial, PassesInput, cause_of, command_of, limit_of, output_of, status_of, takes_trial, text_limit}
+use Rattle.b3c_core.specs.Tool.{Call, EndsText, HasAnswered, HasEnded, HasRead, HasReadInput, HasReadTrial, PassesInput, cause_of, command_of, limit_of, output_of, reads_input, status_of, takes_trial, text_limit}
 
 same_some : {X : Type 0} (x y : X) → Some x ≡ Some y → x ≡ y
 same_some x y e = cc
@@ -53,10 +55,13 @@ record Answered (call : Call) (ending : Ending) (c : Command) (input : List ℕ)
   tried : HasReadTrial (takes_trial c) call trial
   answered : HasAnswered (output_of c input trial) (cause_of c input trial) call ending
 
-answered_as : (call : Call) (ending : Ending) (c : Command) (input : List ℕ) → command_of call.words ≡ Some c → call.left ≡ Some input → HasRead call ending → Answered call ending c input
-answered_as call ending c input named is r =
+answered_as : (call : Call) (ending : Ending) (c : Command) (input : List ℕ) → command_of call.words ≡ Some c → reads_input c ≡ true → call.left ≡ Some input
+    → HasRead call ending → Answered call ending c input
+answered_as call ending c input named reads is r =
     let same : r.command ≡ c = same_command call r.command c r.named named in
-    let whole : r.input ≡ input = all_of call.left call.left' input r.input is r.read in
+    let read : HasReadInput true (limit_of r.command) call r.input =
+    subst (λ b. HasReadInput b (limit_of r.command) call r.input) (ap reads_input same ∙ reads) r.read in
+    let whole : r.input ≡ input = all_of call.left call.left' input r.input is read.0 in
     record {
       trial = r.trial;
       tried = subst (λ d. HasReadTrial (takes_trial d) call r.trial) same r.tried;
@@ -89,7 +94,7 @@ pub compile_settles : (call : Call) (ending : Ending) → HasEnded call ending �
 compile_settles call Written h named input output ps text is spelled valid supported small = inl refl
 compile_settles call NoMemory h named input output ps text is spelled valid supported small = inr refl
 compile_settles call Usage h named input output ps text is spelled valid supported small = absurd (usage_named call command.Compile named h)
-compile_settles call ReadFault h named input output ps text is spelled valid supported small = absurd (input h)
+compile_settles call ReadFault h named input output ps text is spelled valid supported small = absurd (input h.rose)
 compile_settles call TrialReadFault h named input output ps text is spelled valid supported small =
     absurd (no (takes_as call command.Compile h.command named h.named h.takes))
   where
@@ -102,21 +107,21 @@ compile_settles call TrialTooLong h named input output ps text is spelled valid 
     no : takes_trial command.Compile ≡ true → ⊥
     no e = cc
 compile_settles call WriteFault h named input output ps text is spelled valid supported small =
-    absurd (output (answered_as call WriteFault command.Compile text named is h).answered.cause)
+    absurd (output (answered_as call WriteFault command.Compile text named refl is h).answered.cause)
 compile_settles call (Syntax line) h named input output ps text is spelled valid supported small =
-    absurd ((answered_as call (Syntax line) command.Compile text named is h).answered.none ps spelled)
+    absurd ((answered_as call (Syntax line) command.Compile text named refl is h).answered.none ps spelled)
 compile_settles call (Limit which line) h named input output ps text is spelled valid supported small =
-    absurd ((answered_as call (Limit which line) command.Compile text named is h).answered.none ps spelled)
+    absurd ((answered_as call (Limit which line) command.Compile text named refl is h).answered.none ps spelled)
 compile_settles call (Invalid rule line) h named input output ps text is spelled valid supported small =
-    absurd ((answered_as call (Invalid rule line) command.Compile text named is h).answered.none ps spelled valid)
+    absurd ((answered_as call (Invalid rule line) command.Compile text named refl is h).answered.none ps spelled valid)
 compile_settles call (NotBuilt line) h named input output ps text is spelled valid supported small =
-    absurd ((answered_as call (NotBuilt line) command.Compile text named is h).answered.none ps spelled supported)
+    absurd ((answered_as call (NotBuilt line) command.Compile text named refl is h).answered.none ps spelled supported)
 compile_settles call (BadObject code byte) h named input output ps text is spelled valid supported small =
-    absurd (answered_as call (BadObject code byte) command.Compile text named is h).answered
+    absurd (answered_as call (BadObject code byte) command.Compile text named refl is h).answered
 compile_settles call (BadTrial line) h named input output ps text is spelled valid supported small =
-    absurd (answered_as call (BadTrial line) command.Compile text named is h).answered
+    absurd (answered_as call (BadTrial line) command.Compile text named refl is h).answered
 compile_settles call Misplaced h named input output ps text is spelled valid supported small =
-    absurd (answered_as call Misplaced command.Compile text named is h).answered
+    absurd (answered_as call Misplaced command.Compile text named refl is h).answered
 
 pub print_settles : (call : Call) (ending : Ending) → HasEnded call ending → command_of call.words ≡ Some command.Print
     → (Rose call.input_faults call.input_faults' → ⊥) → (Rose call.output_faults call.output_faults' → ⊥)
@@ -125,7 +130,7 @@ pub print_settles : (call : Call) (ending : Ending) → HasEnded call ending →
 print_settles call Written h named input output ps text is spelled small = inl refl
 print_settles call NoMemory h named input output ps text is spelled small = inr refl
 print_settles call Usage h named input output ps text is spelled small = absurd (usage_named call command.Print named h)
-print_settles call ReadFault h named input output ps text is spelled small = absurd (input h)
+print_settles call ReadFault h named input output ps text is spelled small = absurd (input h.rose)
 print_settles call TrialReadFault h named input output ps text is spelled small =
     absurd (no (takes_as call command.Print h.command named h.named h.takes))
   where
@@ -138,16 +143,16 @@ print_settles call TrialTooLong h named input output ps text is spelled small =
     no : takes_trial command.Print ≡ true → ⊥
     no e = cc
 print_settles call WriteFault h named input output ps text is spelled small =
-    absurd (output (answered_as call WriteFault command.Print text named is h).answered.cause)
+    absurd (output (answered_as call WriteFault command.Print text named refl is h).answered.cause)
 print_settles call (Syntax line) h named input output ps text is spelled small =
-    absurd ((answered_as call (Syntax line) command.Print text named is h).answered.none ps spelled)
+    absurd ((answered_as call (Syntax line) command.Print text named refl is h).answered.none ps spelled)
 print_settles call (Limit which line) h named input output ps text is spelled small =
-    absurd ((answered_as call (Limit which line) command.Print text named is h).answered.none ps spelled)
-print_settles call (Invalid rule line) h named input output ps text is spelled small = absurd (answered_as call (Invalid rule line) command.Print text named is h).answered
-print_settles call (NotBuilt line) h named input output ps text is spelled small = absurd (answered_as call (NotBuilt line) command.Print text named is h).answered
-print_settles call (BadObject code byte) h named input output ps text is spelled small = absurd (answered_as call (BadObject code byte) command.Print text named is h).answered
-print_settles call (BadTrial line) h named input output ps text is spelled small = absurd (answered_as call (BadTrial line) command.Print text named is h).answered
-print_settles call Misplaced h named input output ps text is spelled small = absurd (answered_as call Misplaced command.Print text named is h).answered
+    absurd ((answered_as call (Limit which line) command.Print text named refl is h).answered.none ps spelled)
+print_settles call (Invalid rule line) h named input output ps text is spelled small = absurd (answered_as call (Invalid rule line) command.Print text named refl is h).answered
+print_settles call (NotBuilt line) h named input output ps text is spelled small = absurd (answered_as call (NotBuilt line) command.Print text named refl is h).answered
+print_settles call (BadObject code byte) h named input output ps text is spelled small = absurd (answered_as call (BadObject code byte) command.Print text named refl is h).answered
+print_settles call (BadTrial line) h named input output ps text is spelled small = absurd (answered_as call (BadTrial line) command.Print text named refl is h).answered
+print_settles call Misplaced h named input output ps text is spelled small = absurd (answered_as call Misplaced command.Print text named refl is h).answered
 
 -- ---- trials
 
@@ -168,29 +173,29 @@ eval_settles call Written h named input trial output ps text is spelled valid su
 eval_settles call NoMemory h named input trial output ps text is spelled valid supported small t bytes has spells short begins = inr refl
 eval_settles call Usage h named input trial output ps text is spelled valid supported small t bytes has spells short begins =
     absurd (usage_named call command.Eval named h)
-eval_settles call ReadFault h named input trial output ps text is spelled valid supported small t bytes has spells short begins = absurd (input h)
+eval_settles call ReadFault h named input trial output ps text is spelled valid supported small t bytes has spells short begins = absurd (input h.rose)
 eval_settles call TrialReadFault h named input trial output ps text is spelled valid supported small t bytes has spells short begins = absurd (trial h.rose)
 eval_settles call TooLong h named input trial output ps text is spelled valid supported small t bytes has spells short begins =
     absurd (not_too_long call command.Eval text named is small h)
 eval_settles call TrialTooLong h named input trial output ps text is spelled valid supported small t bytes has spells short begins =
     absurd (not_long text_limit call.trial_left call.trial_left' bytes has short h.long)
 eval_settles call WriteFault h named input trial output ps text is spelled valid supported small t bytes has spells short begins =
-    absurd (output (answered_as call WriteFault command.Eval text named is h).answered.cause)
+    absurd (output (answered_as call WriteFault command.Eval text named refl is h).answered.cause)
 eval_settles call (Syntax line) h named input trial output ps text is spelled valid supported small t bytes has spells short begins =
-    absurd ((answered_as call (Syntax line) command.Eval text named is h).answered.none ps spelled)
+    absurd ((answered_as call (Syntax line) command.Eval text named refl is h).answered.none ps spelled)
 eval_settles call (Limit which line) h named input trial output ps text is spelled valid supported small t bytes has spells short begins =
-    absurd ((answered_as call (Limit which line) command.Eval text named is h).answered.none ps spelled)
+    absurd ((answered_as call (Limit which line) command.Eval text named refl is h).answered.none ps spelled)
 eval_settles call (Invalid rule line) h named input trial output ps text is spelled valid supported small t bytes has spells short begins =
-    absurd ((answered_as call (Invalid rule line) command.Eval text named is h).answered.none ps spelled valid)
+    absurd ((answered_as call (Invalid rule line) command.Eval text named refl is h).answered.none ps spelled valid)
 eval_settles call (NotBuilt line) h named input trial output ps text is spelled valid supported small t bytes has spells short begins =
-    absurd ((answered_as call (NotBuilt line) command.Eval text named is h).answered.none ps spelled supported)
+    absurd ((answered_as call (NotBuilt line) command.Eval text named refl is h).answered.none ps spelled supported)
 eval_settles call (BadObject code byte) h named input trial output ps text is spelled valid supported small t bytes has spells short begins =
-    absurd (answered_as call (BadObject code byte) command.Eval text named is h).answered
+    absurd (answered_as call (BadObject code byte) command.Eval text named refl is h).answered
 eval_settles call (BadTrial line) h named input trial output ps text is spelled valid supported small t bytes has spells short begins =
-    let a = answered_as call (BadTrial line) command.Eval text named is h in
+    let a = answered_as call (BadTrial line) command.Eval text named refl is h in
     absurd (a.answered.1.none t (subst (λ b. Spells b t) (sym (tried_as call bytes a.trial has a.tried)) spells))
 eval_settles call Misplaced h named input trial output ps text is spelled valid supported small t bytes has spells short begins =
-    let a = answered_as call Misplaced command.Eval text named is h in
+    let a = answered_as call Misplaced command.Eval text named refl is h in
     let m = a.answered.1 in
     let same : t ≡ m.tried = same_trial a.trial t m.tried (subst (λ b. Spells b t) (sym (tried_as call bytes a.trial has a.tried)) spells) m.spells in
     absurd (m.misplaced (subst (Begins m.compiled.file_of.object) same (begins a.answered.0 m.compiled)))
@@ -209,29 +214,67 @@ pub run_settles : (call : Call) (ending : Ending) → HasEnded call ending → c
 run_settles call Written h named input trial output o file is holds small t bytes has spells short begins = inl refl
 run_settles call NoMemory h named input trial output o file is holds small t bytes has spells short begins = inr refl
 run_settles call Usage h named input trial output o file is holds small t bytes has spells short begins = absurd (usage_named call command.Run named h)
-run_settles call ReadFault h named input trial output o file is holds small t bytes has spells short begins = absurd (input h)
+run_settles call ReadFault h named input trial output o file is holds small t bytes has spells short begins = absurd (input h.rose)
 run_settles call TrialReadFault h named input trial output o file is holds small t bytes has spells short begins = absurd (trial h.rose)
 run_settles call TooLong h named input trial output o file is holds small t bytes has spells short begins = absurd (not_too_long call command.Run file named is small h)
 run_settles call TrialTooLong h named input trial output o file is holds small t bytes has spells short begins =
     absurd (not_long text_limit call.trial_left call.trial_left' bytes has short h.long)
 run_settles call WriteFault h named input trial output o file is holds small t bytes has spells short begins =
-    absurd (output (answered_as call WriteFault command.Run file named is h).answered.cause)
+    absurd (output (answered_as call WriteFault command.Run file named refl is h).answered.cause)
 run_settles call (Syntax line) h named input trial output o file is holds small t bytes has spells short begins =
-    absurd (answered_as call (Syntax line) command.Run file named is h).answered
+    absurd (answered_as call (Syntax line) command.Run file named refl is h).answered
 run_settles call (Limit which line) h named input trial output o file is holds small t bytes has spells short begins =
-    absurd (answered_as call (Limit which line) command.Run file named is h).answered
+    absurd (answered_as call (Limit which line) command.Run file named refl is h).answered
 run_settles call (Invalid rule line) h named input trial output o file is holds small t bytes has spells short begins =
-    absurd (answered_as call (Invalid rule line) command.Run file named is h).answered
+    absurd (answered_as call (Invalid rule line) command.Run file named refl is h).answered
 run_settles call (NotBuilt line) h named input trial output o file is holds small t bytes has spells short begins =
-    absurd (answered_as call (NotBuilt line) command.Run file named is h).answered
+    absurd (answered_as call (NotBuilt line) command.Run file named refl is h).answered
 run_settles call (BadObject code byte) h named input trial output o file is holds small t bytes has spells short begins =
-    absurd ((answered_as call (BadObject code byte) command.Run file named is h).answered.none o holds)
+    absurd ((answered_as call (BadObject code byte) command.Run file named refl is h).answered.none o holds)
 run_settles call (BadTrial line) h named input trial output o file is holds small t bytes has spells short begins =
-    let a = answered_as call (BadTrial line) command.Run file named is h in
+    let a = answered_as call (BadTrial line) command.Run file named refl is h in
     absurd (a.answered.1.none t (subst (λ b. Spells b t) (sym (tried_as call bytes a.trial has a.tried)) spells))
 run_settles call Misplaced h named input trial output o file is holds small t bytes has spells short begins =
-    let a = answered_as call Misplaced command.Run file named is h in
+    let a = answered_as call Misplaced command.Run file named refl is h in
     let m = a.answered in
     let tried : t ≡ m.tried = same_trial a.trial t m.tried (subst (λ b. Spells b t) (sym (tried_as call bytes a.trial has a.tried)) spells) m.spells in
     let object : o ≡ m.object = same_object file o m.object (omega (arith, small)) holds m.holds in
     absurd (m.misplaced (subst (λ p. Begins p m.tried) object (subst (Begins o) tried begins)))
+
+-- ---- the text that is made from a number
+
+no_input : (call : Call) (n : ℕ) (c : Command) → command_of call.words ≡ Some (command.Gen n) → command_of call.words ≡ Some c → ¬ (reads_input c ≡ true)
+no_input call n c named other reads = no (ap reads_input (same_command call (command.Gen n) c named other) ∙ reads)
+  where
+    no : reads_input (command.Gen n) ≡ true → ⊥
+    no e = cc
+
+no_trial : (call : Call) (n : ℕ) (c : Command) → command_of call.words ≡ Some (command.Gen n) → command_of call.words ≡ Some c → ¬ (takes_trial c ≡ true)
+no_trial call n c named other takes = no (takes_as call (command.Gen n) c named other takes)
+  where
+    no : takes_trial (command.Gen n) ≡ true → ⊥
+    no e = cc
+
+made_as : (call : Call) (ending : Ending) (n : ℕ) → command_of call.words ≡ Some (command.Gen n) → HasRead call ending
+    → HasAnswered (IsSummary n) (EndsText (IsCause (generated n))) call ending
+made_as call ending n named r =
+    subst (λ d. HasAnswered (output_of d r.input r.trial) (cause_of d r.input r.trial) call ending) (same_command call r.command (command.Gen n) r.named named) r.answered
+
+pub gen_settles : (call : Call) (ending : Ending) → HasEnded call ending → (n : ℕ) → command_of call.words ≡ Some (command.Gen n)
+    → (Rose call.output_faults call.output_faults' → ⊥) → (ps : List Procedure) → IsTextOf (generated n) ps → IsValid ps → AreSupported ps
+    → (status_of ending ≡ 0) ⊎ (status_of ending ≡ 9)
+gen_settles call Written h n named output ps spelled valid supported = inl refl
+gen_settles call NoMemory h n named output ps spelled valid supported = inr refl
+gen_settles call Usage h n named output ps spelled valid supported = absurd (usage_named call (command.Gen n) named h)
+gen_settles call ReadFault h n named output ps spelled valid supported = absurd (no_input call n h.command named h.named h.reads)
+gen_settles call TrialReadFault h n named output ps spelled valid supported = absurd (no_trial call n h.command named h.named h.takes)
+gen_settles call TooLong h n named output ps spelled valid supported = absurd (no_input call n h.command named h.named h.reads)
+gen_settles call TrialTooLong h n named output ps spelled valid supported = absurd (no_trial call n h.command named h.named h.takes)
+gen_settles call WriteFault h n named output ps spelled valid supported = absurd (output (made_as call WriteFault n named h).cause)
+gen_settles call (Syntax line) h n named output ps spelled valid supported = absurd ((made_as call (Syntax line) n named h).none ps spelled)
+gen_settles call (Limit which line) h n named output ps spelled valid supported = absurd ((made_as call (Limit which line) n named h).none ps spelled)
+gen_settles call (Invalid rule line) h n named output ps spelled valid supported = absurd ((made_as call (Invalid rule line) n named h).none ps spelled valid)
+gen_settles call (NotBuilt line) h n named output ps spelled valid supported = absurd ((made_as call (NotBuilt line) n named h).none ps spelled supported)
+gen_settles call (BadObject code byte) h n named output ps spelled valid supported = absurd (made_as call (BadObject code byte) n named h)
+gen_settles call (BadTrial line) h n named output ps spelled valid supported = absurd (made_as call (BadTrial line) n named h)
+gen_settles call Misplaced h n named output ps spelled valid supported = absurd (made_as call Misplaced n named h)

@@ -1,5 +1,5 @@
 -- What has come about at an ending, put together; and that bytes spell one module alone.
-use Rattle.std.proofs.Common.{◌≡◌, ◌≤◌, ℕ, List, length, Some, sym, subst, ◌∙◌}
+use Rattle.std.proofs.Common.{◌≡◌, ℕ, ◌≤◌, true, false, List, [], length, Some, refl, sym, subst, ◌∙◌}
 use Rattle.b3_ir.specs.Procedure.{Procedure}
 use Rattle.b3_module.specs.Limits.{IsFirstLimit, KeepsLimits}
 use Rattle.b3_module.specs.Texts.{BadLine, Spells}
@@ -10,36 +10,54 @@ use Rattle.b3_rules.specs.Valid.{IsValid}
 use Rattle.b3_supported.specs.Faults.{IsFaultLine}
 use Rattle.b3_supported.specs.Supported.{AreSupported}
 use Rattle.b3c_core.specs.declared.command.Command.{Command}
+use Rattle.b3c_core.specs.declared.command.Command.TheVariants as commands
 use Rattle.b3c_core.specs.declared.ending.Ending.{Ending}
 use Rattle.b3c_core.specs.declared.ending.Ending.TheVariants.{Written, Usage, ReadFault, TrialReadFault, WriteFault, TooLong, TrialTooLong, Syntax, Limit, Invalid, BadObject, BadTrial, Misplaced, NotBuilt, NoMemory}
 use Rattle.b3c_core.specs.Compiled.{IsNoText, IsNotBuilt, IsPastLimit, IsTextOf, ReadsWhole}
-use Rattle.b3c_core.specs.Tool.{Call, HasAnswered, HasEnded, HasRead, HasReadTrial, cause_of, command_of, limit_of, output_of, takes_trial}
+use Rattle.b3c_core.specs.Tool.{Call, HasAnswered, HasEnded, HasRead, HasReadInput, HasReadTrial, cause_of, command_of, limit_of, output_of, reads_input, takes_trial}
 
 -- an ending that follows once all was read
 has_read : (call : Call) (ending : Ending) (command : Command) (input trial : List ℕ) → command_of call.words ≡ Some command
-    → ReadsWhole call.left call.left' input → length input ≤ limit_of command → HasReadTrial (takes_trial command) call trial
+    → HasReadInput (reads_input command) (limit_of command) call input → HasReadTrial (takes_trial command) call trial
     → HasAnswered (output_of command input trial) (cause_of command input trial) call ending → HasRead call ending
-has_read call ending command input trial named read small tried h =
-    record { command = command; named = named; input = input; read = read; small = small; trial = trial; tried = tried; answered = h }
+has_read call ending command input trial named read tried h =
+    record { command = command; named = named; input = input; read = read; trial = trial; tried = tried; answered = h }
 
 pub ended_after : (call : Call) (ending : Ending) (command : Command) (input trial : List ℕ) → command_of call.words ≡ Some command
-    → ReadsWhole call.left call.left' input → length input ≤ limit_of command → HasReadTrial (takes_trial command) call trial
+    → HasReadInput (reads_input command) (limit_of command) call input → HasReadTrial (takes_trial command) call trial
     → HasAnswered (output_of command input trial) (cause_of command input trial) call ending → HasEnded call ending
-ended_after call Written command input trial named read small tried h = has_read call Written command input trial named read small tried h
-ended_after call WriteFault command input trial named read small tried h = has_read call WriteFault command input trial named read small tried h
-ended_after call (Syntax line) command input trial named read small tried h = has_read call (Syntax line) command input trial named read small tried h
-ended_after call (Limit which line) command input trial named read small tried h = has_read call (Limit which line) command input trial named read small tried h
-ended_after call (Invalid rule line) command input trial named read small tried h = has_read call (Invalid rule line) command input trial named read small tried h
-ended_after call (BadObject code byte) command input trial named read small tried h = has_read call (BadObject code byte) command input trial named read small tried h
-ended_after call (BadTrial line) command input trial named read small tried h = has_read call (BadTrial line) command input trial named read small tried h
-ended_after call Misplaced command input trial named read small tried h = has_read call Misplaced command input trial named read small tried h
-ended_after call (NotBuilt line) command input trial named read small tried h = has_read call (NotBuilt line) command input trial named read small tried h
-ended_after call NoMemory command input trial named read small tried h = tt
-ended_after call Usage command input trial named read small tried h = absurd h
-ended_after call ReadFault command input trial named read small tried h = absurd h
-ended_after call TrialReadFault command input trial named read small tried h = absurd h
-ended_after call TooLong command input trial named read small tried h = absurd h
-ended_after call TrialTooLong command input trial named read small tried h = absurd h
+ended_after call Written command input trial named read tried h = has_read call Written command input trial named read tried h
+ended_after call WriteFault command input trial named read tried h = has_read call WriteFault command input trial named read tried h
+ended_after call (Syntax line) command input trial named read tried h = has_read call (Syntax line) command input trial named read tried h
+ended_after call (Limit which line) command input trial named read tried h = has_read call (Limit which line) command input trial named read tried h
+ended_after call (Invalid rule line) command input trial named read tried h = has_read call (Invalid rule line) command input trial named read tried h
+ended_after call (BadObject code byte) command input trial named read tried h = has_read call (BadObject code byte) command input trial named read tried h
+ended_after call (BadTrial line) command input trial named read tried h = has_read call (BadTrial line) command input trial named read tried h
+ended_after call Misplaced command input trial named read tried h = has_read call Misplaced command input trial named read tried h
+ended_after call (NotBuilt line) command input trial named read tried h = has_read call (NotBuilt line) command input trial named read tried h
+ended_after call NoMemory command input trial named read tried h = tt
+ended_after call Usage command input trial named read tried h = absurd h
+ended_after call ReadFault command input trial named read tried h = absurd h
+ended_after call TrialReadFault command input trial named read tried h = absurd h
+ended_after call TooLong command input trial named read tried h = absurd h
+ended_after call TrialTooLong command input trial named read tried h = absurd h
+
+-- ---- what is read
+
+pub has_input : (call : Call) (command : Command) (input : List ℕ) → reads_input command ≡ true → ReadsWhole call.left call.left' input
+    → length input ≤ limit_of command → HasReadInput (reads_input command) (limit_of command) call input
+has_input call command input reads whole small = subst (λ b. HasReadInput b (limit_of command) call input) (sym reads) (whole, small)
+
+pub no_input : (call : Call) (command : Command) (input : List ℕ) → reads_input command ≡ false → input ≡ [] → HasReadInput (reads_input command) (limit_of command) call input
+no_input call command input reads none = subst (λ b. HasReadInput b (limit_of command) call input) (sym reads) none
+
+-- a command that reads no input takes no trial
+pub no_trial_either : (call : Call) (command : Command) → reads_input command ≡ false → HasReadTrial (takes_trial command) call []
+no_trial_either call (commands.Gen n) reads = refl
+no_trial_either call commands.Compile reads = absurd cc
+no_trial_either call commands.Print reads = absurd cc
+no_trial_either call commands.Eval reads = absurd cc
+no_trial_either call commands.Run reads = absurd cc
 
 -- ---- one module
 

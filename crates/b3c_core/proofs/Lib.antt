@@ -1,5 +1,6 @@
 pub mod Limits
 pub mod Endings
+pub mod Commands
 pub mod Beginning
 pub mod Evaluating
 pub mod Completeness

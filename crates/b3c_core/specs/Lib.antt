@@ -1,3 +1,4 @@
 pub mod Compiled
 pub mod Tried
+pub mod Generating
 pub mod Tool

@@ -1,9 +1,10 @@
 -- The command line, the statuses and their lines, and the causes of each.
-use Rattle.std.specs.Prelude.{◌≡◌, ℕ, ◌<◌, ◌≤◌, Bool, true, false, if◌then◌else◌, List, [], ◌∷◌, ◌++◌, length, take, codes, bytes_eq, Option, Some, None}
+use Rattle.std.specs.Prelude.{◌≡◌, ℕ, ◌^◌, ◌<◌, ◌≤◌, Bool, true, false, if◌then◌else◌, List, [], ◌∷◌, ◌++◌, length, take, codes, bytes_eq, Option, Some, None, option_map}
 use Rattle.std.specs.Fmt.{decimal}
 use Rattle.std.specs.Io.KnownBytes.{Appends}
 use Rattle.b3_io.specs.Faults.{Rose}
 use Rattle.b3_io.specs.Taken.{Takes}
+use Rattle.b3_items.specs.Numbers.{below, digits_of, has_up_to}
 use Rattle.b3_module.specs.declared.fault.LimitName.{LimitName}
 use Rattle.b3_module.specs.declared.fault.LimitName.TheVariants as limits
 use Rattle.b3c_core.specs.declared.command.Command.{Command}
@@ -16,6 +17,8 @@ use Rattle.b3c_core.specs.declared.trying.EvalFault.{EvalFault}
 use Rattle.b3c_core.specs.declared.trying.EvalFault.TheVariants as eval
 use Rattle.b3c_core.specs.declared.trying.RunFault.{RunFault}
 use Rattle.b3c_core.specs.declared.trying.RunFault.TheVariants as run
+use Rattle.b3_trial.specs.Generated.{generated}
+use Rattle.b3c_core.specs.Generating.{IsSummary}
 use Rattle.b3c_core.specs.Compiled.{IsCause, IsCompiled, IsPrinted, IsTextCause, ReadsWhole, Writes, WritesPart}
 use Rattle.b3c_core.specs.Tried.{IsEvalCause, IsEvaluated, IsRun, IsRunCause}
 
@@ -40,10 +43,24 @@ trial_command_named word =
     if bytes_eq word (codes "eval") then Some command.Eval
     else (if bytes_eq word (codes "run") then Some command.Run else None)
 
+-- 1 to 10 decimal digits of a number below 2^32
+unfoldable pub seed_of : List ℕ → Option ℕ
+seed_of text = if has_up_to 10 text then below (2 ^ 32) (digits_of text) else None
+
+-- the command that two words name: `gen` and a number, or one with a trial's file
+abbrev pub command_with : List ℕ → List ℕ → Option Command
+command_with word more =
+    if bytes_eq word (codes "gen") then option_map command.Gen (seed_of more) else trial_command_named word
+
 abbrev pub command_of : List (List ℕ) → Option Command
 command_of (word ∷ []) = command_named word
-command_of (word ∷ trial ∷ []) = trial_command_named word
+command_of (word ∷ more ∷ []) = command_with word more
 command_of _ = None
+
+-- whether a command reads its input
+abbrev pub reads_input : Command → Bool
+reads_input (command.Gen n) = false
+reads_input _ = true
 
 -- whether a command reads a trial
 abbrev pub takes_trial : Command → Bool
@@ -51,10 +68,12 @@ takes_trial command.Compile = false
 takes_trial command.Print = false
 takes_trial command.Eval = true
 takes_trial command.Run = true
+takes_trial (command.Gen n) = false
 
 -- the most bytes that a command's input may have
 abbrev pub limit_of : Command → ℕ
 limit_of command.Run = object_limit
+limit_of (command.Gen n) = 0
 limit_of _ = text_limit
 
 -- ---- what a command writes, and why it refuses
@@ -65,6 +84,7 @@ output_of command.Compile input trial = IsCompiled input
 output_of command.Print input trial = IsPrinted input
 output_of command.Eval input trial = IsEvaluated input trial
 output_of command.Run input trial = IsRun input trial
+output_of (command.Gen n) input trial = IsSummary n
 
 -- an ending that names a fault of a text has its cause
 abbrev pub EndsText : (Fault → Type 0) → Ending → Type 0
@@ -93,6 +113,7 @@ cause_of command.Compile input trial = EndsText (IsCause input)
 cause_of command.Print input trial = EndsText (IsTextCause input)
 cause_of command.Eval input trial = EndsEval input trial
 cause_of command.Run input trial = EndsRun input trial
+cause_of (command.Gen n) input trial = EndsText (IsCause (generated n))
 
 -- ---- endings
 
@@ -218,27 +239,31 @@ HasAnswered Output Cause call TooLong = ⊥
 HasAnswered Output Cause call TrialTooLong = ⊥
 HasAnswered Output Cause call ending = Cause ending
 
+-- an input was read to its end, and has no more bytes than it may; a command that reads none has none
+abbrev pub HasReadInput : Bool → ℕ → Call → List ℕ → Type 0
+HasReadInput true limit call input = ReadsWhole call.left call.left' input × (length input ≤ limit)
+HasReadInput false limit call input = input ≡ []
+
 -- a trial was read to its end, and has no more bytes than it may; a command without one has none
 abbrev pub HasReadTrial : Bool → Call → List ℕ → Type 0
 HasReadTrial true call trial = ReadsWhole call.trial_left call.trial_left' trial × (length trial ≤ text_limit)
 HasReadTrial false call trial = trial ≡ []
 
--- the words name a command, whose input was read to its end and has no more bytes than it may, and whose trial was
--- read
+-- the words name a command, whose input and whose trial were read
 pub record HasRead (call : Call) (ending : Ending) : Type 0 where
   pub command : Command
   pub named : command_of call.words ≡ Some command
   pub input : List ℕ
-  pub read : ReadsWhole call.left call.left' input
-  pub small : length input ≤ limit_of command
+  pub read : HasReadInput (reads_input command) (limit_of command) call input
   pub trial : List ℕ
   pub tried : HasReadTrial (takes_trial command) call trial
   pub answered : HasAnswered (output_of command input trial) (cause_of command input trial) call ending
 
--- more bytes came from the input than the command may have, or from the trial of one that takes one
+-- more bytes came than may, from the input of a command that reads one, or from the trial of one that takes one
 pub record PassesInput (call : Call) : Type 0 where
   pub command : Command
   pub named : command_of call.words ≡ Some command
+  pub reads : reads_input command ≡ true
   pub long : Takes (λ n. limit_of command < n) call.left call.left'
 
 pub record PassesTrial (call : Call) : Type 0 where
@@ -247,7 +272,13 @@ pub record PassesTrial (call : Call) : Type 0 where
   pub takes : takes_trial command ≡ true
   pub long : Takes (λ n. text_limit < n) call.trial_left call.trial_left'
 
--- a read of the trial failed, of a command that takes one
+-- a read failed, of the input of a command that reads one, or of the trial of one that takes one
+pub record FailsInput (call : Call) : Type 0 where
+  pub command : Command
+  pub named : command_of call.words ≡ Some command
+  pub reads : reads_input command ≡ true
+  pub rose : Rose call.input_faults call.input_faults'
+
 pub record FailsTrial (call : Call) : Type 0 where
   pub command : Command
   pub named : command_of call.words ≡ Some command
@@ -257,7 +288,7 @@ pub record FailsTrial (call : Call) : Type 0 where
 -- what has come about at each ending
 abbrev pub HasEnded : Call → Ending → Type 0
 HasEnded call Usage = command_of call.words ≡ None
-HasEnded call ReadFault = Rose call.input_faults call.input_faults'
+HasEnded call ReadFault = FailsInput call
 HasEnded call TrialReadFault = FailsTrial call
 HasEnded call TooLong = PassesInput call
 HasEnded call TrialTooLong = PassesTrial call

@@ -1,6 +1,7 @@
 //! The commands, and the words that name them.
 
-ghost use Rattle.std.specs.Prelude.{◌≡◌, bytes_eq};
+ghost use Rattle.std.specs.Prelude.{◌≡◌, ◌^◌, bytes_eq};
+ghost use Rattle.b3_items.specs.Numbers.{below, digits_of};
 ghost use Rattle.b3c_core.specs.Tool as tool;
 
 use b3_base::Name;
@@ -16,15 +17,28 @@ pub enum Command {
     Eval,
     /// Reads an object and a trial, and writes what is seen of the run of the machine.
     Run,
+    /// Makes the text of a large module from this number, compiles it, and writes how large both are. It reads
+    /// nothing.
+    Gen(u32),
 }
 
 impl Command {
+    /// Whether the command reads its input.
+    pub fn reads_input(self) -> bool
+        ensures { result ≡ tool.reads_input self }
+    {
+        match self {
+            Command::Gen(_) => false,
+            Command::Compile | Command::Print | Command::Eval | Command::Run => true,
+        }
+    }
+
     /// Whether the command reads a trial.
     pub fn takes_trial(self) -> bool
         ensures { result ≡ tool.takes_trial self }
     {
         match self {
-            Command::Compile | Command::Print => false,
+            Command::Compile | Command::Print | Command::Gen(_) => false,
             Command::Eval | Command::Run => true,
         }
     }
@@ -35,6 +49,7 @@ impl Command {
     {
         match self {
             Command::Run => 134_217_728,
+            Command::Gen(_) => 0,
             Command::Compile | Command::Print | Command::Eval => 16_777_216,
         }
     }
@@ -46,7 +61,7 @@ pub fn command_of(words: &[Name]) -> Option<Command>
 {
     match words {
         [word] => command_named(word.as_slice()),
-        [word, _trial] => trial_command_named(word.as_slice()),
+        [word, more] => command_with(word.as_slice(), more.as_slice()),
         _ => None,
     }
 }
@@ -75,4 +90,50 @@ fn trial_command_named(word: &[u8]) -> Option<Command>
     } else {
         None
     }
+}
+
+/// The command that two words name: `gen` and a number, or one with a trial's file.
+fn command_with(word: &[u8], more: &[u8]) -> Option<Command>
+    ensures { result ≡ tool.command_with word.now more.now }
+{
+    if word == b"gen".as_slice() {
+        Some(Command::Gen(seed_of(more)?))
+    } else {
+        trial_command_named(word)
+    }
+}
+
+/// The number below 2^32 that 1 to 10 decimal digits say.
+#[tactic(auto, unfolding(crate::specs::Tool::seed_of))]
+fn seed_of(text: &[u8]) -> Option<u32>
+    ensures { result ≡ tool.seed_of text.now }
+{
+    if text.is_empty() || text.len() > 10 {
+        return None;
+    }
+    let value = digits_value(text)?;
+    if value < 1 << 32 {
+        Some(value as u32)
+    } else {
+        None
+    }
+}
+
+/// The value of digits that is below 2^64.
+#[tactic(auto, using(crate::proofs::Commands::value_on_grows))]
+fn digits_value(digits: &[u8]) -> Option<u64>
+    ensures { result ≡ below (2 ^ 64) (digits_of digits.now) }
+{
+    let mut value: u64 = 0;
+    let mut text = digits;
+    while let Some((digit, rest)) = text.split_first() {
+        if !digit.is_ascii_digit() {
+            return None;
+        }
+        value = value
+            .checked_mul(10)?
+            .checked_add(u64::from(*digit - b'0'))?;
+        text = rest;
+    }
+    Some(value)
 }

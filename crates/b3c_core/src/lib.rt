@@ -4,6 +4,7 @@
 mod command;
 mod compiler;
 mod ending;
+mod generating;
 mod laws;
 #[cfg(test)]
 mod tests;
@@ -13,6 +14,7 @@ mod trying;
 pub use command::{Command, command_of};
 pub use compiler::{Fault, compile, print};
 pub use ending::Ending;
+pub use generating::generate_object;
 pub use laws::evaluated_runs_agree;
 pub use tool::{OBJECT_LIMIT, TEXT_LIMIT, run_tool};
 pub use trying::{EvalFault, Evaluated, RunFault, eval_text, run_file};

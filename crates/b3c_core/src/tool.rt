@@ -1,11 +1,12 @@
 //! The tool: one call takes the words of the command line, the input and the streams, and ends
 //! with an exit status.
 
-ghost use Rattle.std.specs.Prelude.{◌≡◌, ◌≢◌, ℕ, ◌-◌, ◌^◌, ◌<◌, ◌≤◌, ◌⊎◌, true, false, List, length, Some, None, IfOk, IfErr};
+ghost use Rattle.std.specs.Prelude.{◌≡◌, ◌≢◌, ℕ, ◌-◌, ◌^◌, ◌<◌, ◌≤◌, ◌⊎◌, true, false, List, [], length, Some, None, IfOk, IfErr};
 ghost use Rattle.b3_io.specs.Faults.{Rose};
 ghost use Rattle.b3_io.specs.Taken.{Takes};
 ghost use Rattle.b3_rules.specs.Valid.{IsValid};
 ghost use Rattle.b3_supported.specs.Supported.{AreSupported};
+ghost use Rattle.b3_trial.specs.Generated.{generated};
 ghost use Rattle.b3_trial.specs.Trials.{Spells, Trial};
 ghost use Rattle.b3_ir.specs.Procedure.{Procedure};
 ghost use Rattle.elf_obj.specs.Read.{IsFileOf as IsObjectOf};
@@ -13,13 +14,14 @@ ghost use Rattle.elf_obj.specs.declared.object.Object.{Object};
 ghost use Rattle.b3c_core.specs.Compiled.{IsCompiled, IsTextOf};
 ghost use Rattle.b3c_core.specs.Tried.{Begins};
 ghost use Rattle.b3c_core.specs.Tool as spec;
-ghost use Rattle.b3c_core.specs.Tool.{Call, HasAnswered, HasEnded, IsAfterReading, IsRefusal, TakesLine, cause_of, line_of, output_of, status_of, takes_trial};
+ghost use Rattle.b3c_core.specs.Tool.{Call, HasAnswered, HasEnded, IsAfterReading, IsRefusal, TakesLine, cause_of, line_of, output_of, reads_input, status_of, takes_trial};
 ghost use Rattle.b3c_core.specs.declared.command.Command.{Command};
 ghost use Rattle.b3c_core.specs.declared.ending.Ending.{Ending};
 
 use crate::command::{Command, command_of};
 use crate::compiler::{Fault, compile, print};
 use crate::ending::Ending;
+use crate::generating::generate_object;
 use crate::trying::{EvalFault, RunFault, eval_text, run_file};
 use b3_base::{Bytes, Name};
 use b3_io::{ReadAll, Sink, Source, WriteFault, read_all, write_all};
@@ -33,11 +35,12 @@ pub const OBJECT_LIMIT: usize = 134_217_728;
 
 /// Runs one command: `compile` reads a text from `input` and writes its object to `out`, and `print` writes its
 /// canonical text; `eval` reads a text and a trial, and writes what is seen of the run of B3, and `run` reads an
-/// object and a trial, and writes what is seen of the run of the machine. The answer is the exit status: 0 done,
-/// 2 the words match no command, 3 a read failed, 4 a write failed, 5 the input is no text, 6 the text breaks a
-/// rule, 7 an input has too many bytes or the text passes another limit, 8 the input is no object, the trial is none
-/// or may not begin its procedure, 9 want of memory, 10 a form of the text is not built. A status other than 0 puts
-/// one line on `err`; a fault of `err` changes nothing else. `trial` is read by `eval` and `run` alone, after `input`.
+/// object and a trial, and writes what is seen of the run of the machine; `gen` reads nothing, and writes the summary
+/// of the text that is made from a number and of its object. The answer is the exit status: 0 done, 2 the words match
+/// no command, 3 a read failed, 4 a write failed, 5 the input is no text, 6 the text breaks a rule, 7 an input has too
+/// many bytes or the text passes another limit, 8 the input is no object, the trial is none or may not begin its
+/// procedure, 9 want of memory, 10 a form of the text is not built. A status other than 0 puts one line on `err`; a
+/// fault of `err` changes nothing else. `trial` is read by `eval` and `run` alone, after `input`.
 pub fn run_tool<S: Source, T: Source, K: Sink, E: Sink>(
     alloc: Global,
     words: &[Name],
@@ -51,6 +54,7 @@ pub fn run_tool<S: Source, T: Source, K: Sink, E: Sink>(
     ensures not_usage { (command : Command) → spec.command_of words.now ≡ Some command → result ≢ 2 }
     ensures nothing_read { result ≡ 2 → input.new ≡ input.old }
     ensures no_trial_read { result ≡ 2 → trial.new ≡ trial.old }
+    ensures no_input { (command : Command) → spec.command_of words.now ≡ Some command → reads_input command ≡ false → input.new ≡ input.old }
     ensures no_trial { (command : Command) → spec.command_of words.now ≡ Some command → takes_trial command ≡ false → trial.new ≡ trial.old }
 
     // The causes.
@@ -63,8 +67,9 @@ pub fn run_tool<S: Source, T: Source, K: Sink, E: Sink>(
     ensures nothing_written { result ≢ 0 → result ≢ 4 → out.new ≡ out.old }
 
     // A text within the limits is printed; it is compiled where it is valid and all of it is supported, and evaluated
-    // where the trial may begin in each of its objects; a good object is run where the trial may begin in it: unless
-    // memory is wanted, where nothing failed.
+    // where the trial may begin in each of its objects; a good object is run where the trial may begin in it; the text
+    // that is made from a number is compiled where it is valid and all of it is supported: unless memory is wanted,
+    // where nothing failed.
     ensures compiles { spec.command_of words.now ≡ Some Command.Compile
         → (Rose (S.faults input.old) (S.faults input.new) → ⊥) → (Rose (K.faults out.old) (K.faults out.new) → ⊥)
         → (procedures : List Procedure) (text : List ℕ) → S.left input.old ≡ Some text → IsTextOf text procedures → IsValid procedures
@@ -86,6 +91,9 @@ pub fn run_tool<S: Source, T: Source, K: Sink, E: Sink>(
         → (o : Object) (file : List ℕ) → S.left input.old ≡ Some file → IsObjectOf file o → length file ≤ OBJECT_LIMIT
         → (t : Trial) (bytes : List ℕ) → T.left trial.old ≡ Some bytes → Spells bytes t → length bytes ≤ TEXT_LIMIT
         → Begins o t → (result ≡ 0) ⊎ (result ≡ 9) }
+    ensures generates { (n : ℕ) → spec.command_of words.now ≡ Some (Command.Gen n) → (Rose (K.faults out.old) (K.faults out.new) → ⊥)
+        → (procedures : List Procedure) → IsTextOf (generated n) procedures → IsValid procedures → AreSupported procedures
+        → (result ≡ 0) ⊎ (result ≡ 9) }
 
     // What has come about, and the line on the error stream.
     ensures ended { (ending : Ending) × (result ≡ status_of ending)
@@ -109,6 +117,7 @@ fn run_words<S: Source, T: Source, K: Sink>(
     ensures not_usage { (command : Command) → spec.command_of words.now ≡ Some command → result ≢ Ending.Usage }
     ensures nothing_read { result ≡ Ending.Usage → input.new ≡ input.old }
     ensures no_trial_read { result ≡ Ending.Usage → trial.new ≡ trial.old }
+    ensures no_input { (command : Command) → spec.command_of words.now ≡ Some command → reads_input command ≡ false → input.new ≡ input.old }
     ensures no_trial { (command : Command) → spec.command_of words.now ≡ Some command → takes_trial command ≡ false → trial.new ≡ trial.old }
     ensures write_fault { result ≡ Ending.WriteFault → Rose (K.faults out.old) (K.faults out.new) }
     ensures within { (command : Command) → spec.command_of words.now ≡ Some command → result ≢ Ending.TooLong → Takes (λ n. n ≤ spec.limit_of command) (S.left input.old) (S.left input.new) }
@@ -120,6 +129,9 @@ fn run_words<S: Source, T: Source, K: Sink>(
         Some(command) => command,
         None => return Ending::Usage,
     };
+    if !command.reads_input() {
+        return answer_to(alloc, command, &Bytes::new(alloc), &[], out);
+    }
     let bytes = match read_all(alloc, input, command.limit()) {
         Ok(bytes) => bytes,
         Err(ReadAll::Fault) => return Ending::ReadFault,
@@ -184,6 +196,10 @@ fn answer(alloc: Global, command: Command, bytes: &[u8], trial: &[u8]) -> Result
         Command::Run => match run_file(alloc, bytes, trial) {
             Ok(shown) => Ok(shown),
             Err(fault) => Err(ending_of_run(fault)),
+        },
+        Command::Gen(n) => match generate_object(alloc, n) {
+            Ok(summary) => Ok(summary),
+            Err(fault) => Err(ending_of(fault)),
         },
     }
 }

@@ -1,5 +1,5 @@
 use Rattle.std.proofs.Common.{◌≡◌, ◌⊎◌, subst, sym}
-use Rattle.b3c_core.proofs.Completeness.{compile_settles, eval_settles, print_settles, run_settles}
+use Rattle.b3c_core.proofs.Completeness.{compile_settles, eval_settles, gen_settles, print_settles, run_settles}
 use Rattle.b3c_core.proofs.tool.run_tool.Goals as goal
 
 pub returns-clause-compiles : goal.returns-clause-compiles
@@ -21,3 +21,8 @@ pub returns-clause-runs : goal.returns-clause-runs
 returns-clause-runs g c = λ named input trial output o file is holds small t bytes has spells short begins.
     subst (λ status. (status ≡ 0) ⊎ (status ≡ 9)) (sym c.status.ensures)
     (run_settles _ c.run_words-ending.result c.run_words-ending.ensures.ended named input trial output o file is holds small t bytes has spells short begins)
+
+pub returns-clause-generates : goal.returns-clause-generates
+returns-clause-generates g c = λ n named output ps spelled valid supported.
+    subst (λ status. (status ≡ 0) ⊎ (status ≡ 9)) (sym c.status.ensures)
+    (gen_settles _ c.run_words-ending.result c.run_words-ending.ensures.ended n named output ps spelled valid supported)
