@@ -1,1 +1,6 @@
 mod Triangle
+mod Numbers
+mod Adding
+mod Pairs
+mod Meeting
+mod Walking

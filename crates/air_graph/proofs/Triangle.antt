@@ -95,8 +95,7 @@ added_up pairs i j x y lt =
     let more : BitSet = set.insert pairs (pair_number i j) in
     elim (cases_lt x y) [
       | inl up ↦
-          let both = added_number pairs (pair_number i j) (pair_number x y) in
-          (
+          let both = added_number pairs (pair_number i j) (pair_number x y) in (
             λ t. elim (both.0 (sym (below-in more x y up) ∙ t)) [
               | inl e ↦ inl (below-in pairs x y up ∙ e)
               | inr e ↦ inr (inl (same_pair i j x y lt up e))
@@ -111,8 +110,7 @@ added_up pairs i j x y lt =
           )
       | inr le ↦ elim (cases_lt y x) [
         | inl down ↦
-            let both = added_number pairs (pair_number i j) (pair_number y x) in
-            (
+            let both = added_number pairs (pair_number i j) (pair_number y x) in (
               λ t. elim (both.0 (sym (above-in more x y down) ∙ t)) [
                 | inl e ↦ inl (above-in pairs x y down ∙ e)
                 | inr e ↦ let s = same_pair i j y x lt down e in inr (inr (s.1, s.0))
@@ -127,8 +125,7 @@ added_up pairs i j x y lt =
             )
         | inr le' ↦
             let same : x ≡ y = omega (arith, le, le') in
-            let none = λ (s : BitSet). (subst (λ (z : ℕ). edge_in s x z ≡ false) same (same-in s x)) in
-            (
+            let none = λ (s : BitSet). (subst (λ (z : ℕ). edge_in s x z ≡ false) same (same-in s x)) in (
               λ t. absurd (false≢true (sym (none more) ∙ t)),
               λ t. absurd (elim t [
                 | inl e ↦ false≢true (sym (none pairs) ∙ e)

@@ -3,5 +3,16 @@
 #![tactic(auto)]
 
 mod edges;
+mod homes;
+mod interference;
+mod live;
+mod met;
+mod moves;
+mod touched;
+mod walk;
 
 pub use edges::Edges;
+pub use homes::{home_at, number_of};
+pub use interference::Interference;
+pub use moves::Copied;
+pub use walk::graph;

@@ -18,16 +18,16 @@ set-requires-clause-bit c =
 pub returns-clause-edges : goal.returns-clause-edges
 returns-clause-edges c x y =
     let pair : c.if-i-j.pair ≡ pair_of c.args.i c.args.j =
-        elim c.if-i-j.branch [
-          | then-i-j w ↦ w.pair-is ∙ w.pair_number-pair.ensures ∙ rw (lt-ltb c.args.i c.args.j w.if-i-j.true) refl
-          | else-i-j w ↦ w.pair-is ∙ w.pair_number-pair-else-i-j.ensures ∙ rw (le-ltb c.args.i c.args.j (omega arith)) refl
-        ] in
+    elim c.if-i-j.branch [
+      | then-i-j w ↦ w.pair-is ∙ w.pair_number-pair.ensures ∙ rw (lt-ltb c.args.i c.args.j w.if-i-j.true) refl
+      | else-i-j w ↦ w.pair-is ∙ w.pair_number-pair-else-i-j.ensures ∙ rw (le-ltb c.args.i c.args.j (omega arith)) refl
+    ] in
     let old : BitSet = row_of c.self.inside.rows 0 in
     let n : length c.self.inside.rows.sets ≡ 1 = c.self.invariant.one in
     let now : row_of c.set.new.self 0 ≡ set.insert old (pair_of c.args.i c.args.j) =
-        ap (λ r. row_of r 0) c.set.ensures
-        ∙ get_or-set_same c.self.inside.rows.sets 0 (set.insert old c.if-i-j.pair) set.empty (omega (arith, n))
-        ∙ ap (λ k. set.insert old k) pair in
+    ap (λ r. row_of r 0) c.set.ensures
+    ∙ get_or-set_same c.self.inside.rows.sets 0 (set.insert old c.if-i-j.pair) set.empty (omega (arith, n))
+    ∙ ap (λ k. set.insert old k) pair in
     subst (λ (s : EdgeSet). (edge_in (row_of c.set.new.self 0) x y ≡ true) ↔ ((has_edge s x y ≡ true) ⊎ ArePair c.args.i c.args.j x y)) c.self.view_is
     (subst (λ (s : BitSet). (edge_in s x y ≡ true) ↔ ((edge_in old x y ≡ true) ⊎ ArePair c.args.i c.args.j x y)) (sym now)
     (added old c.args.i c.args.j x y c.requires.differ))

@@ -1,0 +1,15 @@
+mod Counting
+mod Taking
+mod Joins
+mod Choice
+mod Merging
+mod Promise
+mod KeptGraph
+mod ChosenSteps
+mod EdgeSteps
+mod Same
+mod Moving
+mod Whole
+mod Example
+mod Given
+mod Assigned
