@@ -1,8 +1,8 @@
 -- The assignment of a colouring.
 use Rattle.std.proofs.Common.{◌≡◌, ℕ, ◌+◌, ◌-◌, ◌<◌, ◌≤◌, ◌⊎◌, ◌↔◌, inl, inr, Bool, true, false, cond, ltb, Option, Some, None, List, length, map, take, get_or, arith, refl, sym, ap, ◌∙◌, subst}
-use Rattle.std.specs.Prelude.{slice_get, leb}
+use Rattle.std.specs.Prelude.{All, IfSome, slice_get, leb}
 use Rattle.std.proofs.lemmas.Bool.{cases_lt, false≢true, le-leb, le-ltb, lt-ltb}
-use Rattle.std.proofs.lemmas.List.{get_or-map, get_or-take, get_or_past, length-map, length-take-le}
+use Rattle.std.proofs.lemmas.List.{get_or_default, get_or-map, get_or-take, get_or_past, length-map, length-take-le}
 use Rattle.std.proofs.lemmas.Option.{get_or_from_slice_get, slice_get-get_or, slice_get_within}
 use Rattle.b3_ir.specs.declared.value.Reg.{Reg as Register}
 use Rattle.stackmap.specs.Rules.{IsAllocatable}
@@ -17,7 +17,7 @@ use Rattle.air_graph.specs.Graph.{IsInterferenceOf}
 use Rattle.air_graph.specs.Homes.{above, edge_between, home_at, number_of, place_of, register_at}
 use Rattle.air_graph.specs.declared.interference.Interference.{Interference}
 use Rattle.air_graph.proofs.Numbers.{home_high, home_low, number_back, numbered, register_high, register_low, some_is}
-use Rattle.air_colour.specs.Assigned.{IsBarred, IsColouringOf, as_register, class_of, graph_in, moves_in, registers, stands_in}
+use Rattle.air_colour.specs.Assigned.{IsBarred, IsColouringOf, as_register, class_of, graph_in, colours, moves_in, stands_in}
 use Rattle.air_colour.specs.Classes.{classes_left, Joined}
 use Rattle.air_colour.specs.Colouring.{IsBarredFrom, IsColouring}
 use Rattle.air_colour.specs.Easy.{Easy}
@@ -61,7 +61,8 @@ none_of None e = refl
 -- which homes have numbers
 has_number : (tmps : ℕ) (r : Register) → IsAllocatable r → number_of tmps (Reg r) ≡ None → ⊥
 has_number tmps r (inl low) e =
-    let f : above tmps (Some r.0) ≡ None = sym (ap (above tmps) (rw (lt-ltb r.0 15 (omega (arith, low))) refl)) ∙ e in cc
+    let at : place_of r.0 ≡ Some r.0 = rw (lt-ltb r.0 15 (omega (arith, low))) refl in
+    let f : above tmps (Some r.0) ≡ None = sym (ap (above tmps) at) ∙ e in cc
 has_number tmps r (inr high) e =
     let at : place_of r.0 ≡ Some (r.0 - 4) = rw (le-ltb r.0 15 (omega (arith, high)), le-ltb r.0 19 high.0, lt-ltb r.0 29 (omega (arith, high))) refl in
     let f : above tmps (Some (r.0 - 4)) ≡ None = sym (ap (above tmps) at) ∙ e in cc
@@ -73,7 +74,7 @@ edge_numbers g (Some i) None t = absurd (false≢true t)
 edge_numbers g None n t = absurd (false≢true t)
 
 module _ (g : Interference) (given : List (Option ℕ)) (joins : List ℕ) (long : length given ≡ g.tmps + 25)
-    (col : IsColouring registers (graph_in g) (rank_of g.tmps) (moves_in g) joins (given_in given))
+    (col : IsColouring colours (graph_in g) (rank_of g.tmps) (moves_in g) joins (given_in given))
     (a : Assignment) (homes : a.homes ≡ map as_register (take g.tmps given)) (joined : a.joins ≡ joins) where
   home : (n : ℕ) → n < g.tmps + 25 → IsIn (graph_in g) n
   home n lt = (lt, refl)
@@ -122,7 +123,7 @@ module _ (g : Interference) (given : List (Option ℕ)) (joins : List ℕ) (long
   class_is : (n : ℕ) → class_of g a n ≡ classes_left (graph_in g) (moves_in g) joins n
   class_is n = ap (λ (l : List ℕ). classes_left (graph_in g) (moves_in g) l n) joined
 
-  barred : (number k : ℕ) → number < g.tmps → given_in given number ≡ None → k < registers → IsBarred g a number k
+  barred : (number k : ℕ) → number < g.tmps → given_in given number ≡ None → k < colours → IsBarred g a number k
   barred number k lt none below =
       let b : IsBarredFrom (graph_in g) (classes_left (graph_in g) (moves_in g) joins) (given_in given) number k =
           col.spilled number k (home number (omega (arith, lt))) none below in
@@ -143,7 +144,7 @@ module _ (g : Interference) (given : List (Option ℕ)) (joins : List ℕ) (long
         let hx = numbered g.tmps x n.0 n.2 in
         let hy = numbered g.tmps y n.1 n.3 in
         apart_by n.0 n.1 reg hx.0 hy.0 n.4 (ap (register_of a) (sym hx.1) ∙ ex) (ap (register_of a) (sym hy.1) ∙ ey);
-    joined = subst (λ (l : List ℕ). Joined registers (graph_in g) (moves_in g) l) (sym joined) col.joined;
+    joined = subst (λ (l : List ℕ). Joined colours (graph_in g) (moves_in g) l) (sym joined) col.joined;
     together = λ i j li lj e.
         stands_is i li ∙ ap as_register (col.together i j (home i li) (home j lj) (sym (class_is i) ∙ e ∙ class_is j)) ∙ sym (stands_is j lj);
     easy = λ easy number e.
@@ -151,6 +152,18 @@ module _ (g : Interference) (given : List (Option ℕ)) (joins : List ℕ) (long
         col.easy easy number (home number (omega (arith, t.0))) (none_of (given_in given number) t.1);
     spilled = λ number k e lt. let t = temporary number None e in barred number k t.0 (none_of (given_in given number) t.1) lt;
   }
+
+if_some : (o : Option ℕ) → ((r : ℕ) → o ≡ Some r → r < 25) → IfSome o (λ k. k < 25)
+if_some (Some r) below = below r refl
+if_some None below = tt
+
+pub few_given : (given : List (Option ℕ)) (tmps : ℕ) → length given ≡ tmps + 25 → ((u r : ℕ) → u < tmps + 25 → given_in given u ≡ Some r → r < 25)
+    → All (λ g. IfSome g (λ k. k < 25)) (take tmps given)
+few_given given tmps long below k d lt =
+    let lt' : k < tmps = let l = length-take-le tmps given (omega (arith, long)) in omega (arith, lt, l) in
+    let same : get_or (take tmps given) k d ≡ given_in given k =
+        get_or-take tmps given k d lt' ∙ get_or_default given k d None (omega (arith, lt', long)) in
+    subst (λ (o : Option ℕ). IfSome o (λ k. k < 25)) (sym same) (if_some (given_in given k) (λ r e. below k r (omega (arith, lt')) e))
 
 -- ---- the condition of rewriting
 

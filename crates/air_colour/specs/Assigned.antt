@@ -18,12 +18,12 @@ use Rattle.air_colour.specs.Progress.{moves_of}
 use Rattle.air_colour.specs.declared.moves.Move.{Move}
 
 -- how many registers values may stand in
-abbrev pub registers : ℕ
-registers = 25
+abbrev pub colours : ℕ
+colours = 25
 
 -- the graph of the homes: each of the temporaries and the registers is a class by itself
 abbrev pub graph_in : Interference → Graph
-graph_in g = home_graph g.edges g.tmps registers
+graph_in g = home_graph g.edges g.tmps colours
 
 -- the number of a home; one that isn't coloured has the number behind the last
 abbrev pub number_or : ℕ → Option ℕ → ℕ
@@ -31,7 +31,7 @@ number_or past (Some n) = n
 number_or past None = past
 
 abbrev pub number_in : ℕ → Home → ℕ
-number_in tmps home = number_or (tmps + registers) (number_of tmps home)
+number_in tmps home = number_or (tmps + colours) (number_of tmps home)
 
 -- the moves of the graph, by numbers
 abbrev pub move_of : ℕ → Copied → Move
@@ -69,8 +69,8 @@ pub record IsColouringOf (g : Interference) (a : Assignment) : Type 0 where
   pub registers : (number : ℕ) (reg : Register) → slice_get a.homes number ≡ Some (Some reg) → IsAllocatable reg
   pub apart : (x y : Home) (reg : Register) → edge_between g.edges (number_of g.tmps x) (number_of g.tmps y) ≡ true
       → register_of a x ≡ Some reg → register_of a y ≡ Some reg → ⊥
-  pub joined : Joined registers (graph_in g) (moves_in g) a.joins
-  pub together : (i j : ℕ) → i < g.tmps + registers → j < g.tmps + registers → class_of g a i ≡ class_of g a j
+  pub joined : Joined colours (graph_in g) (moves_in g) a.joins
+  pub together : (i j : ℕ) → i < g.tmps + colours → j < g.tmps + colours → class_of g a i ≡ class_of g a j
       → stands_in g a i ≡ stands_in g a j
-  pub easy : Easy registers (graph_in g) → (number : ℕ) → slice_get a.homes number ≡ Some None → ⊥
-  pub spilled : (number k : ℕ) → slice_get a.homes number ≡ Some None → k < registers → IsBarred g a number k
+  pub easy : Easy colours (graph_in g) → (number : ℕ) → slice_get a.homes number ≡ Some None → ⊥
+  pub spilled : (number k : ℕ) → slice_get a.homes number ≡ Some None → k < colours → IsBarred g a number k

@@ -17,6 +17,26 @@ fn significant(edges: &Edges, left: &[bool], fixed: &[bool], a: usize, k: usize)
     fixed[a] || k <= degree(edges, left, a)
 }
 
+/// Whether `x` is left, is a neighbour of one of two classes, and holds a register or has at least `k` neighbours.
+fn is_counted(
+    edges: &Edges,
+    left: &[bool],
+    fixed: &[bool],
+    a: usize,
+    b: usize,
+    x: usize,
+    k: usize,
+) -> bool
+    requires room { HasRoom edges.now (length left.now) (length fixed.now) }
+    requires a { a < length left.now }
+    requires b { b < length left.now }
+    requires x { x < length left.now }
+    ensures { result ≡ (is_neighbour_of_either (graph_of edges.now left.now fixed.now) a b x && is_significant k (graph_of edges.now left.now fixed.now) x) }
+{
+    let near = edges.has(a, x) || edges.has(b, x);
+    left[x] && near && significant(edges, left, fixed, x, k)
+}
+
 /// The Briggs test: the joined class would have fewer than `k` significant neighbours.
 fn briggs(edges: &Edges, left: &[bool], fixed: &[bool], a: usize, b: usize, k: usize) -> bool
     requires room { HasRoom edges.now (length left.now) (length fixed.now) }
@@ -26,7 +46,7 @@ fn briggs(edges: &Edges, left: &[bool], fixed: &[bool], a: usize, b: usize, k: u
 {
     let mut many: usize = 0;
     for x in 0..left.len() {
-        if left[x] && (edges.has(a, x) || edges.has(b, x)) && significant(edges, left, fixed, x, k) {
+        if is_counted(edges, left, fixed, a, b, x, k) {
             many += 1;
         }
     }

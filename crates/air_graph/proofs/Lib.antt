@@ -1,5 +1,5 @@
 mod Triangle
-mod Numbers
+pub mod Numbers
 mod Adding
 mod Pairs
 mod Meeting

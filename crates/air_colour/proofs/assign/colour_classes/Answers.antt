@@ -8,6 +8,7 @@ use Rattle.air_colour.proofs.assign.colour_classes.Goals as goal
 
 pub join_moves-requires : goal.join_moves-requires
 join_moves-requires c = record {
+  few = c.requires.few;
   state = started_state c.args.edges.now c.args.left.now c.args.fixed.now c.args.class.now c.args.given.now c.args.temporaries c.args.k c.requires.start c.requires.interference;
 }
 
