@@ -1,6 +1,7 @@
 mod Triangle
+pub mod Beside
 pub mod Numbers
-mod Adding
+pub mod Adding
 mod Pairs
 mod Meeting
 mod Walking

@@ -1,14 +1,12 @@
 -- The walk over the instructions of a block and over the blocks.
 use Rattle.std.proofs.Common.{◌≡◌, ℕ, ◌+◌, ◌-◌, ◌<◌, ◌≤◌, ◌⊎◌, ◌↔◌, inl, inr, true, false, Some, List, length, get_or, take, arith, refl, sym, ap, ◌∙◌, subst, [], ◌∷◌}
 use Rattle.std.specs.Prelude.{Contains, slice_get}
-use Rattle.std.proofs.lemmas.Bool.{cases_lt, false≢true, le-ltb, lt-ltb}
+use Rattle.std.proofs.lemmas.Bool.{cases_lt}
 use Rattle.std.proofs.lemmas.Option.{slice_get-get_or, slice_get_within}
 use Rattle.b3_ir.specs.declared.value.Reg.{Reg as Register}
 use Rattle.flow_live.specs.Graph.{LiveOut, Place}
 use Rattle.air_ir.specs.Blocks.{block_of}
 use Rattle.air_ir.specs.WellFormed.{StandsAt}
-use Rattle.std.specs.FinSet as set
-use Rattle.std.specs.Ordering.{nat_cmp}
 use Rattle.air_ir.specs.declared.op.AirOp.TheVariants as op
 use Rattle.air_ir.specs.declared.operand.Home.{Home}
 use Rattle.air_ir.specs.declared.operand.Home.TheVariants.{Tmp, Reg}
@@ -18,7 +16,7 @@ use Rattle.air_ir.specs.declared.procedure.AirProc.{AirProc}
 use Rattle.air_flow.specs.Flow.{flow_of, touches_at}
 use Rattle.air_flow.specs.Interfere.{AreRegisters, Interfere, Meets}
 use Rattle.air_flow.specs.Living.{HasName, IsDefinedBy, IsLive, IsLiveAfter, LiveByTouches, LiveOn, LivesOn}
-use Rattle.air_graph.specs.Edges.{EdgeSet, has_edge, pair_number}
+use Rattle.air_graph.specs.Edges.{EdgeSet, has_edge}
 use Rattle.air_graph.specs.Homes.{home_at, number_of, register_at}
 use Rattle.air_graph.specs.Walk.{Adds, AreBelow, IsLiveNow, IsMet, IsTouchedOf, LiveNow, MeetAt, name_at}
 use Rattle.air_graph.specs.declared.touched.Touched.{Touched}
@@ -30,21 +28,6 @@ use Rattle.air_graph.proofs.Numbers.{has_name, home_high, home_low, number_back,
 -- any instruction, for places where there is none
 abbrev pub some_inst : AirInst
 some_inst = record { op = op.Oops; operands = []; value = 0; traps = false }
-
-abbrev pub no_edges : ℕ → EdgeSet
-no_edges n = record { names = n; pairs = set.empty }
-
-pub blank : (e : EdgeSet) (n : ℕ) → e ≡ no_edges n → (x y : ℕ) → has_edge e x y ≡ true → ⊥
-blank e n same x y t =
-    let none : (q : ℕ) → set.contains (set.empty {K = ℕ} {R = nat_cmp}) q ≡ false = λ q. set.contains-empty nat_cmp q in
-    let t' : has_edge (no_edges n) x y ≡ true = subst (λ (s : EdgeSet). has_edge s x y ≡ true) same t in
-    elim (cases_lt x y) [
-      | inl lt ↦ false≢true (sym (rw (lt-ltb x y lt) (none (pair_number x y))) ∙ t')
-      | inr le ↦ elim (cases_lt y x) [
-        | inl lt ↦ false≢true (sym (rw (le-ltb x y le, lt-ltb y x lt) (none (pair_number y x))) ∙ t')
-        | inr le' ↦ false≢true (sym (rw (le-ltb x y le, le-ltb y x le') refl) ∙ t')
-      ]
-    ]
 
 -- ---- registers
 

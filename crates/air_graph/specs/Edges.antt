@@ -1,8 +1,8 @@
 -- Edges between numbers as contracts see them: one set, with a number for each pair of two different ones.
-use Rattle.std.specs.Prelude.{◌≡◌, ℕ, zero, suc, ◌+◌, ◌^◌, ◌≤◌, ◌⊎◌, Bool, true, false, cond, nat_lt, length, refl}
+use Rattle.std.specs.Prelude.{◌≡◌, ℕ, zero, suc, ◌+◌, ◌^◌, ◌<◌, ◌≤◌, ◌⊎◌, ◌↔◌, Bool, true, false, cond, nat_lt, List, [], ◌∷◌, length, slice_index_or, Contains, refl}
 use Rattle.std.specs.Coded.{Coded, code_by, coded×, coded_ℕ}
 use Rattle.std.specs.FinSet as set
-use Rattle.bit_rows.specs.BitRows.{BitRows, BitSet}
+use Rattle.bit_rows.specs.BitRows.{BitRows, BitSet, row_of}
 
 -- how many pairs there are of two different numbers below n
 unfoldable pub pairs_below : ℕ → ℕ
@@ -42,8 +42,25 @@ abbrev pub count : (ℕ → Bool) → ℕ → ℕ
 count p zero = 0
 count p (suc n) = one (p n) + count p n
 
--- one row, with a bit for each pair
-pub record IsKept (names : ℕ) (rows : BitRows) : Type 0 where
+-- no number stands twice in a list
+unfoldable pub IsOnce : List ℕ → Type 0
+IsOnce [] = Unit {0}
+IsOnce (x ∷ xs) = (Contains xs x → ⊥) × IsOnce xs
+
+-- a list has each number that passes the test, once
+pub record IsListOf (p : ℕ → Bool) (list : List ℕ) : Type 0 where
+  pub all : (x : ℕ) → Contains list x ↔ (p x ≡ true)
+  pub once : IsOnce list
+
+-- for each number a list of its neighbours
+pub record AreNear (e : EdgeSet) (near : List (List ℕ)) : Type 0 where
+  pub long : length near ≡ e.names
+  pub lists : (i : ℕ) → i < e.names → IsListOf (has_edge e i) (slice_index_or near i [])
+  pub below : (i x : ℕ) → i < e.names → Contains (slice_index_or near i []) x → x < e.names
+
+-- one row, with a bit for each pair, and lists beside it
+pub record IsKept (names : ℕ) (rows : BitRows) (near : List (List ℕ)) : Type 0 where
   pub one : length rows.sets ≡ 1
   pub bits : rows.bits ≡ pairs_below names
   pub few : names ≤ 2 ^ 17
+  pub beside : AreNear (record { names = names; pairs = row_of rows 0 }) near

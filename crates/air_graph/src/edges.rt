@@ -1,18 +1,21 @@
 //! Edges between numbers.
 
-ghost use Rattle.std.specs.Prelude.{◌≡◌, ◌≢◌, ◌↔◌, ◌⊎◌, ℕ, ◌+◌, ◌*◌, ◌^◌, ◌<◌, ◌≤◌, IfOk, true};
+ghost use Rattle.std.specs.Prelude.{◌≡◌, ◌≢◌, ◌↔◌, ◌⊎◌, ℕ, ◌+◌, ◌*◌, ◌^◌, ◌<◌, ◌≤◌, IfOk, OnOk, OnErr, Contains, true};
 ghost use Rattle.std.specs.FinSet as set;
-ghost use Rattle.air_graph.specs.Edges.{ArePair, count, has_edge, pair_number, pairs_below};
+ghost use Rattle.air_graph.specs.Edges.{ArePair, IsListOf, has_edge, pair_number, pairs_below};
 
+use crate::near::{Near, empty_lists, put_both};
 use b3_base::NoMemory;
 use bit_rows::Rows;
 use std::alloc::Global;
 use std::marker::Model;
 
-/// Edges between numbers below a bound: one row of bits, with a bit for each pair of two different numbers.
+/// Edges between numbers below a bound: one row of bits, with a bit for each pair of two different numbers, and
+/// beside it a list of the neighbours of each number.
 #[derive(Drop)]
 pub struct Edges {
     rows: Rows,
+    near: Vec<Near>,
     names: usize,
 }
 
@@ -26,7 +29,7 @@ impl Model for Edges {
 
     ghost view = { λ e. record { names = e.names; pairs = row_of e.rows 0 } };
 
-    ghost invariant = { λ e. IsKept e.names e.rows };
+    ghost invariant = { λ e. IsKept e.names e.rows e.near.items };
 }
 
 /// How many pairs there are of two different numbers below n.
@@ -54,7 +57,8 @@ impl Edges {
         ensures { IfOk result (λ made. made ≡ record { names = names; pairs = set.empty }) }
     {
         let rows = Rows::new(alloc, 1, pairs_below(names))?;
-        Ok(Edges { rows, names })
+        let near = empty_lists(alloc, names)?;
+        Ok(Edges { rows, near, names })
     }
 
     /// How many numbers there are. It takes no memory.
@@ -79,20 +83,35 @@ impl Edges {
         }
     }
 
-    /// Adds the edge between two numbers. It takes no memory.
-    pub fn add(&mut self, i: usize, j: usize)
+    /// The neighbours of a number, each once. It takes no memory.
+    pub fn near(&self, i: usize) -> &[u32]
+        requires { i < self.now.names }
+        ensures is { IsListOf (has_edge self.now i) result.now }
+        ensures below { (x : ℕ) → Contains result.now x → x < self.now.names }
+    {
+        self.near[i].as_slice()
+    }
+
+    /// Adds the edge between two numbers. It is refused for want of memory alone, and then changes nothing.
+    pub fn add(&mut self, i: usize, j: usize) -> Result<(), NoMemory>
         requires i { i < self.old.names }
         requires j { j < self.old.names }
         requires differ { i ≢ j }
         ensures names { self.new.names ≡ self.old.names }
-        ensures edges { (x y : ℕ) → (has_edge self.new x y ≡ true) ↔ ((has_edge self.old x y ≡ true) ⊎ ArePair i j x y) }
+        ensures edges { OnOk result ((x y : ℕ) → (has_edge self.new x y ≡ true) ↔ ((has_edge self.old x y ≡ true) ⊎ ArePair i j x y)) }
+        ensures err { OnErr result (self.new ≡ self.old) }
     {
+        if self.has(i, j) {
+            return Ok(());
+        }
         let rows = &mut self.rows;
         let pair = if i < j {
             pair_number(i, j)
         } else {
             pair_number(j, i)
         };
+        put_both(&mut self.near, i as u32, j as u32)?;
         rows.set(0, pair);
+        Ok(())
     }
 }

@@ -1,14 +1,16 @@
 //! The interference graph as it is asked.
 
-ghost use Rattle.std.specs.Prelude.{◌≡◌, ◌≢◌, ◌+◌, ◌<◌, ℕ, true, length, slice_get, Some};
-ghost use Rattle.air_graph.specs.Edges.{count, has_edge};
+ghost use Rattle.std.specs.Prelude.{◌≡◌, ◌≢◌, ◌↔◌, ◌⊎◌, ◌+◌, ◌^◌, ◌<◌, ◌≤◌, [], ℕ, true, length, slice_get, Some, IfOk, OnOk, OnErr};
+ghost use Rattle.air_graph.specs.Edges.{ArePair, count, has_edge};
 ghost use Rattle.air_graph.specs.Homes.{edge_between, number_of};
 
 use crate::edges::Edges;
 use crate::homes::number_of;
+use crate::walk::add_registers;
 use crate::moves::Copied;
 use air_ir::Home;
-use b3_base::Seq;
+use b3_base::{NoMemory, Seq};
+use std::alloc::Global;
 
 /// The interference graph of a procedure: edges between its temporaries and the registers x0 to x14 and x19 to x28, by
 /// their numbers, and its moves in order. Any two registers interfere.
@@ -25,6 +27,38 @@ pub struct Interference {
 }
 
 impl Interference {
+    /// The graph of so many temporaries of which none interferes with another home, and without moves. It is refused for
+    /// want of memory alone.
+    pub fn new(alloc: Global, tmps: u32) -> Result<Interference, NoMemory>
+        requires { tmps + 25 ≤ 2 ^ 17 }
+        ensures tmps { IfOk result (λ g. g.tmps ≡ tmps) }
+        ensures moves { IfOk result (λ g. g.moves ≡ []) }
+        ensures edges { IfOk result (λ g. (i j : ℕ) → i < tmps + 25 → j < tmps + 25
+            → (has_edge g.edges i j ≡ true) ↔ ((i ≢ j) × ((tmps ≤ i) × (tmps ≤ j)))) }
+    {
+        let mut edges = Edges::new(alloc, tmps as usize + 25)?;
+        add_registers(&mut edges, tmps as usize)?;
+        Ok(Interference {
+            edges,
+            tmps,
+            moves: Seq::new(alloc),
+        })
+    }
+
+    /// Lets the homes of two numbers interfere. It is refused for want of memory alone, and then changes nothing.
+    pub fn connect(&mut self, i: usize, j: usize) -> Result<(), NoMemory>
+        requires i { i < self.old.edges.names }
+        requires j { j < self.old.edges.names }
+        requires differ { i ≢ j }
+        ensures tmps { self.new.tmps ≡ self.old.tmps }
+        ensures moves { self.new.moves ≡ self.old.moves }
+        ensures names { self.new.edges.names ≡ self.old.edges.names }
+        ensures edges { OnOk result ((x y : ℕ) → (has_edge self.new.edges x y ≡ true) ↔ ((has_edge self.old.edges x y ≡ true) ⊎ ArePair i j x y)) }
+        ensures err { OnErr result (self.new.edges ≡ self.old.edges) }
+    {
+        self.edges.add(i, j)
+    }
+
     /// Whether two homes interfere; no other home than a temporary of the procedure and the 25 registers does. It takes
     /// no memory.
     pub fn meets(&self, a: Home, b: Home) -> bool

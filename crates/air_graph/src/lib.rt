@@ -8,6 +8,7 @@ mod interference;
 mod live;
 mod met;
 mod moves;
+mod near;
 mod touched;
 mod walk;
 

@@ -106,17 +106,18 @@ fn met_by(
 }
 
 /// Adds edges from x to all of a list but x itself.
-fn add_all(edges: &mut Edges, x: usize, met: &[usize])
+fn add_all(edges: &mut Edges, x: usize, met: &[usize]) -> Result<(), NoMemory>
     requires x { x < edges.old.names }
     requires met { AreBelow edges.old.names met.now }
     ensures names { edges.new.names ≡ edges.old.names }
-    ensures edges { Adds edges.old.names edges.old edges.new (λ a b. ((a ≡ x) × Contains met.now b) ⊎ ((b ≡ x) × Contains met.now a)) }
+    ensures edges { OnOk result (Adds edges.old.names edges.old edges.new (λ a b. ((a ≡ x) × Contains met.now b) ⊎ ((b ≡ x) × Contains met.now a))) }
 {
     for y in met {
         if *y != x {
-            edges.add(x, *y);
+            edges.add(x, *y)?;
         }
     }
+    Ok(())
 }
 
 /// Adds the edges from what an instruction defines, which is this list.
@@ -140,7 +141,7 @@ pub(crate) fn add_defined(
 {
     for x in defined {
         let met = met_by(alloc, tmps, t, live, *x)?;
-        add_all(edges, *x, met.as_slice());
+        add_all(edges, *x, met.as_slice())?;
     }
     Ok(())
 }

@@ -19,28 +19,30 @@ use flow_live::{Flow, LiveSets};
 use std::alloc::Global;
 
 /// Adds the edges from one register to those before it.
-fn add_register(edges: &mut Edges, tmps: usize, r: usize)
+fn add_register(edges: &mut Edges, tmps: usize, r: usize) -> Result<(), NoMemory>
     requires sized { tmps + r < edges.old.names }
     requires few { edges.old.names ≤ 2 ^ 17 }
     ensures names { edges.new.names ≡ edges.old.names }
-    ensures edges { Adds edges.old.names edges.old edges.new (λ x y. ((x ≡ tmps + r) × ((tmps ≤ y) × (y < tmps + r)))
-        ⊎ ((y ≡ tmps + r) × ((tmps ≤ x) × (x < tmps + r)))) }
+    ensures edges { OnOk result (Adds edges.old.names edges.old edges.new (λ x y. ((x ≡ tmps + r) × ((tmps ≤ y) × (y < tmps + r)))
+        ⊎ ((y ≡ tmps + r) × ((tmps ≤ x) × (x < tmps + r))))) }
 {
     for s in 0..r {
-        edges.add(tmps + r, tmps + s);
+        edges.add(tmps + r, tmps + s)?;
     }
+    Ok(())
 }
 
 /// Adds the edges between registers.
-fn add_registers(edges: &mut Edges, tmps: usize)
+pub(crate) fn add_registers(edges: &mut Edges, tmps: usize) -> Result<(), NoMemory>
     requires sized { edges.old.names ≡ tmps + 25 }
     requires few { edges.old.names ≤ 2 ^ 17 }
     ensures names { edges.new.names ≡ edges.old.names }
-    ensures edges { Adds edges.old.names edges.old edges.new (λ x y. (tmps ≤ x) × (tmps ≤ y)) }
+    ensures edges { OnOk result (Adds edges.old.names edges.old edges.new (λ x y. (tmps ≤ x) × (tmps ≤ y))) }
 {
     for r in 0..25 {
-        add_register(edges, tmps, r);
+        add_register(edges, tmps, r)?;
     }
+    Ok(())
 }
 
 /// Adds the edges of a block, from its last instruction to its first one.
@@ -77,7 +79,7 @@ pub fn graph(alloc: Global, p: &AirProc, live: &LiveSets) -> Result<Interference
 {
     let flow = AirFlow::new(alloc, p)?;
     let mut edges = Edges::new(alloc, p.tmps as usize + 25)?;
-    add_registers(&mut edges, p.tmps as usize);
+    add_registers(&mut edges, p.tmps as usize)?;
     for block in 0..p.blocks.len() {
         add_block(alloc, &mut edges, &flow, live, block)?;
     }

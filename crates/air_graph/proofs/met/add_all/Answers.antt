@@ -4,7 +4,7 @@ use Rattle.air_graph.specs.Edges.{EdgeSet}
 use Rattle.air_graph.specs.Walk.{Adds}
 use Rattle.air_graph.proofs.Adding.{FromTo, add_itself, add_one}
 use Rattle.air_graph.proofs.met.add_all.Goals as goal
-use Rattle.air_graph.proofs.met.add_all.Goals.{then-y-x, else-y-x}
+use Rattle.air_graph.proofs.met.add_all.Goals.{then-y-x+in_ok-add, else-y-x}
 
 pub add-requires-clause-j : goal.add-requires-clause-j
 add-requires-clause-j c =
@@ -17,11 +17,11 @@ loop-y-preserved c =
     let n : ℕ = c.args.edges.now.names in
     let k : ℕ = c.loop-y.y-index in
     elim c.if-y-x.branch [
-      | then-y-x w ↦ record {
+      | then-y-x+in_ok-add w ↦ record {
         names = ap (λ (s : EdgeSet). s.names) w.edges-is ∙ w.add.ensures.names ∙ c.loop-y.invariant.names;
         edges = subst (λ (s : EdgeSet). Adds n c.args.edges.now s (FromTo c.args.x (take (k + 1) c.args.met.now))) (sym w.edges-is)
             (add_one n c.args.edges.now c.loop-y.edges c.args.x c.args.met.now k c.loop-y-test.true c.loop-y.invariant.edges w.add.new.self
-            w.if-y-x.true w.add.ensures.edges);
+            w.if-y-x.true w.in_ok-add.ensures.edges);
       }
       | else-y-x w ↦ record {
         names = ap (λ (s : EdgeSet). s.names) w.edges-is ∙ c.loop-y.invariant.names;

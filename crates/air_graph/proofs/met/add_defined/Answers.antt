@@ -37,7 +37,7 @@ loop-x-preserved c =
           c.loop-x.x-index c.in_ok-met.met c.loop-x-test.true c.in_ok-met.ensures c.loop-x.invariant.edges
           (subst (λ (l : List ℕ). Adds (c.args.tmps + 25) c.loop-x.edges c.add_all.new.edges (FromTo (get_or c.args.defined.now c.loop-x.x-index 0) l)) c.as_slice.ensures
           (subst (λ (k : ℕ). Adds k c.loop-x.edges c.add_all.new.edges (FromTo (get_or c.args.defined.now c.loop-x.x-index 0) c.as_slice.result.now)) n
-          c.add_all.ensures.edges));
+          c.in_ok-add_all.ensures.edges));
     }
 
 pub returns-clause-edges : goal.returns-clause-edges

@@ -3,7 +3,8 @@ use Rattle.air_ir.specs.declared.procedure.AirProc.{AirProc}
 use Rattle.air_flow.specs.Interfere.{Interfere}
 use Rattle.air_graph.specs.Edges.{EdgeSet, has_edge}
 use Rattle.air_graph.specs.Walk.{Adds, MeetAt}
-use Rattle.air_graph.proofs.Walking.{AreHigh, MeetBelow, MeetIn, blank, block_step, whole}
+use Rattle.air_graph.proofs.Beside.{blank}
+use Rattle.air_graph.proofs.Walking.{AreHigh, MeetBelow, MeetIn, block_step, whole}
 use Rattle.air_graph.proofs.walk.graph.Goals as goal
 
 pub loop-block-preserved : goal.loop-block-preserved
@@ -34,7 +35,7 @@ returns c =
       tmps = refl;
       meets = λ a b i j ea eb. subst (λ (s : EdgeSet). (has_edge s i j ≡ true) ↔ Interfere p a b) (sym c.edges-2.view_is)
           (whole p none first c.loop-block.edges (blank none (p.tmps + 25) c.in_ok-edges.ensures)
-          (subst (λ (k : ℕ). Adds k none first (AreHigh p.tmps)) none_sized c.add_registers.ensures.edges)
+          (subst (λ (k : ℕ). Adds k none first (AreHigh p.tmps)) none_sized c.in_ok-add_registers.ensures.edges)
           (subst (λ (k : ℕ). Adds k first c.loop-block.edges (MeetBelow p (length p.blocks))) sized
           (subst (λ (k : ℕ). Adds first.names first c.loop-block.edges (MeetBelow p k)) end c.loop-block.invariant.edges))
           a b i j ea eb);
