@@ -3,6 +3,7 @@ mod Taking
 mod Joins
 mod Choice
 mod Merging
+mod Listed
 mod Promise
 mod KeptGraph
 mod ChosenSteps

@@ -12,8 +12,9 @@ fn barred(edges: &Edges, given: &[Option<usize>], a: usize, register: usize) -> 
     requires a { a < length given.now }
     ensures { IsTrue result ↔ IsTaken edges.now given.now a register }
 {
-    for x in 0..given.len() {
-        if given[x] == Some(register) && edges.has(a, x) {
+    let near = edges.near(a);
+    for x in near {
+        if given[*x as usize] == Some(register) {
             return true;
         }
     }

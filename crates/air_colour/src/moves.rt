@@ -45,37 +45,39 @@ fn sides(fixed: &[bool], class: &[usize], m: Move) -> (usize, usize)
     if fixed[from] { (from, to) } else { (to, from) }
 }
 
-/// Joins the classes of a move, if they may be. True where they were.
+/// Joins the classes of a move, if they may be. True where they were. It is refused for want of memory alone.
 fn join_move(
+    alloc: Global,
     edges: &mut Edges,
     left: &mut [bool],
     fixed: &[bool],
     class: &mut [usize],
     m: Move,
     k: usize,
-) -> bool
+) -> Result<bool, NoMemory>
     requires state { IsState edges.old left.old fixed.now class.old }
-    ensures state { IsState edges.new left.new fixed.now class.new }
-    ensures unchanged { result ≡ false → (edges.new ≡ edges.old) × (left.new ≡ left.old) × (class.new ≡ class.old) }
-    ensures fewer { result ≡ true → left_count left.new < left_count left.old }
-    ensures not_joined { result ≡ false → (g : Graph) → IsInterference g → IsKept g edges.old left.old fixed.now class.old → MayJoinMove k g (class_in class.old) m → ⊥ }
-    ensures joined { result ≡ true → (g : Graph) → IsInterference g → IsKept g edges.old left.old fixed.now class.old → MayJoinMove k g (class_in class.old) m × IsKept g edges.new left.new fixed.now class.new × (class_in class.new ≡ after_move g (class_in class.old) m) }
+    ensures state { IfOk result (λ _. IsState edges.new left.new fixed.now class.new) }
+    ensures unchanged { IfOk result (λ done. done ≡ false → (edges.new ≡ edges.old) × (left.new ≡ left.old) × (class.new ≡ class.old)) }
+    ensures fewer { IfOk result (λ done. done ≡ true → left_count left.new < left_count left.old) }
+    ensures not_joined { IfOk result (λ done. done ≡ false → (g : Graph) → IsInterference g → IsKept g edges.old left.old fixed.now class.old → MayJoinMove k g (class_in class.old) m → ⊥) }
+    ensures joined { IfOk result (λ done. done ≡ true → (g : Graph) → IsInterference g → IsKept g edges.old left.old fixed.now class.old → MayJoinMove k g (class_in class.old) m × IsKept g edges.new left.new fixed.now class.new × (class_in class.new ≡ after_move g (class_in class.old) m)) }
 {
     if m.from >= class.len() || m.to >= class.len() {
-        return false;
+        return Ok(false);
     }
     let (a, b) = sides(fixed, class, m);
     if !may_join(edges, left, fixed, a, b, k) {
-        return false;
+        return Ok(false);
     }
-    join(edges, left, a, b);
+    join(alloc, edges, left, a, b)?;
     merge(class, a, b);
-    true
+    Ok(true)
 }
 
 /// One pass over the moves: each is joined, if it may be, and its number is added to `joins`. True
 /// where some were.
 fn join_pass(
+    alloc: Global,
     edges: &mut Edges,
     left: &mut [bool],
     fixed: &[bool],
@@ -86,14 +88,15 @@ fn join_pass(
 ) -> Result<bool, NoMemory>
     requires few { length moves.now ≤ 2 ^ 32 }
     requires state { IsState edges.old left.old fixed.now class.old }
-    ensures state { IsState edges.new left.new fixed.now class.new }
+    ensures state { IfOk result (λ _. IsState edges.new left.new fixed.now class.new) }
     ensures fewer { IfOk result (λ any. any ≡ true → left_count left.new < left_count left.old) }
     ensures no_more { IfOk result (λ any. left_count left.new ≤ left_count left.old) }
     ensures joined { IfOk result (λ any. (g : Graph) → (first : ℕ → ℕ) → IsInterference g → IsKept g edges.old left.old fixed.now class.old → IsJoinedSoFar k g (moves_of moves.now) first joins.old.items (class_in class.old) → IsKept g edges.new left.new fixed.now class.new × IsJoinedSoFar k g (moves_of moves.now) first joins.new.items (class_in class.new) × (any ≡ false → JoinsFrom k g (moves_of moves.now) (class_in class.new) [])) }
 {
     let mut any = false;
     for j in 0..moves.len() {
-        if join_move(edges, left, fixed, class, moves[j], k) {
+        let joined = join_move(alloc, edges, left, fixed, class, moves[j], k)?;
+        if joined {
             joins.push(j as u32)?;
             any = true;
         }
@@ -113,13 +116,13 @@ pub(crate) fn join_moves(
 ) -> Result<Vec<u32>, NoMemory>
     requires few { length moves.now ≤ 2 ^ 32 }
     requires state { IsState edges.old left.old fixed.now class.old }
-    ensures state { IsState edges.new left.new fixed.now class.new }
+    ensures state { IfOk result (λ _. IsState edges.new left.new fixed.now class.new) }
     ensures joined { IfOk result (λ joins. (g : Graph) → IsInterference g → IsKept g edges.old left.old fixed.now class.old → IsKept g edges.new left.new fixed.now class.new × JoinsFrom k g (moves_of moves.now) (class_in class.old) joins.items × (class_in class.new ≡ after_joins g (moves_of moves.now) (class_in class.old) joins.items)) }
 {
     let mut joins = Vec::new(alloc);
     let mut going = true;
     while going {
-        going = join_pass(edges, left, fixed, class, moves, &mut joins, k)?;
+        going = join_pass(alloc, edges, left, fixed, class, moves, &mut joins, k)?;
     }
     Ok(joins)
 }

@@ -16,8 +16,9 @@ pub(crate) fn degree(edges: &Edges, left: &[bool], a: usize) -> usize
     ensures { result ≡ neighbours_left edges.now left.now a }
 {
     let mut neighbours: usize = 0;
-    for b in 0..left.len() {
-        if left[b] && edges.has(a, b) {
+    let near = edges.near(a);
+    for b in near {
+        if left[*b as usize] {
             neighbours += 1;
         }
     }

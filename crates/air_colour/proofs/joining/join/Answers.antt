@@ -1,38 +1,32 @@
-use Rattle.std.proofs.Common.{◌≡◌, ℕ, ◌+◌, ◌<◌, ◌≤◌, length, arith, sym, ◌∙◌, ap, subst, true, false}
+use Rattle.std.proofs.Common.{◌≡◌, ℕ, ◌<◌, ◌⊎◌, ◌↔◌, inl, inr, true, List, length, arith, sym, ap, ◌∙◌, subst}
+use Rattle.std.specs.Prelude.{Contains}
 use Rattle.std.proofs.lemmas.Bool.{false≢true}
-use Rattle.air_graph.specs.Edges.{EdgeSet}
-use Rattle.air_colour.specs.Kept.{has, HasRoom}
-use Rattle.air_colour.proofs.EdgeSteps.{JoinedBelow, put_step, row_kept, skip_step}
+use Rattle.air_colour.specs.Kept.{JoinedTo, has}
 use Rattle.air_colour.proofs.joining.join.Goals as goal
-use Rattle.air_colour.proofs.joining.join.Goals.{then-has, else-has}
 
-pub add-requires-clause-differ : goal.add-requires-clause-differ
-add-requires-clause-differ c e =
-    let t : has c.loop-x.edges c.args.b c.loop-x.x ≡ true = sym c.has.ensures ∙ c.if-has.true in
-    let seen = row_kept c.args.edges.now c.loop-x.edges c.args.a c.args.b c.loop-x.x c.requires.itself c.loop-x.invariant.meets t in
-    false≢true (sym c.requires.apart ∙ subst (λ (i : ℕ). has c.args.edges.now c.args.b i ≡ true) (sym e) seen)
+pub add_edges-requires-clause-below : goal.add_edges-requires-clause-below
+add_edges-requires-clause-below c x i =
+    c.near.ensures.below x (subst (λ (l : List ℕ). Contains l x) (c.deref.ensures.value ∙ c.in_ok-near.ensures.items) i)
 
-pub loop-x-preserved : goal.loop-x-preserved
-loop-x-preserved c =
-    let n : ℕ = length c.args.left.now in
-    let x : ℕ = c.loop-x.x in
-    let a : ℕ = c.args.a in
-    let b : ℕ = c.args.b in
-    let m : EdgeSet = c.loop-x.edges in
-    let room : HasRoom m n n = c.loop-x.invariant.room in
-    elim c.if-has.branch [
-      | then-has w ↦
-          let t : has m b x ≡ true = sym c.has.ensures ∙ w.if-has.true in
-          record {
-            room = record { names = ap (λ (s : EdgeSet). s.names) w.edges-is ∙ w.add.ensures.names ∙ room.names; same = room.same };
-            meets = λ y z. subst (λ (r : EdgeSet). JoinedBelow c.args.edges.now r a b (x + 1) y z) (sym w.edges-is)
-                (put_step c.args.edges.now m a b x c.requires.itself c.loop-x.invariant.meets w.add.new.self w.add.ensures.edges t y z);
-          }
-      | else-has w ↦
-          let f : has m b x ≡ false = sym c.has.ensures ∙ w.if-has.false in
-          record {
-            room = subst (λ (r : EdgeSet). HasRoom r n n) (sym w.edges-is) room;
-            meets = λ y z. subst (λ (r : EdgeSet). JoinedBelow c.args.edges.now r a b (x + 1) y z) (sym w.edges-is)
-                (skip_step c.args.edges.now m a b x c.requires.itself c.loop-x.invariant.meets f y z);
-          }
-    ]
+pub add_edges-requires-clause-differ : goal.add_edges-requires-clause-differ
+add_edges-requires-clause-differ c x i e =
+    let t : has c.args.edges.now c.args.b x ≡ true =
+        (c.near.ensures.is.all x).0 (subst (λ (l : List ℕ). Contains l x) (c.deref.ensures.value ∙ c.in_ok-near.ensures.items) i) in
+    false≢true (sym c.requires.apart ∙ subst (λ (z : ℕ). has c.args.edges.now c.args.b z ≡ true) e t)
+
+pub returns-clause-meets : goal.returns-clause-meets
+returns-clause-meets c y z _ _ =
+    let same : c.deref.result.now ≡ c.near.result.now = c.deref.ensures.value ∙ c.in_ok-near.ensures.items in
+    let both : JoinedTo c.args.edges.now c.add_edges.new.edges c.args.a c.near.result.now y z =
+        subst (λ (l : List ℕ). JoinedTo c.args.edges.now c.add_edges.new.edges c.args.a l y z) same (c.in_ok-add_edges.ensures.meets y z) in
+    let at_y = c.near.ensures.is.all y in
+    let at_z = c.near.ensures.is.all z in (
+      λ t. elim (both.0 t) [
+        | inl u ↦ inl u
+        | inr v ↦ inr (elim v [ inl q ↦ inl (q.0, at_z.0 q.1) | inr q ↦ inr (q.0, at_y.0 q.1) ])
+      ],
+      λ t. both.1 (elim t [
+        | inl u ↦ inl u
+        | inr v ↦ inr (elim v [ inl q ↦ inl (q.0, at_z.1 q.1) | inr q ↦ inr (q.0, at_y.1 q.1) ])
+      ]),
+    )
