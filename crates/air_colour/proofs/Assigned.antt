@@ -126,7 +126,7 @@ module _ (g : Interference) (given : List (Option ℕ)) (joins : List ℕ) (long
   barred : (number k : ℕ) → number < g.tmps → given_in given number ≡ None → k < colours → IsBarred g a number k
   barred number k lt none below =
       let b : IsBarredFrom (graph_in g) (classes_left (graph_in g) (moves_in g) joins) (given_in given) number k =
-          col.spilled number k (home number (omega (arith, lt))) none below in
+      col.spilled number k (home number (omega (arith, lt))) none below in
       record {
         member = b.member;
         other = b.other;
@@ -162,7 +162,7 @@ pub few_given : (given : List (Option ℕ)) (tmps : ℕ) → length given ≡ tm
 few_given given tmps long below k d lt =
     let lt' : k < tmps = let l = length-take-le tmps given (omega (arith, long)) in omega (arith, lt, l) in
     let same : get_or (take tmps given) k d ≡ given_in given k =
-        get_or-take tmps given k d lt' ∙ get_or_default given k d None (omega (arith, lt', long)) in
+    get_or-take tmps given k d lt' ∙ get_or_default given k d None (omega (arith, lt', long)) in
     subst (λ (o : Option ℕ). IfSome o (λ k. k < 25)) (sym same) (if_some (given_in given k) (λ r e. below k r (omega (arith, lt')) e))
 
 -- ---- the condition of rewriting

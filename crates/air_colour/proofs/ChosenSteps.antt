@@ -43,7 +43,8 @@ given_same k g f f' a e same choice =
       | inr none ↦ inr (sym e ∙ none.0, λ r lt. let by = none.1 r lt in (by.0, by.1, by.2, sym (same by.0 by.1) ∙ by.3))
     ]
 
-chosen_same : (order : List ℕ) (k : ℕ) (g : Graph) (f f' : ℕ → Option ℕ) → ((x : ℕ) → IsIn g x → f x ≡ f' x) → Simplifies k g order → IsChosen k g f order → IsChosen k g f' order
+chosen_same : (order : List ℕ) (k : ℕ) (g : Graph) (f f' : ℕ → Option ℕ) → ((x : ℕ) → IsIn g x → f x ≡ f' x) → Simplifies k g order → IsChosen k g f order
+    → IsChosen k g f' order
 chosen_same [] k g f f' same s c = tt
 chosen_same (a ∷ rest) k g f f' same s c = (
   given_same k (take_away g a) f f' a (same a s.0.is_in) (λ x is. same x (in_taken g a x is)) c.0,
@@ -68,10 +69,12 @@ module _ (k : ℕ) (edges : EdgeSet) (given : List (Option ℕ)) (h : Graph) (a 
   others : (x : ℕ) → IsIn (take_away h a) x → given_in given x ≡ given_in (slice_set given a o) x
   others x is = sym (there x (taken_differs h a x is))
 
-  is_given : IfSome o (λ r. (r < k) × (IsTaken edges given a r → ⊥)) → IfNone o ((r : ℕ) → r < k → IsTaken edges given a r) → IsGiven k (take_away h a) (given_in (slice_set given a o)) a
+  is_given : IfSome o (λ r. (r < k) × (IsTaken edges given a r → ⊥)) → IfNone o ((r : ℕ) → r < k → IsTaken edges given a r)
+      → IsGiven k (take_away h a) (given_in (slice_set given a o)) a
   is_given some none = cases o refl some none
     where
-      cases : (p : Option ℕ) → o ≡ p → IfSome p (λ r. (r < k) × (IsTaken edges given a r → ⊥)) → IfNone p ((r : ℕ) → r < k → IsTaken edges given a r) → IsGiven k (take_away h a) (given_in (slice_set given a o)) a
+      cases : (p : Option ℕ) → o ≡ p → IfSome p (λ r. (r < k) × (IsTaken edges given a r → ⊥)) → IfNone p ((r : ℕ) → r < k → IsTaken edges given a r)
+          → IsGiven k (take_away h a) (given_in (slice_set given a o)) a
       cases (Some r) e some none =
           inl (
             r,
@@ -114,17 +117,21 @@ chosen_step k edges given order i g o meets names s lt from some none =
     let more : left_after g (take (i + 1) order) ≡ take_away h a = ap (left_after g) (take_more order i 0 lt) ∙ left_more (take i order) a g in
     let cut : drop i order ≡ a ∷ drop (i + 1) order = drop_more order i lt in
     let whole : Simplifies k g (take i order ++ drop i order) = subst (λ (l : List ℕ). Simplifies k g l) (sym (take-append-drop i order)) s in
-    let s' : Simplifies k h (a ∷ drop (i + 1) order) = subst (λ (l : List ℕ). Simplifies k h l) cut (simplifies_after (take i order) (drop i order) g k whole) in
-    let chosen' : IsChosen k (take_away h a) (given_in given) (drop (i + 1) order) = subst (λ (x : Graph). IsChosen k x (given_in given) (drop (i + 1) order)) more from.chosen in
+    let s' : Simplifies k h (a ∷ drop (i + 1) order) = subst (λ (l : List ℕ). Simplifies k h l) cut (simplifies_after (take i order)
+    (drop i order) g k whole) in
+    let chosen' : IsChosen k (take_away h a) (given_in given) (drop (i + 1) order) = subst (λ (x : Graph). IsChosen k x (given_in given) (drop
+    (i + 1) order)) more from.chosen in
     let later' : (x r : ℕ) → given_in given x ≡ Some r → IsIn (take_away h a) x = λ x r e. subst (λ (y : Graph). IsIn y x) more (from.later x r e) in
     record {
       chosen = subst (λ (l : List ℕ). IsChosen k h (given_in (slice_set given a o)) l) (sym cut)
-          (given_step k edges given h a (drop (i + 1) order) o (left_meets (take i order) g ∙ meets) (left_names (take i order) g ∙ names) s' chosen' later' some none);
+          (given_step k edges given h a (drop (i + 1) order) o (left_meets (take i order) g ∙ meets) (left_names (take i order) g
+          ∙ names) s' chosen' later' some none);
       later = later_step k edges given h a (drop (i + 1) order) o (left_meets (take i order) g ∙ meets) (left_names (take i order) g ∙ names) s' chosen' later';
     }
 
 -- at first none is given but those that hold registers
-pub chosen_first : (k : ℕ) (given : ℕ → Option ℕ) (order : List ℕ) (n : ℕ) (g : Graph) → Simplifies k g order → IsStart g given → length order ≤ n → IsChosenFrom k g given order n
+pub chosen_first : (k : ℕ) (given : ℕ → Option ℕ) (order : List ℕ) (n : ℕ) (g : Graph) → Simplifies k g order → IsStart g given → length order ≤ n
+    → IsChosenFrom k g given order n
 chosen_first k given order n g s start le =
     record {
       chosen = subst (λ (l : List ℕ). IsChosen k (left_after g (take n order)) given l) (sym (drop_all n order le)) tt;

@@ -15,7 +15,8 @@ is_left left x = slice_index_or left x false
 pub left_taken : (left : List Bool) (a x : ℕ) → a < length left → is_left (slice_set left a false) x ≡ but (is_left left) a x
 left_taken left a x lt =
     elim (cases_eq x a) [
-      | inl e ↦ subst (λ (y : ℕ). is_left (slice_set left a false) y ≡ but (is_left left) a y) (sym e) (get_or-set_same left a false false lt ∙ sym (but_gone (is_left left) a))
+      | inl e ↦ subst (λ (y : ℕ). is_left (slice_set left a false) y ≡ but (is_left left) a y) (sym e) (get_or-set_same left a false false lt
+          ∙ sym (but_gone (is_left left) a))
       | inr ne ↦ get_or-set_other left a x false false ne ∙ sym (but_same (is_left left) a x ne)
     ]
 
@@ -23,7 +24,8 @@ abbrev with : EdgeSet → List Bool → (ℕ → Bool) → ℕ → Graph
 with edges fixed h n = record { names = n; has = h; register = λ x. slice_index_or fixed x false; meets = has edges }
 
 -- fewer are left
-pub fewer_left : (left : List Bool) (a : ℕ) → a < length left → is_left left a ≡ true → count (is_left (slice_set left a false)) (length (slice_set left a false)) < count (is_left left) (length left)
+pub fewer_left : (left : List Bool) (a : ℕ) → a < length left → is_left left a ≡ true
+    → count (is_left (slice_set left a false)) (length (slice_set left a false)) < count (is_left left) (length left)
 fewer_left left a lt t =
     let same_length = length-set left a false in
     let split = count_without (is_left left) a (length left) lt in
@@ -32,6 +34,8 @@ fewer_left left a lt t =
     = count_same (is_left (slice_set left a false)) (but (is_left left) a) (length left) (λ x _. left_taken left a x lt) in
     rw same_length (omega arith)
 
-pub graph_taken : (edges : EdgeSet) (left fixed : List Bool) (a : ℕ) → a < length left → graph_of edges (slice_set left a false) fixed ≡ take_away (graph_of edges left fixed) a
+pub graph_taken : (edges : EdgeSet) (left fixed : List Bool) (a : ℕ) → a < length left
+    → graph_of edges (slice_set left a false) fixed ≡ take_away (graph_of edges left fixed) a
 graph_taken edges left fixed a lt =
-    ap (λ (n : ℕ). with edges fixed (is_left (slice_set left a false)) n) (length-set left a false) ∙ ap (λ (h : ℕ → Bool). with edges fixed h (length left)) (fun_ext (λ x. left_taken left a x lt))
+    ap (λ (n : ℕ). with edges fixed (is_left (slice_set left a false)) n) (length-set left a false) ∙ ap (λ (h : ℕ
+    → Bool). with edges fixed h (length left)) (fun_ext (λ x. left_taken left a x lt))

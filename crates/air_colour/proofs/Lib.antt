@@ -14,3 +14,4 @@ mod Whole
 mod Example
 mod Given
 mod Assigned
+mod Working

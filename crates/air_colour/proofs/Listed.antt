@@ -46,11 +46,11 @@ once_count p (y ∷ ys) n (first, more) below =
     let here : P y ≡ p y = ap (λ (b : Bool). p y && (b || in_list ys y)) (eq-eqb y y refl) ∙ and_true (p y) in
     let none : in_list ys y ≡ false = absent_false (in_list ys y) (λ t. first ((listed ys y).0 t)) in
     let others : count (but P y) n ≡ count (λ x. p x && in_list ys x) n =
-        count_same (but P y) (λ x. p x && in_list ys x) n (λ x _. elim (cases_eq x y) [
-          | inl e ↦ subst (λ (z : ℕ). but P y z ≡ (p z && in_list ys z)) (sym e)
-              (but_gone P y ∙ sym (ap (λ (b : Bool). p y && b) none ∙ and_false (p y)))
-          | inr ne ↦ but_same P y x ne ∙ ap (λ (b : Bool). p x && (b || in_list ys x)) (ne_eqb y x (λ e. ne (sym e)))
-        ]) in
+    count_same (but P y) (λ x. p x && in_list ys x) n (λ x _. elim (cases_eq x y) [
+      | inl e ↦ subst (λ (z : ℕ). but P y z ≡ (p z && in_list ys z)) (sym e)
+          (but_gone P y ∙ sym (ap (λ (b : Bool). p y && b) none ∙ and_false (p y)))
+      | inr ne ↦ but_same P y x ne ∙ ap (λ (b : Bool). p x && (b || in_list ys x)) (ne_eqb y x (λ e. ne (sym e)))
+    ]) in
     count_same (λ x. p x && in_list (y ∷ ys) x) P n (λ x _. ap (λ (b : Bool). p x && b) (in_cons y ys x))
     ∙ count_without P y n lt ∙ ap (λ (b : Bool). one b + count (but P y) n) here
     ∙ ap (λ (m : ℕ). one (p y) + m) (others ∙ rest) ∙ ap (λ (m : ℕ). m + count_by p ys) (one_cond (p y)) ∙ sym (sum_by-cons (λ x. cond (p x) 1 0) y ys)

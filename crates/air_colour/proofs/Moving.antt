@@ -18,7 +18,8 @@ use std.Path.{fun_ext}
 
 -- what joining does to the edges
 abbrev pub Takes : EdgeSet → EdgeSet → ℕ → ℕ → ℕ → Type 0
-Takes old new a b n = (x y : ℕ) → x < n → y < n → (has new x y ≡ true) ↔ ((has old x y ≡ true) ⊎ (((x ≡ a) × (has old b y ≡ true)) ⊎ ((y ≡ a) × (has old b x ≡ true))))
+Takes old new a b n = (x y : ℕ) → x < n → y < n → (has new x y ≡ true) ↔ ((has old x y ≡ true) ⊎ (((x ≡ a) × (has old b y ≡ true)) ⊎ ((y ≡ a)
+    × (has old b x ≡ true))))
 
 module _ (edges new : EdgeSet) (left fixed : List Bool) (class class' : List ℕ) (a b : ℕ) (state : IsState edges left fixed class)
     (in_a : a < length left) (in_b : b < length left) (apart : has edges a b ≡ false)
@@ -81,7 +82,8 @@ module _ (edges new : EdgeSet) (left fixed : List Bool) (class class' : List ℕ
           | inl old ↦ or_left (has edges x y) (((x == a) && has edges b y) || ((y == a) && has edges x b)) old
           | inr p ↦ or_right (has edges x y) (((x == a) && has edges b y) || ((y == a) && has edges x b)) (elim p [
             | inl q ↦ or_left ((x == a) && has edges b y) ((y == a) && has edges x b) (and_from (x == a) (has edges b y) (eq-eqb x a q.0) q.1)
-            | inr q ↦ or_right ((x == a) && has edges b y) ((y == a) && has edges x b) (and_from (y == a) (has edges x b) (eq-eqb y a q.0) (state.symmetric b x in_b lx q.1))
+            | inr q ↦ or_right ((x == a) && has edges b y) ((y == a)
+                && has edges x b) (and_from (y == a) (has edges x b) (eq-eqb y a q.0) (state.symmetric b x in_b lx q.1))
           ])
         ])
         (λ t. (takes x y lx ly).1 (elim (join_meets (graph_of edges left fixed) a b x y t) [
@@ -98,12 +100,14 @@ module _ (edges new : EdgeSet) (left fixed : List Bool) (class class' : List ℕ
   pub moved_class : class_in class' ≡ merged (class_in class) a b
   moved_class = fun_ext moved
 
-  pub join_keeps : (k : ℕ) (g : Graph) → IsInterference g → IsKept g edges left fixed class → MayJoin k (graph_of edges left fixed) a b → slice_index_or fixed b false ≡ false
+  pub join_keeps : (k : ℕ) (g : Graph) → IsInterference g → IsKept g edges left fixed class → MayJoin k (graph_of edges left fixed) a b
+      → slice_index_or fixed b false ≡ false
       → IsKept g new (slice_set left b false) fixed class'
   join_keeps k g is kept may free =
       let c : Graph = classes_of g (class_in class) in
       let may' : MayJoin k c a b = same_may k (graph_of edges left fixed) c a b kept.same may in
-      let into : IsSame (join c a b) (classes_of g (merged (class_in class) a b)) = merged_same g (class_in class) a b is kept.classing may'.into may'.from may'.differ may'.apart in
+      let into : IsSame (join c a b) (classes_of g (merged (class_in class) a b)) = merged_same g
+      (class_in class) a b is kept.classing may'.into may'.from may'.differ may'.apart in
       record {
         all = kept.all;
         same = subst (λ (f : ℕ → ℕ). IsSame (graph_of new (slice_set left b false) fixed) (classes_of g f)) (sym moved_class)
@@ -111,7 +115,8 @@ module _ (edges new : EdgeSet) (left fixed : List Bool) (class class' : List ℕ
             (join_kept free)
             (same_trans (join (graph_of edges left fixed) a b) (join c a b) (classes_of g (merged (class_in class) a b))
             (same_join (graph_of edges left fixed) c a b kept.same may.into may.from) into));
-        classing = subst (λ (f : ℕ → ℕ). IsClassing g f) (sym moved_class) (merged_classing g (class_in class) a b is kept.classing may'.into may'.from may'.differ may'.apart);
+        classing = subst (λ (f : ℕ → ℕ). IsClassing g f) (sym moved_class) (merged_classing g
+            (class_in class) a b is kept.classing may'.into may'.from may'.differ may'.apart);
       }
 
 -- ---- the classes of a move
@@ -126,7 +131,8 @@ stays_in fixed class m = cond (slice_index_or fixed (slice_index_or class m.from
 abbrev pub goes_in : List Bool → List ℕ → Move → ℕ
 goes_in fixed class m = cond (slice_index_or fixed (slice_index_or class m.from 0) false) (slice_index_or class m.to 0) (slice_index_or class m.from 0)
 
-module _ (g : Graph) (edges : EdgeSet) (left fixed : List Bool) (class : List ℕ) (m : Move) (state : IsState edges left fixed class) (kept : IsKept g edges left fixed class)
+module _ (g : Graph) (edges : EdgeSet) (left fixed : List Bool) (class : List ℕ) (m : Move) (state : IsState edges left fixed class)
+    (kept : IsKept g edges left fixed class)
     (from_below : m.from < length class) (to_below : m.to < length class) where
   names_are : g.names ≡ length class
   names_are = sym kept.same.names ∙ sym state.classes
@@ -138,7 +144,8 @@ module _ (g : Graph) (edges : EdgeSet) (left fixed : List Bool) (class : List �
   from_in = class_stands g (class_in class) kept.classing m.from (home_in m.from from_below)
 
   registers_are : slice_index_or fixed (class_in class m.from) false ≡ (classes_of g (class_in class)).register (class_in class m.from)
-  registers_are = kept.same.registers (class_in class m.from) (same_in (classes_of g (class_in class)) (graph_of edges left fixed) (same_sym (graph_of edges left fixed) (classes_of g (class_in class)) kept.same) (class_in class m.from) from_in)
+  registers_are = kept.same.registers (class_in class m.from) (same_in (classes_of g (class_in class)) (graph_of edges left fixed) (same_sym
+      (graph_of edges left fixed) (classes_of g (class_in class)) kept.same) (class_in class m.from) from_in)
 
   from_at : slice_index_or class m.from 0 ≡ class_in class m.from
   from_at = sym (get_or_default_zero class m.from m.from from_below)
@@ -158,19 +165,24 @@ module _ (g : Graph) (edges : EdgeSet) (left fixed : List Bool) (class : List �
       ∙ ap (λ (t : ℕ). cond (slice_index_or fixed (class_in class m.from) false) t (class_in class m.from)) to_at
       ∙ ap (λ (r : Bool). cond r (class_in class m.to) (class_in class m.from)) registers_are
 
-  pub move_kept : (k a b : ℕ) → a ≡ stays_in fixed class m → b ≡ goes_in fixed class m → MayJoinMove k g (class_in class) m → MayJoin k (graph_of edges left fixed) a b
+  pub move_kept : (k a b : ℕ) → a ≡ stays_in fixed class m → b ≡ goes_in fixed class m → MayJoinMove k g (class_in class) m
+      → MayJoin k (graph_of edges left fixed) a b
   move_kept k a b ea eb may =
       let there : MayJoin k (graph_of edges left fixed) (stays g (class_in class) m) (goes g (class_in class) m)
-      = same_may k (classes_of g (class_in class)) (graph_of edges left fixed) (stays g (class_in class) m) (goes g (class_in class) m) (same_sym (graph_of edges left fixed) (classes_of g (class_in class)) kept.same) may.may in
-      subst (λ (x : ℕ). MayJoin k (graph_of edges left fixed) x b) (sym (ea ∙ stays_are)) (subst (λ (y : ℕ). MayJoin k (graph_of edges left fixed) (stays g (class_in class) m) y) (sym (eb ∙ goes_are)) there)
+      = same_may k (classes_of g (class_in class)) (graph_of edges left fixed) (stays g (class_in class) m) (goes g (class_in class) m) (same_sym
+      (graph_of edges left fixed) (classes_of g (class_in class)) kept.same) may.may in
+      subst (λ (x : ℕ). MayJoin k (graph_of edges left fixed) x b) (sym (ea
+      ∙ stays_are)) (subst (λ (y : ℕ). MayJoin k (graph_of edges left fixed) (stays g (class_in class) m) y) (sym (eb ∙ goes_are)) there)
 
-  pub kept_move : (k a b : ℕ) → a ≡ stays_in fixed class m → b ≡ goes_in fixed class m → MayJoin k (graph_of edges left fixed) a b → MayJoinMove k g (class_in class) m
+  pub kept_move : (k a b : ℕ) → a ≡ stays_in fixed class m → b ≡ goes_in fixed class m → MayJoin k (graph_of edges left fixed) a b
+      → MayJoinMove k g (class_in class) m
   kept_move k a b ea eb may = record {
     from = home_in m.from from_below;
     to = home_in m.to to_below;
     may =
         let there : MayJoin k (classes_of g (class_in class)) a b = same_may k (graph_of edges left fixed) (classes_of g (class_in class)) a b kept.same may in
-        subst (λ (x : ℕ). MayJoin k (classes_of g (class_in class)) x (goes g (class_in class) m)) (ea ∙ stays_are) (subst (λ (y : ℕ). MayJoin k (classes_of g (class_in class)) a y) (eb ∙ goes_are) there);
+        subst (λ (x : ℕ). MayJoin k (classes_of g (class_in class)) x (goes g (class_in class) m)) (ea
+        ∙ stays_are) (subst (λ (y : ℕ). MayJoin k (classes_of g (class_in class)) a y) (eb ∙ goes_are) there);
   }
 
 -- a move was joined
@@ -183,9 +195,11 @@ pub move_joined : (k : ℕ) (g : Graph) (edges new : EdgeSet) (left fixed : List
 move_joined k g edges new left fixed class class' m a b is state kept lf lt ea eb may room takes moved long =
     let in_a : a < length left = may.into.0 in
     let in_b : b < length left = may.from.0 in
-    let e : class_in class' ≡ merged (class_in class) a b = moved_class edges new left fixed class class' a b state in_a in_b may.apart room takes moved long in (
+    let e : class_in class' ≡ merged
+    (class_in class) a b = moved_class edges new left fixed class class' a b state in_a in_b may.apart room takes moved long in (
       kept_move g edges left fixed class m state kept lf lt k a b ea eb may,
-      join_keeps edges new left fixed class class' a b state in_a in_b may.apart room takes moved long k g is kept may (free_from k (graph_of edges left fixed) a b may),
+      join_keeps edges new left fixed class class' a b state in_a in_b may.apart room takes moved long k g is kept may (free_from k
+          (graph_of edges left fixed) a b may),
       e ∙ ap (λ (x : ℕ). merged (class_in class) x b) (ea ∙ stays_are g edges left fixed class m state kept lf lt)
           ∙ ap (λ (y : ℕ). merged (class_in class) (stays g (class_in class) m) y) (eb ∙ goes_are g edges left fixed class m state kept lf lt),
     )
@@ -196,7 +210,8 @@ module _ (k : ℕ) (g : Graph) (moves : Moves) (first : ℕ → ℕ) where
   pub none_joined : IsJoinedSoFar k g moves first [] first
   none_joined = record { more = λ rest j. j; after = λ rest. refl }
 
-  pub one_joined : (joins joins' : List ℕ) (class class' : ℕ → ℕ) (j : ℕ) → IsJoinedSoFar k g moves first joins class → j < moves.count → MayJoinMove k g class (moves.at j)
+  pub one_joined : (joins joins' : List ℕ) (class class' : ℕ → ℕ) (j : ℕ) → IsJoinedSoFar k g moves first joins class → j < moves.count
+      → MayJoinMove k g class (moves.at j)
       → class' ≡ after_move g class (moves.at j) → joins' ≡ joins ++ j ∷ [] → IsJoinedSoFar k g moves first joins' class'
   one_joined joins joins' class class' j so lt may e grown =
       record {
@@ -211,7 +226,8 @@ module _ (k : ℕ) (g : Graph) (moves : Moves) (first : ℕ → ℕ) where
       longer rest = sym (append_assoc joins (j ∷ []) rest) ∙ sym (ap (λ (l : List ℕ). l ++ rest) grown)
 
 -- nothing was changed
-pub kept_unchanged : (g : Graph) (edges edges' : EdgeSet) (left left' fixed : List Bool) (class class' : List ℕ) → edges' ≡ edges → left' ≡ left → class' ≡ class
+pub kept_unchanged : (g : Graph) (edges edges' : EdgeSet) (left left' fixed : List Bool) (class class' : List ℕ) → edges' ≡ edges → left' ≡ left
+    → class' ≡ class
     → IsKept g edges left fixed class → IsKept g edges' left' fixed class'
 kept_unchanged g edges edges' left left' fixed class class' er el ec kept =
     subst (λ (r : EdgeSet). IsKept g r left' fixed class') (sym er)

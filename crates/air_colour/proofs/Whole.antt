@@ -34,7 +34,8 @@ alone_same g is all = record {
         subst (λ (z : ℕ). g.meets x z ≡ true) m.also.1 (subst (λ (z : ℕ). g.meets z m.other ≡ true) m.member.1 m.meets)
 
 -- classes of the order are left and hold no register
-order_in : (k : ℕ) (order : List ℕ) (g : Graph) (i : ℕ) → Simplifies k g order → i < length order → IsIn g (slice_index_or order i 0) × (g.register (slice_index_or order i 0) ≡ false)
+order_in : (k : ℕ) (order : List ℕ) (g : Graph) (i : ℕ) → Simplifies k g order → i < length order → IsIn g (slice_index_or order i 0)
+    × (g.register (slice_index_or order i 0) ≡ false)
 order_in k [] g i s lt = absurd (omega arith)
 order_in k (a ∷ rest) g zero s lt = (s.0.is_in, s.0.free)
 order_in k (a ∷ rest) g (suc i) s lt =
@@ -78,12 +79,14 @@ module _ (edges : EdgeSet) (left fixed : List Bool) (class : List ℕ) (given : 
   started_kept = record {
     all = λ u lt. refl;
     same = subst (λ (f : ℕ → ℕ). IsSame (graph_of edges left fixed) (classes_of (home_graph edges t k) f)) (sym started_alone)
-        (same_trans (graph_of edges left fixed) (home_graph edges t k) (classes_of (home_graph edges t k) alone) homes_same (alone_same (home_graph edges t k) is (λ u lt. refl)));
+        (same_trans (graph_of edges left fixed) (home_graph edges t k) (classes_of (home_graph edges t k) alone) homes_same (alone_same
+        (home_graph edges t k) is (λ u lt. refl)));
     classing = subst (λ (f : ℕ → ℕ). IsClassing (home_graph edges t k) f) (sym started_alone) (alone_classing (home_graph edges t k) is);
   }
 
   -- after the joins
-  module _ (edges' : EdgeSet) (left' : List Bool) (class' : List ℕ) (state : IsState edges' left' fixed class') (kept : IsKept (home_graph edges t k) edges' left' fixed class')
+  module _ (edges' : EdgeSet) (left' : List Bool) (class' : List ℕ) (state : IsState edges' left' fixed class') (kept : IsKept
+      (home_graph edges t k) edges' left' fixed class')
       (long : length class' ≡ length class) where
     class_at : (u : ℕ) → u < t + k → slice_index_or class' u 0 ≡ class_in class' u
     class_at u lt = sym (get_or_default_zero class' u u (let e = start.class_long in omega arith))
@@ -104,14 +107,17 @@ module _ (edges : EdgeSet) (left fixed : List Bool) (class : List ℕ) (given : 
         ]
 
     -- the class of a register, as it is kept
-    register_class : (r : ℕ) → r < k → IsIn (graph_of edges' left' fixed) (slice_index_or class' (t + r) 0) × (slice_index_or fixed (slice_index_or class' (t + r) 0) false ≡ true)
+    register_class : (r : ℕ) → r < k → IsIn (graph_of edges' left' fixed) (slice_index_or class' (t + r) 0)
+        × (slice_index_or fixed (slice_index_or class' (t + r) 0) false ≡ true)
     register_class r lr =
         let u : ℕ = t + r in
         let in_u = home u (omega arith) in
         let c : Graph = classes_of (home_graph edges t k) (class_in class') in
         let there : IsIn c (class_in class' u) = class_stands (home_graph edges t k) (class_in class') kept.classing u in_u in
-        let here : IsIn (graph_of edges' left' fixed) (class_in class' u) = same_in c (graph_of edges' left' fixed) (same_sym (graph_of edges' left' fixed) c kept.same) (class_in class' u) there in
-        let holds : slice_index_or fixed (class_in class' u) false ≡ true = kept.same.registers (class_in class' u) here ∙ member_register (home_graph edges t k) (class_in class') (class_in class' u) u (in_u, refl) (register_home r) in
+        let here : IsIn (graph_of edges' left' fixed) (class_in class' u) = same_in c (graph_of edges' left' fixed) (same_sym
+        (graph_of edges' left' fixed) c kept.same) (class_in class' u) there in
+        let holds : slice_index_or fixed (class_in class' u) false ≡ true = kept.same.registers (class_in class' u) here
+        ∙ member_register (home_graph edges t k) (class_in class') (class_in class' u) u (in_u, refl) (register_home r) in
         let at = class_at u (omega arith) in
         (subst (λ (x : ℕ). IsIn (graph_of edges' left' fixed) x) (sym at) here, subst (λ (x : ℕ). slice_index_or fixed x false ≡ true) (sym at) holds)
 
@@ -139,7 +145,8 @@ module _ (edges : EdgeSet) (left fixed : List Bool) (class : List ℕ) (given : 
         register_kept : (r : ℕ) → r < k → given_in given'' (slice_index_or class' (t + r) 0) ≡ Some r
         register_kept r lr =
             others (slice_index_or class' (t + r) 0) (λ i lt e.
-            false≢true (sym (order_in k order (graph_of edges' left' fixed) i simplifies lt).1 ∙ subst (λ (x : ℕ). slice_index_or fixed x false ≡ true) (sym e) (register_class r lr).1))
+            false≢true (sym (order_in k order (graph_of edges' left' fixed) i simplifies lt).1
+            ∙ subst (λ (x : ℕ). slice_index_or fixed x false ≡ true) (sym e) (register_class r lr).1))
             ∙ own r lr
 
         own_is : (u : ℕ) → IsIn (home_graph edges t k) u → leb t u ≡ true → given_in given'' (class_in class' u) ≡ Some (register_of t u)
@@ -148,7 +155,8 @@ module _ (edges : EdgeSet) (left fixed : List Bool) (class : List ℕ) (given : 
             let lt = there.0 in
             let e : t + (u - t) ≡ u = omega arith in
             let here = register_kept (u - t) (omega arith) in
-            let here' : given_in given'' (slice_index_or class' u 0) ≡ Some (u - t) = subst (λ (x : ℕ). given_in given'' (slice_index_or class' x 0) ≡ Some (u - t)) e here in
+            let here' : given_in given'' (slice_index_or class' u 0) ≡ Some (u - t) = subst (λ (x : ℕ). given_in given'' (slice_index_or class' x 0) ≡ Some
+            (u - t)) e here in
             ap (given_in given'') (sym (class_at u lt)) ∙ here'
 
         owned : IsOwn k (home_graph edges t k) (register_of t)
@@ -166,5 +174,7 @@ module _ (edges : EdgeSet) (left fixed : List Bool) (class : List ℕ) (given : 
             (colouring k (home_graph edges t k) (register_of t) moves joins (given_in given'') order is owned
             (subst (λ (f : ℕ → ℕ). JoinsFrom k (home_graph edges t k) moves f joins) started_alone joined)
             (λ u there r. subst (λ (f : ℕ → ℕ). given_in given'' (f u) ≡ Some (register_of t u)) class_is (own_is u there r))
-            (same_simplifies k order (graph_of edges' left' fixed) (classes_of (home_graph edges t k) (classes_left (home_graph edges t k) moves joins)) same_left simplifies)
-            (same_chosen k (given_in given'') order (graph_of edges' left' fixed) (classes_of (home_graph edges t k) (classes_left (home_graph edges t k) moves joins)) same_left simplifies chosen))
+            (same_simplifies k order (graph_of edges' left' fixed) (classes_of (home_graph edges t k) (classes_left
+            (home_graph edges t k) moves joins)) same_left simplifies)
+            (same_chosen k (given_in given'') order (graph_of edges' left' fixed) (classes_of (home_graph edges t k) (classes_left
+            (home_graph edges t k) moves joins)) same_left simplifies chosen))

@@ -18,7 +18,8 @@ abbrev pub register_of : ℕ → ℕ → ℕ
 register_of temporaries u = u - temporaries
 
 -- at the start each home is left, stands alone and is given nothing
-pub record IsStarted (edges : EdgeSet) (l f : List Bool) (c : List ℕ) (gs : List (Option ℕ)) (temporaries k : ℕ) : Type 0 where
+pub record IsStarted (edges : EdgeSet) (l f : List Bool) (c : List ℕ) (gs : List (Option ℕ))
+    (temporaries k : ℕ) : Type 0 where
   pub names : edges.names ≡ temporaries + k
   pub left_long : length l ≡ temporaries + k
   pub fixed_long : length f ≡ temporaries + k

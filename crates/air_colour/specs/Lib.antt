@@ -9,3 +9,4 @@ pub mod Chosen
 pub mod Progress
 pub mod Homes
 pub mod Assigned
+pub mod Worklist

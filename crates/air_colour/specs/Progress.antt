@@ -46,6 +46,7 @@ abbrev pub moves_of : List Move → Moves
 moves_of moves = record { count = length moves; at = λ j. slice_index_or moves j (record { from = 0; to = 0 }) }
 
 -- these moves were joined, from classes where each home stood alone or others, and led to these classes
-pub record IsJoinedSoFar (k : ℕ) (g : Graph) (moves : Moves) (first : ℕ → ℕ) (joins : List ℕ) (class : ℕ → ℕ) : Type 0 where
+pub record IsJoinedSoFar (k : ℕ) (g : Graph) (moves : Moves) (first : ℕ → ℕ) (joins : List ℕ) (class : ℕ
+    → ℕ) : Type 0 where
   pub more : (rest : List ℕ) → JoinsFrom k g moves class rest → JoinsFrom k g moves first (joins ++ rest)
   pub after : (rest : List ℕ) → after_joins g moves first (joins ++ rest) ≡ after_joins g moves class rest

@@ -11,8 +11,8 @@ use crate::choose::choose;
 use crate::homes::{give_registers, mark_registers, spread, stand_alone};
 use crate::moves::{Move, join_moves};
 use crate::simplify::simplify;
-use b3_base::NoMemory;
 use air_graph::Edges;
+use b3_base::NoMemory;
 use std::alloc::Global;
 
 /// What each home is given, a register counted from 0 or none, and the numbers of the moves that
@@ -39,8 +39,10 @@ fn colour_classes(
     requires start { IsStarted edges.old left.old fixed.now class.old given.old temporaries k }
     requires few { length moves.now ≤ 2 ^ 32 }
     requires interference { IsInterference (home_graph edges.old temporaries k) }
-    ensures below { IfOk result (λ _. (u : ℕ) → u < length class.new → slice_index_or class.new u 0 < length given.new) }
-    ensures coloured { IfOk result (λ joins. IsColouring k (home_graph edges.old temporaries k) (register_of temporaries) (moves_of moves.now) joins.items (λ u. given_in given.new (class_in class.new u))) }
+    ensures below { IfOk result (λ _. (u : ℕ) → u < length class.new
+        → slice_index_or class.new u 0 < length given.new) }
+    ensures coloured { IfOk result (λ joins. IsColouring k (home_graph edges.old temporaries k)
+        (register_of temporaries) (moves_of moves.now) joins.items (λ u. given_in given.new (class_in class.new u))) }
 {
     let joins = join_moves(alloc, edges, left, fixed, class, moves, k)?;
     give_registers(given, class, temporaries, k);
@@ -63,7 +65,8 @@ pub(crate) fn colour_homes(
     requires few { length moves.now ≤ 2 ^ 32 }
     requires interference { IsInterference (home_graph edges temporaries k) }
     ensures long { IfOk result (λ c. length c.given.items ≡ temporaries + k) }
-    ensures coloured { IfOk result (λ c. IsColouring k (home_graph edges temporaries k) (register_of temporaries) (moves_of moves.now) c.joins.items (given_in c.given.items)) }
+    ensures coloured { IfOk result (λ c. IsColouring k (home_graph edges temporaries k) (register_of temporaries)
+        (moves_of moves.now) c.joins.items (given_in c.given.items)) }
 {
     let homes = temporaries + k;
     let fixed = mark_registers(alloc, temporaries, homes)?;

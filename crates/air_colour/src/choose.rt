@@ -41,8 +41,12 @@ fn first_free(edges: &Edges, given: &[Option<usize>], a: usize, k: usize) -> Opt
 pub(crate) fn choose(edges: &Edges, given: &mut [Option<usize>], order: &[usize], k: usize)
     requires room { HasRoom edges.now (length given.old) (length given.old) }
     requires below { (i : ℕ) → i < length order.now → slice_index_or order.now i 0 < length given.old }
-    ensures chosen { (left fixed : List Bool) → length left ≡ length given.old → Simplifies k (graph_of edges.now left fixed) order.now → IsStart (graph_of edges.now left fixed) (given_in given.old) → IsChosen k (graph_of edges.now left fixed) (given_in given.new) order.now }
-    ensures others { (x : ℕ) → ((i : ℕ) → i < length order.now → slice_index_or order.now i 0 ≡ x → ⊥) → given_in given.new x ≡ given_in given.old x }
+    ensures chosen { (left fixed : List Bool) → length left ≡ length given.old
+        → Simplifies k (graph_of edges.now left fixed) order.now
+        → IsStart (graph_of edges.now left fixed) (given_in given.old)
+        → IsChosen k (graph_of edges.now left fixed) (given_in given.new) order.now }
+    ensures others { (x : ℕ) → ((i : ℕ) → i < length order.now → slice_index_or order.now i 0 ≡ x → ⊥)
+        → given_in given.new x ≡ given_in given.old x }
 {
     for i in (0..order.len()).rev() {
         let a = order[i];

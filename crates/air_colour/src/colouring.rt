@@ -83,7 +83,13 @@ pub fn colour(alloc: Global, graph: Interference) -> Result<Assignment, NoMemory
 {
     let tmps = graph.tmps;
     let moves = numbered(alloc, tmps, graph.moves.as_slice())?;
-    let colouring = colour_homes(alloc, graph.edges, tmps as usize, REGISTERS, moves.as_slice())?;
+    let colouring = colour_homes(
+        alloc,
+        graph.edges,
+        tmps as usize,
+        REGISTERS,
+        moves.as_slice(),
+    )?;
     let homes = registers_of(alloc, &colouring.given[..tmps as usize])?;
     let mut joins = Ids::new(alloc);
     joins.extend(&colouring.joins)?;

@@ -32,7 +32,8 @@ fn counts(edges: &Edges, left: &[bool], fixed: &[bool], x: usize, k: usize) -> b
 fn significant_near(edges: &Edges, left: &[bool], fixed: &[bool], a: usize, k: usize) -> usize
     requires room { HasRoom edges.now (length left.now) (length fixed.now) }
     requires a { a < length left.now }
-    ensures { result ≡ count (λ x. significant_left k edges.now left.now fixed.now x && has edges.now a x) (length left.now) }
+    ensures { result ≡ count (λ x. significant_left k edges.now left.now fixed.now x
+        && has edges.now a x) (length left.now) }
 {
     let mut many: usize = 0;
     let near = edges.near(a);
@@ -56,7 +57,8 @@ fn significant_beyond(
     requires room { HasRoom edges.now (length left.now) (length fixed.now) }
     requires a { a < length left.now }
     requires b { b < length left.now }
-    ensures { result ≡ count (λ x. (significant_left k edges.now left.now fixed.now x && not (has edges.now a x)) && has edges.now b x) (length left.now) }
+    ensures { result ≡ count (λ x. (significant_left k edges.now left.now fixed.now x && not (has edges.now a x))
+        && has edges.now b x) (length left.now) }
 {
     let mut many: usize = 0;
     let near = edges.near(b);
@@ -74,7 +76,8 @@ fn briggs(edges: &Edges, left: &[bool], fixed: &[bool], a: usize, b: usize, k: u
     requires room { HasRoom edges.now (length left.now) (length fixed.now) }
     requires a { a < length left.now }
     requires b { b < length left.now }
-    ensures { IsTrue result ↔ (count (λ x. is_neighbour_of_either (graph_of edges.now left.now fixed.now) a b x && is_significant k (graph_of edges.now left.now fixed.now) x) (length left.now) < k) }
+    ensures { IsTrue result ↔ (count (λ x. is_neighbour_of_either (graph_of edges.now left.now fixed.now) a b x
+        && is_significant k (graph_of edges.now left.now fixed.now) x) (length left.now) < k) }
 {
     let first = significant_near(edges, left, fixed, a, k);
     if first >= k {
@@ -88,7 +91,8 @@ fn harmless(edges: &Edges, left: &[bool], fixed: &[bool], a: usize, x: usize, k:
     requires room { HasRoom edges.now (length left.now) (length fixed.now) }
     requires a { a < length left.now }
     requires x { x < length left.now }
-    ensures { IsTrue result ↔ ((slice_index_or fixed.now x false ≡ true) ⊎ ((has edges.now x a ≡ true) ⊎ (degree (graph_of edges.now left.now fixed.now) x < k))) }
+    ensures { IsTrue result ↔ ((slice_index_or fixed.now x false ≡ true) ⊎ ((has edges.now x a ≡ true)
+        ⊎ (degree (graph_of edges.now left.now fixed.now) x < k))) }
 {
     fixed[x] || edges.has(x, a) || degree(edges, left, x) < k
 }
@@ -98,7 +102,9 @@ fn george(edges: &Edges, left: &[bool], fixed: &[bool], a: usize, b: usize, k: u
     requires room { HasRoom edges.now (length left.now) (length fixed.now) }
     requires a { a < length left.now }
     requires b { b < length left.now }
-    ensures { IsTrue result ↔ ((x : ℕ) → IsIn (graph_of edges.now left.now fixed.now) x → has edges.now b x ≡ true → (slice_index_or fixed.now x false ≡ true) ⊎ ((has edges.now x a ≡ true) ⊎ (degree (graph_of edges.now left.now fixed.now) x < k))) }
+    ensures { IsTrue result ↔ ((x : ℕ) → IsIn (graph_of edges.now left.now fixed.now) x → has edges.now b x ≡ true
+        → (slice_index_or fixed.now x false ≡ true) ⊎ ((has edges.now x a ≡ true)
+        ⊎ (degree (graph_of edges.now left.now fixed.now) x < k))) }
 {
     let near = edges.near(b);
     for y in near {
@@ -162,7 +168,9 @@ pub(crate) fn join(
     requires apart { has edges.old b a ≡ false }
     ensures room { HasRoom edges.new (length left.old) (length left.old) }
     ensures left { OnOk result (left.new ≡ slice_set left.old b false) }
-    ensures meets { OnOk result ((x y : ℕ) → x < length left.old → y < length left.old → (has edges.new x y ≡ true) ↔ ((has edges.old x y ≡ true) ⊎ (((x ≡ a) × (has edges.old b y ≡ true)) ⊎ ((y ≡ a) × (has edges.old b x ≡ true))))) }
+    ensures meets { OnOk result ((x y : ℕ) → x < length left.old → y < length left.old → (has edges.new x y ≡ true)
+        ↔ ((has edges.old x y ≡ true) ⊎ (((x ≡ a) × (has edges.old b y ≡ true)) ⊎ ((y ≡ a)
+        × (has edges.old b x ≡ true))))) }
 {
     let near = Vec::from_slice(alloc, edges.near(b))?;
     add_edges(edges, a, &near)?;

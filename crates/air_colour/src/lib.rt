@@ -8,6 +8,9 @@ mod homes;
 mod joining;
 mod moves;
 mod simplify;
+#[cfg(test)]
+mod tests;
+mod worklist;
 
 pub use colouring::colour;
 pub use moves::Move;

@@ -6,8 +6,8 @@ ghost use Rattle.air_colour.specs.Classes.{merged, MayJoinMove, after_move, Join
 ghost use Rattle.air_colour.specs.Progress.{class_in, IsState, IsKept, moves_of, IsJoinedSoFar, left_count};
 
 use crate::joining::{join, may_join};
-use b3_base::NoMemory;
 use air_graph::Edges;
+use b3_base::NoMemory;
 use std::alloc::Global;
 
 /// A move from one home to another, by their numbers.
@@ -36,8 +36,10 @@ fn sides(fixed: &[bool], class: &[usize], m: Move) -> (usize, usize)
     requires from { m.from < length class.now }
     requires to { m.to < length class.now }
     requires below { (u : ℕ) → u < length class.now → slice_index_or class.now u 0 < length fixed.now }
-    ensures stays { result.0 ≡ cond (slice_index_or fixed.now (slice_index_or class.now m.from 0) false) (slice_index_or class.now m.from 0) (slice_index_or class.now m.to 0) }
-    ensures goes { result.1 ≡ cond (slice_index_or fixed.now (slice_index_or class.now m.from 0) false) (slice_index_or class.now m.to 0) (slice_index_or class.now m.from 0) }
+    ensures stays { result.0 ≡ cond (slice_index_or fixed.now (slice_index_or class.now m.from 0) false)
+        (slice_index_or class.now m.from 0) (slice_index_or class.now m.to 0) }
+    ensures goes { result.1 ≡ cond (slice_index_or fixed.now (slice_index_or class.now m.from 0) false)
+        (slice_index_or class.now m.to 0) (slice_index_or class.now m.from 0) }
     ensures below { (result.0 < length fixed.now) × (result.1 < length fixed.now) }
 {
     let from = class[m.from];
@@ -57,10 +59,15 @@ fn join_move(
 ) -> Result<bool, NoMemory>
     requires state { IsState edges.old left.old fixed.now class.old }
     ensures state { IfOk result (λ _. IsState edges.new left.new fixed.now class.new) }
-    ensures unchanged { IfOk result (λ done. done ≡ false → (edges.new ≡ edges.old) × (left.new ≡ left.old) × (class.new ≡ class.old)) }
+    ensures unchanged { IfOk result (λ done. done ≡ false → (edges.new ≡ edges.old) × (left.new ≡ left.old)
+        × (class.new ≡ class.old)) }
     ensures fewer { IfOk result (λ done. done ≡ true → left_count left.new < left_count left.old) }
-    ensures not_joined { IfOk result (λ done. done ≡ false → (g : Graph) → IsInterference g → IsKept g edges.old left.old fixed.now class.old → MayJoinMove k g (class_in class.old) m → ⊥) }
-    ensures joined { IfOk result (λ done. done ≡ true → (g : Graph) → IsInterference g → IsKept g edges.old left.old fixed.now class.old → MayJoinMove k g (class_in class.old) m × IsKept g edges.new left.new fixed.now class.new × (class_in class.new ≡ after_move g (class_in class.old) m)) }
+    ensures not_joined { IfOk result (λ done. done ≡ false → (g : Graph) → IsInterference g
+        → IsKept g edges.old left.old fixed.now class.old → MayJoinMove k g (class_in class.old) m → ⊥) }
+    ensures joined { IfOk result (λ done. done ≡ true → (g : Graph) → IsInterference g
+        → IsKept g edges.old left.old fixed.now class.old → MayJoinMove k g (class_in class.old) m
+        × IsKept g edges.new left.new fixed.now class.new
+        × (class_in class.new ≡ after_move g (class_in class.old) m)) }
 {
     if m.from >= class.len() || m.to >= class.len() {
         return Ok(false);
@@ -91,7 +98,12 @@ fn join_pass(
     ensures state { IfOk result (λ _. IsState edges.new left.new fixed.now class.new) }
     ensures fewer { IfOk result (λ any. any ≡ true → left_count left.new < left_count left.old) }
     ensures no_more { IfOk result (λ any. left_count left.new ≤ left_count left.old) }
-    ensures joined { IfOk result (λ any. (g : Graph) → (first : ℕ → ℕ) → IsInterference g → IsKept g edges.old left.old fixed.now class.old → IsJoinedSoFar k g (moves_of moves.now) first joins.old.items (class_in class.old) → IsKept g edges.new left.new fixed.now class.new × IsJoinedSoFar k g (moves_of moves.now) first joins.new.items (class_in class.new) × (any ≡ false → JoinsFrom k g (moves_of moves.now) (class_in class.new) [])) }
+    ensures joined { IfOk result (λ any. (g : Graph) → (first : ℕ → ℕ) → IsInterference g
+        → IsKept g edges.old left.old fixed.now class.old
+        → IsJoinedSoFar k g (moves_of moves.now) first joins.old.items (class_in class.old)
+        → IsKept g edges.new left.new fixed.now class.new
+        × IsJoinedSoFar k g (moves_of moves.now) first joins.new.items (class_in class.new) × (any ≡ false
+        → JoinsFrom k g (moves_of moves.now) (class_in class.new) [])) }
 {
     let mut any = false;
     for j in 0..moves.len() {
@@ -117,7 +129,10 @@ pub(crate) fn join_moves(
     requires few { length moves.now ≤ 2 ^ 32 }
     requires state { IsState edges.old left.old fixed.now class.old }
     ensures state { IfOk result (λ _. IsState edges.new left.new fixed.now class.new) }
-    ensures joined { IfOk result (λ joins. (g : Graph) → IsInterference g → IsKept g edges.old left.old fixed.now class.old → IsKept g edges.new left.new fixed.now class.new × JoinsFrom k g (moves_of moves.now) (class_in class.old) joins.items × (class_in class.new ≡ after_joins g (moves_of moves.now) (class_in class.old) joins.items)) }
+    ensures joined { IfOk result (λ joins. (g : Graph) → IsInterference g
+        → IsKept g edges.old left.old fixed.now class.old → IsKept g edges.new left.new fixed.now class.new
+        × JoinsFrom k g (moves_of moves.now) (class_in class.old) joins.items
+        × (class_in class.new ≡ after_joins g (moves_of moves.now) (class_in class.old) joins.items)) }
 {
     let mut joins = Vec::new(alloc);
     let mut going = true;

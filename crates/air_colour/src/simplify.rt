@@ -1,12 +1,12 @@
 //! Taking classes away, one after the other.
 
-ghost use Rattle.std.specs.Prelude.{◌≡◌, ℕ, ◌<◌, length, IfSome, IfNone, IfOk};
-ghost use Rattle.air_colour.specs.Easy.{IsEmptied};
-ghost use Rattle.air_colour.specs.Choosing.{IsNext, Simplifies};
+ghost use Rattle.std.specs.Prelude.{◌≡◌, ℕ, ◌<◌, length, IfOk};
+ghost use Rattle.air_colour.specs.Choosing.{Simplifies};
 ghost use Rattle.air_colour.specs.Kept.{graph_of, HasRoom, neighbours_left};
 
-use b3_base::NoMemory;
+use crate::worklist::{degrees_of, low_of, lower, pick};
 use air_graph::Edges;
+use b3_base::NoMemory;
 use std::alloc::Global;
 
 /// How many of the classes that are left the class `a` interferes with.
@@ -25,26 +25,8 @@ pub(crate) fn degree(edges: &Edges, left: &[bool], a: usize) -> usize
     neighbours
 }
 
-/// The class to take away next: one with fewer than `k` neighbours, while there is one, else any
-/// that holds no register. None where none is left.
-fn pick(edges: &Edges, left: &[bool], fixed: &[bool], k: usize) -> Option<usize>
-    requires room { HasRoom edges.now (length left.now) (length fixed.now) }
-    ensures next { IfSome result (λ a. IsNext k (graph_of edges.now left.now fixed.now) a) }
-    ensures emptied { IfNone result (IsEmptied (graph_of edges.now left.now fixed.now)) }
-{
-    let mut other = None;
-    for a in 0..left.len() {
-        if left[a] && !fixed[a] {
-            if degree(edges, left, a) < k {
-                return Some(a);
-            }
-            other = Some(a);
-        }
-    }
-    other
-}
-
-/// The order in which optimistic taking away takes every class without a register out of `left`.
+/// The order in which optimistic taking away takes every class without a register out of `left`. Degrees are kept, and
+/// the classes that can go stand in a list. It is refused for want of memory alone.
 pub(crate) fn simplify(
     alloc: Global,
     edges: &Edges,
@@ -56,9 +38,13 @@ pub(crate) fn simplify(
     ensures { IfOk result (λ order. Simplifies k (graph_of edges.now left.old fixed.now) order.items) }
 {
     let mut order = Vec::new(alloc);
-    while let Some(a) = pick(edges, left, fixed, k) {
+    let mut degrees = degrees_of(alloc, edges, left)?;
+    let mut low = low_of(alloc, left, fixed, &degrees, k)?;
+    let mut high = 0;
+    while let Some(a) = pick(left, fixed, &mut low, &mut high) {
         order.push(a)?;
         left[a] = false;
+        lower(edges, fixed, &mut degrees, &mut low, a, k)?;
     }
     Ok(order)
 }

@@ -158,8 +158,8 @@ moved moves from to =
           let r = in_any test moves t in
           let both = and_both (same_home r.0.from from) (same_home r.0.to to) r.2 in
           let e : r.0 ≡ goal =
-              ap (λ (h : Home). let c : Copied = record { from = h; to = r.0.to } in c) (home_same r.0.from from both.0)
-              ∙ ap (λ (h : Home). let c : Copied = record { from = from; to = h } in c) (home_same r.0.to to both.1) in
+          ap (λ (h : Home). let c : Copied = record { from = h; to = r.0.to } in c) (home_same r.0.from from both.0)
+          ∙ ap (λ (h : Home). let c : Copied = record { from = from; to = h } in c) (home_same r.0.to to both.1) in
           from_in moves goal (subst (λ (c : Copied). In c moves) e r.1),
       λ c. any_in test moves goal (to_in moves goal c) (and_from (same_home from from) (same_home to to) (same_itself from) (same_itself to)),
     )
@@ -170,16 +170,16 @@ in_filter p [] y = (λ i. absurd i, λ i. absurd i.0)
 in_filter {X} p (x ∷ xs) y =
     let more = in_filter p xs y in
     let by : (b : Bool) → p x ≡ b → (In y (cond b (x ∷ filter p xs) (filter p xs))) ↔ (((x ≡ y) ⊎ In y xs) × (p y ≡ true)) =
-        λ b. elim b as (λ (b : Bool). p x ≡ b → (In y (cond b (x ∷ filter p xs) (filter p xs))) ↔ (((x ≡ y) ⊎ In y xs) × (p y ≡ true))) [
-          | true ↦ λ e. (
-            λ i. elim i [ inl s ↦ (inl s, sym (ap p s) ∙ e) | inr j ↦ let m = more.0 j in (inr m.0, m.1) ],
-            λ q. elim q.0 [ inl s ↦ inl s | inr j ↦ inr (more.1 (j, q.1)) ],
-          )
-          | false ↦ λ e. (
-            λ i. let m = more.0 i in (inr m.0, m.1),
-            λ q. elim q.0 [ inl s ↦ absurd (false≢true (sym e ∙ ap p s ∙ q.1)) | inr j ↦ more.1 (j, q.1) ],
-          )
-        ] in
+    λ b. elim b as (λ (b : Bool). p x ≡ b → (In y (cond b (x ∷ filter p xs) (filter p xs))) ↔ (((x ≡ y) ⊎ In y xs) × (p y ≡ true))) [
+      | true ↦ λ e. (
+        λ i. elim i [ inl s ↦ (inl s, sym (ap p s) ∙ e) | inr j ↦ let m = more.0 j in (inr m.0, m.1) ],
+        λ q. elim q.0 [ inl s ↦ inl s | inr j ↦ inr (more.1 (j, q.1)) ],
+      )
+      | false ↦ λ e. (
+        λ i. let m = more.0 i in (inr m.0, m.1),
+        λ q. elim q.0 [ inl s ↦ absurd (false≢true (sym e ∙ ap p s ∙ q.1)) | inr j ↦ more.1 (j, q.1) ],
+      )
+    ] in
     by (p x) refl
 
 pub filtered : {X : Type 0} (p : X → Bool) (xs : List X) (y : X) → Contains (filter p xs) y ↔ (Contains xs y × (p y ≡ true))

@@ -61,8 +61,11 @@ live_from used late defined live list e y =
         | inl i ↦ elim (first.0 i) [
           | inl j ↦
               let k = kept.0 j in
-              inr (k.0, λ d. false≢true (sym (not_true (in_list defined y || (in_list used y || in_list late y)) k.1)
-              ∙ or_left (in_list defined y) (in_list used y || in_list late y) ((listed defined y).1 d)))
+              inr (
+                k.0,
+                λ d. false≢true (sym (not_true (in_list defined y || (in_list used y || in_list late y)) k.1)
+                    ∙ or_left (in_list defined y) (in_list used y || in_list late y) ((listed defined y).1 d)),
+              )
           | inr j ↦ inl (inl j)
         ]
         | inr i ↦ inl (inr i)
@@ -94,10 +97,13 @@ module _ (tmps : ℕ) (t : Touched) (live : List ℕ) (x : ℕ) where
       let both = moved t.moves (home_at tmps y) (home_at tmps x) in (
         λ c. let k = (filtered is_apart live y).0 c in
             (k.0, λ m. false≢true (sym (not_true (is_move t.moves (home_at tmps y) (home_at tmps x)) k.1) ∙ both.1 m)),
-        λ c. (filtered is_apart live y).1 (c.0, elim (either (is_move t.moves (home_at tmps y) (home_at tmps x))) [
-          | inl is ↦ absurd (c.1 (both.0 is))
-          | inr none ↦ false_not (is_move t.moves (home_at tmps y) (home_at tmps x)) none
-        ]),
+        λ c. (filtered is_apart live y).1 (
+          c.0,
+          elim (either (is_move t.moves (home_at tmps y) (home_at tmps x))) [
+            | inl is ↦ absurd (c.1 (both.0 is))
+            | inr none ↦ false_not (is_move t.moves (home_at tmps y) (home_at tmps x)) none
+          ],
+        ),
       )
 
   three : (y : ℕ) → Contains ((filter is_apart live ++ t.late) ++ t.defined) y
@@ -260,9 +266,11 @@ module _ (p : AirProc) (block place : ℕ) (i : AirInst) (stands : StandsAt p bl
     early_iff = (
       λ c.
           let r = picked (early_of p.tmps) i.operands a (to_in (filter_map (early_of p.tmps) i.operands) a (subst (λ (l : List ℕ). Contains l a) is.early c)) in
-          let e = early_role_is p.tmps a r.0.role r.0.arg r.2 in
-          (r.0.width, from_in i.operands (record { role = EarlyDef; width = r.0.width; arg = At (home_at p.tmps a) })
-              (subst (λ (o : Operand). In o i.operands) (operand_is r.0 (home_at p.tmps a) e.1 e.2) r.1)),
+          let e = early_role_is p.tmps a r.0.role r.0.arg r.2 in (
+            r.0.width,
+            from_in i.operands (record { role = EarlyDef; width = r.0.width; arg = At (home_at p.tmps a) })
+                (subst (λ (o : Operand). In o i.operands) (operand_is r.0 (home_at p.tmps a) e.1 e.2) r.1),
+          ),
       λ c. subst (λ (l : List ℕ). Contains l a) (sym is.early)
           (from_in (filter_map (early_of p.tmps) i.operands) a
           (picks (early_of p.tmps) i.operands a (record { role = EarlyDef; width = c.0; arg = At (home_at p.tmps a) })
@@ -276,26 +284,32 @@ module _ (p : AirProc) (block place : ℕ) (i : AirInst) (stands : StandsAt p bl
       ↔ Meets p (record { block = block; place = place }) i (home_at p.tmps a) (home_at p.tmps b)
   meets_iff live a b la lb lives =
       let moves : Contains t.moves (record { from = home_at p.tmps b; to = home_at p.tmps a }) ↔ IsCopied i (home_at p.tmps b) (home_at p.tmps a) =
-          subst (λ (l : List Copied). Contains l (record { from = home_at p.tmps b; to = home_at p.tmps a }) ↔ IsCopied i (home_at p.tmps b) (home_at p.tmps a))
-          (sym is.moves) (copied_is i (home_at p.tmps b) (home_at p.tmps a)) in (
-        λ c. ((defined_iff a la).0 c.0, elim c.1 [
-          | inl q ↦ inl (lives.0 q.0, λ m. q.1 (moves.1 m))
-          | inr q ↦ inr (elim q [
-            | inl r ↦ inl ((late_iff b lb).0 r)
-            | inr r ↦ inr (elim r [
-              | inl s ↦ inl ((early_iff a la).0 s.0, (used_iff b lb).0 s.1)
-              | inr s ↦ inr ((defined_iff b lb).0 s)
+      subst (λ (l : List Copied). Contains l (record { from = home_at p.tmps b; to = home_at p.tmps a }) ↔ IsCopied i (home_at p.tmps b) (home_at p.tmps a))
+      (sym is.moves) (copied_is i (home_at p.tmps b) (home_at p.tmps a)) in (
+        λ c. (
+          (defined_iff a la).0 c.0,
+          elim c.1 [
+            | inl q ↦ inl (lives.0 q.0, λ m. q.1 (moves.1 m))
+            | inr q ↦ inr (elim q [
+              | inl r ↦ inl ((late_iff b lb).0 r)
+              | inr r ↦ inr (elim r [
+                | inl s ↦ inl ((early_iff a la).0 s.0, (used_iff b lb).0 s.1)
+                | inr s ↦ inr ((defined_iff b lb).0 s)
+              ])
             ])
-          ])
-        ]),
-        λ c. ((defined_iff a la).1 c.0, elim c.1 [
-          | inl q ↦ inl (lives.1 q.0, λ m. q.1 (moves.0 m))
-          | inr q ↦ inr (elim q [
-            | inl r ↦ inl ((late_iff b lb).1 r)
-            | inr r ↦ inr (elim r [
-              | inl s ↦ inl ((early_iff a la).1 s.0, (used_iff b lb).1 s.1)
-              | inr s ↦ inr ((defined_iff b lb).1 s)
+          ],
+        ),
+        λ c. (
+          (defined_iff a la).1 c.0,
+          elim c.1 [
+            | inl q ↦ inl (lives.1 q.0, λ m. q.1 (moves.0 m))
+            | inr q ↦ inr (elim q [
+              | inl r ↦ inl ((late_iff b lb).1 r)
+              | inr r ↦ inr (elim r [
+                | inl s ↦ inl ((early_iff a la).1 s.0, (used_iff b lb).1 s.1)
+                | inr s ↦ inr ((defined_iff b lb).1 s)
+              ])
             ])
-          ])
-        ]),
+          ],
+        ),
       )

@@ -142,7 +142,7 @@ numbered tmps (Reg r) n e =
                 elim (cases_lt r.0 29) [
                   | inl lt ↦
                       let same : tmps + (r.0 - 4) ≡ n =
-                          some_is (tmps + (r.0 - 4)) n (sym (ap (above tmps) (if_less r.0 29 (Some (r.0 - 4)) None lt)) ∙ e2) in
+                      some_is (tmps + (r.0 - 4)) n (sym (ap (above tmps) (if_less r.0 29 (Some (r.0 - 4)) None lt)) ∙ e2) in
                       let high : register_at (n - tmps) ≡ n - tmps + 4 = register_high (n - tmps) (omega (arith, same, le2)) in
                       (omega (arith, lt, same, le2), at r.0 n (omega (arith, same)) (omega (arith, same, high, le2)))
                   | inr le3 ↦

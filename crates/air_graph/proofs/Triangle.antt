@@ -138,7 +138,8 @@ added_up pairs i j x y lt =
 turned : (i j x y : ℕ) → ArePair j i x y → ArePair i j x y
 turned i j x y p = elim p [ inl q ↦ inr q | inr q ↦ inl q ]
 
-pub added : (pairs : BitSet) (i j x y : ℕ) → (i ≡ j → ⊥) → (edge_in (set.insert pairs (pair_of i j)) x y ≡ true) ↔ ((edge_in pairs x y ≡ true) ⊎ ArePair i j x y)
+pub added : (pairs : BitSet) (i j x y : ℕ) → (i ≡ j → ⊥) → (edge_in (set.insert pairs (pair_of i j)) x y ≡ true) ↔ ((edge_in pairs x y ≡ true)
+    ⊎ ArePair i j x y)
 added pairs i j x y differ =
     elim (cases_lt i j) [
       | inl lt ↦ rw (lt-ltb i j lt) (added_up pairs i j x y lt)

@@ -108,7 +108,8 @@ module _ (p : AirProc) (block : ℕ) (inside : block < length p.blocks) where
                 )
           ]
 
-    module _ (law : LiveByTouches) (lives : LiveOn) (t : Touched) (is : (i : AirInst) → StandsAt p block place i → IsTouchedOf p.tmps (touches_at p block place) i t)
+    module _ (law : LiveByTouches) (lives : LiveOn) (t : Touched) (is : (i : AirInst) → StandsAt p block place i
+        → IsTouchedOf p.tmps (touches_at p block place) i t)
         (live : List ℕ) (now : LiveNow p block (place + 1) live) where
       touched : IsTouchedOf p.tmps (touches_at p block place) inst t
       touched = is inst stands
@@ -140,10 +141,13 @@ module _ (p : AirProc) (block : ℕ) (inside : block < length p.blocks) where
             let late = late_iff p block place inst stands t touched n below in
             let defined = defined_iff p block place inst stands t touched n below in
             let after = lives_after n below in (
-              λ c. inl (lt, touches.1 (elim ((both n).0 c) [
-                | inl u ↦ inl (elim u [ inl v ↦ inl (used.0 v) | inr v ↦ inr (late.0 v) ])
-                | inr v ↦ inr (after.0 v.0, λ d. v.1 (defined.1 d))
-              ])),
+              λ c. inl (
+                lt,
+                touches.1 (elim ((both n).0 c) [
+                  | inl u ↦ inl (elim u [ inl v ↦ inl (used.0 v) | inr v ↦ inr (late.0 v) ])
+                  | inr v ↦ inr (after.0 v.0, λ d. v.1 (defined.1 d))
+                ]),
+              ),
               λ l. (both n).1 (elim l [
                 | inl q ↦ elim (touches.0 q.1) [
                   | inl u ↦ inl (elim u [ inl v ↦ inl (used.1 v) | inr v ↦ inr (late.1 v) ])
@@ -164,9 +168,9 @@ module _ (p : AirProc) (block : ℕ) (inside : block < length p.blocks) where
             λ m. (inst, stands, elim m [ inl q ↦ inl (one.0 q) | inr q ↦ inr (other.0 q) ]),
             λ m.
                 let q : Meets p (record { block = block; place = place }) inst (home_at p.tmps a) (home_at p.tmps b)
-                    ⊎ Meets p (record { block = block; place = place }) inst (home_at p.tmps b) (home_at p.tmps a) =
-                    subst (λ (j : AirInst). Meets p (record { block = block; place = place }) j (home_at p.tmps a) (home_at p.tmps b)
-                    ⊎ Meets p (record { block = block; place = place }) j (home_at p.tmps b) (home_at p.tmps a)) (only m.0 m.1) m.2 in
+                ⊎ Meets p (record { block = block; place = place }) inst (home_at p.tmps b) (home_at p.tmps a) =
+                subst (λ (j : AirInst). Meets p (record { block = block; place = place }) j (home_at p.tmps a) (home_at p.tmps b)
+                ⊎ Meets p (record { block = block; place = place }) j (home_at p.tmps b) (home_at p.tmps a)) (only m.0 m.1) m.2 in
                 elim q [ inl r ↦ inl (one.1 r) | inr r ↦ inr (other.1 r) ],
           )
 
@@ -200,11 +204,11 @@ pub none_behind : (p : AirProc) (block : ℕ) (old : EdgeSet)
 none_behind p block old =
     adds_first (p.tmps + 25) old (λ a b. (at : ℕ) × (length (block_of p block).insts ≤ at) × MeetAt p block at a b)
     (λ a b _ _ _ q.
-        let s : StandsAt p block q.0 q.2.0 = q.2.1 in
-        let there = slice_get_within s.of.insts q.0 q.2.0 s.inst_there in
-        let e : block_of p block ≡ s.of = block_is p block s.of s.block_there in
-        let long : length (block_of p block).insts ≡ length s.of.insts = ap (λ (b : AirBlock). length b.insts) e in
-        omega (arith, there, long, q.1))
+    let s : StandsAt p block q.0 q.2.0 = q.2.1 in
+    let there = slice_get_within s.of.insts q.0 q.2.0 s.inst_there in
+    let e : block_of p block ≡ s.of = block_is p block s.of s.block_there in
+    let long : length (block_of p block).insts ≡ length s.of.insts = ap (λ (b : AirBlock). length b.insts) e in
+    omega (arith, there, long, q.1))
 
 -- ---- blocks
 
@@ -243,16 +247,22 @@ module _ (p : AirProc) (i j : ℕ) (li : i < p.tmps + 25) (lj : j < p.tmps + 25)
 
   pub interfere_is : ((i ≡ j → ⊥) × (AreHigh p.tmps i j ⊎ MeetBelow p (length p.blocks) i j)) ↔ Interfere p (home_at p.tmps i) (home_at p.tmps j)
   interfere_is = (
-    λ q. (λ e. q.0 (same_number e), elim q.1 [
-      | inl h ↦ inl (record { 0 = register_at (i - p.tmps) }, record { 0 = register_at (j - p.tmps) }, home_high p.tmps i h.0, home_high p.tmps j h.1)
-      | inr m ↦ inr (record { block = m.0; place = m.2.0 }, m.2.1.0, m.2.1.1, m.2.1.2)
-    ]),
-    λ q. (λ e. q.0 (ap (home_at p.tmps) e), elim q.1 [
-      | inl r ↦ inl (high_is i r.0 r.2, high_is j r.1 r.3)
-      | inr m ↦
-          let s : StandsAt p m.0.block m.0.place m.1 = m.2 in
-          inr (m.0.block, slice_get_within p.blocks m.0.block s.of s.block_there, (m.0.place, (m.1, s, m.3)))
-    ]),
+    λ q. (
+      λ e. q.0 (same_number e),
+      elim q.1 [
+        | inl h ↦ inl (record { 0 = register_at (i - p.tmps) }, record { 0 = register_at (j - p.tmps) }, home_high p.tmps i h.0, home_high p.tmps j h.1)
+        | inr m ↦ inr (record { block = m.0; place = m.2.0 }, m.2.1.0, m.2.1.1, m.2.1.2)
+      ],
+    ),
+    λ q. (
+      λ e. q.0 (ap (home_at p.tmps) e),
+      elim q.1 [
+        | inl r ↦ inl (high_is i r.0 r.2, high_is j r.1 r.3)
+        | inr m ↦
+            let s : StandsAt p m.0.block m.0.place m.1 = m.2 in
+            inr (m.0.block, slice_get_within p.blocks m.0.block s.of s.block_there, (m.0.place, (m.1, s, m.3)))
+      ],
+    ),
   )
 
 -- what the edges of the whole walk are

@@ -21,7 +21,8 @@ pub record EdgeSet : Type 0 where
 -- whether there is an edge between two numbers: there is none from a number to itself
 abbrev pub has_edge : EdgeSet → ℕ → ℕ → Bool
 has_edge e i j =
-    cond (nat_lt i j) (set.contains e.pairs (pair_number i j)) (cond (nat_lt j i) (set.contains e.pairs (pair_number j i)) false)
+    cond (nat_lt i j) (set.contains e.pairs (pair_number i j)) (cond (nat_lt j i) (set.contains e.pairs
+    (pair_number j i)) false)
 
 -- two numbers are i and j, in one order or the other
 abbrev pub ArePair : ℕ → ℕ → ℕ → ℕ → Type 0
@@ -30,7 +31,8 @@ ArePair i j x y = ((x ≡ i) × (y ≡ j)) ⊎ ((x ≡ j) × (y ≡ i))
 -- edges are stored as the pair of their fields
 abbrev pub edge_set_code : Coded EdgeSet
 edge_set_code =
-    code_by (ℕ × BitSet) (coded× coded_ℕ (set.code coded_ℕ)) (λ e. (e.names, e.pairs)) (λ p. record { names = p.0; pairs = p.1 }) (λ _. refl)
+    code_by (ℕ × BitSet) (coded× coded_ℕ (set.code coded_ℕ)) (λ e. (e.names, e.pairs))
+    (λ p. record { names = p.0; pairs = p.1 }) (λ _. refl)
 
 -- 1 where the test holds
 abbrev pub one : Bool → ℕ

@@ -98,7 +98,8 @@ impl Edges {
         requires j { j < self.old.names }
         requires differ { i ≢ j }
         ensures names { self.new.names ≡ self.old.names }
-        ensures edges { OnOk result ((x y : ℕ) → (has_edge self.new x y ≡ true) ↔ ((has_edge self.old x y ≡ true) ⊎ ArePair i j x y)) }
+        ensures edges { OnOk result ((x y : ℕ) → (has_edge self.new x y ≡ true) ↔ ((has_edge self.old x y ≡ true)
+            ⊎ ArePair i j x y)) }
         ensures err { OnErr result (self.new ≡ self.old) }
     {
         if self.has(i, j) {

@@ -6,8 +6,8 @@ ghost use Rattle.air_graph.specs.Homes.{edge_between, number_of};
 
 use crate::edges::Edges;
 use crate::homes::number_of;
-use crate::walk::add_registers;
 use crate::moves::Copied;
+use crate::walk::add_registers;
 use air_ir::Home;
 use b3_base::{NoMemory, Seq};
 use std::alloc::Global;
@@ -53,7 +53,8 @@ impl Interference {
         ensures tmps { self.new.tmps ≡ self.old.tmps }
         ensures moves { self.new.moves ≡ self.old.moves }
         ensures names { self.new.edges.names ≡ self.old.edges.names }
-        ensures edges { OnOk result ((x y : ℕ) → (has_edge self.new.edges x y ≡ true) ↔ ((has_edge self.old.edges x y ≡ true) ⊎ ArePair i j x y)) }
+        ensures edges { OnOk result ((x y : ℕ) → (has_edge self.new.edges x y ≡ true)
+            ↔ ((has_edge self.old.edges x y ≡ true) ⊎ ArePair i j x y)) }
         ensures err { OnErr result (self.new.edges ≡ self.old.edges) }
     {
         self.edges.add(i, j)

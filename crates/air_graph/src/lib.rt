@@ -9,6 +9,8 @@ mod live;
 mod met;
 mod moves;
 mod near;
+#[cfg(test)]
+mod tests;
 mod touched;
 mod walk;
 

@@ -38,7 +38,8 @@ pub(crate) fn live_out(
 
 /// The homes that are live after an instruction and aren't touched by it.
 fn untouched(alloc: Global, t: &Touched, live: &[usize]) -> Result<Numbers, NoMemory>
-    ensures { IfOk result (λ list. list ≡ filter (λ y. not (in_list t.now.defined y || (in_list t.now.used y || in_list t.now.late y))) live.now) }
+    ensures { IfOk result (λ list. list ≡ filter (λ y. not (in_list t.now.defined y ||
+        (in_list t.now.used y || in_list t.now.late y))) live.now) }
 {
     let mut list = Numbers::new(alloc);
     for y in live {

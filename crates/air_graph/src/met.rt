@@ -51,7 +51,8 @@ fn has_home(homes: &[Home], home: Home) -> bool
 
 /// The homes that moves copy to a home.
 fn sources_of(alloc: Global, moves: &[Copied], to: Home) -> Result<Seq<Home>, NoMemory>
-    ensures { IfOk result (λ homes. (from : Home) → list_any (λ h. same_home h from) homes ≡ is_move moves.now from to) }
+    ensures { IfOk result (λ homes. (from : Home)
+        → list_any (λ h. same_home h from) homes ≡ is_move moves.now from to) }
 {
     let mut homes = Seq::new(alloc);
     for m in moves {
@@ -72,7 +73,8 @@ fn apart(
 ) -> Result<Numbers, NoMemory>
     requires x { x < tmps + 25 }
     requires live { AreBelow (tmps + 25) live.now }
-    ensures { IfOk result (λ list. list ≡ filter (λ y. not (is_move moves.now (home_at tmps y) (home_at tmps x))) live.now) }
+    ensures { IfOk result (λ list. list ≡ filter (λ y. not (is_move moves.now (home_at tmps y)
+        (home_at tmps x))) live.now) }
 {
     let sources = sources_of(alloc, moves, home_at(tmps, x))?;
     let mut list = Numbers::new(alloc);
@@ -110,7 +112,8 @@ fn add_all(edges: &mut Edges, x: usize, met: &[usize]) -> Result<(), NoMemory>
     requires x { x < edges.old.names }
     requires met { AreBelow edges.old.names met.now }
     ensures names { edges.new.names ≡ edges.old.names }
-    ensures edges { OnOk result (Adds edges.old.names edges.old edges.new (λ a b. ((a ≡ x) × Contains met.now b) ⊎ ((b ≡ x) × Contains met.now a))) }
+    ensures edges { OnOk result (Adds edges.old.names edges.old edges.new (λ a b. ((a ≡ x) × Contains met.now b)
+        ⊎ ((b ≡ x) × Contains met.now a))) }
 {
     for y in met {
         if *y != x {
@@ -136,7 +139,8 @@ pub(crate) fn add_defined(
     requires all { t.now.defined ≡ defined.now }
     requires defined { AreBelow (tmps + 25) defined.now }
     ensures names { edges.new.names ≡ edges.old.names }
-    ensures edges { OnOk result (Adds (tmps + 25) edges.old edges.new (λ a b. (Contains defined.now a × IsMet tmps t.now live.now a b)
+    ensures edges { OnOk result (Adds (tmps + 25) edges.old edges.new (λ a b. (Contains defined.now a
+        × IsMet tmps t.now live.now a b)
         ⊎ (Contains defined.now b × IsMet tmps t.now live.now b a))) }
 {
     for x in defined {

@@ -82,7 +82,8 @@ fn shorten_at(lists: &mut [Near], i: usize)
     requires { i < length lists.old }
     ensures long { length lists.new ≡ length lists.old }
     ensures others { (a : ℕ) → a ≢ i → slice_index_or lists.new a [] ≡ slice_index_or lists.old a [] }
-    ensures short { slice_index_or lists.new i [] ≡ take (length (slice_index_or lists.old i []) - 1) (slice_index_or lists.old i []) }
+    ensures short { slice_index_or lists.new i [] ≡ take (length (slice_index_or lists.old i []) - 1)
+        (slice_index_or lists.old i []) }
 {
     lists[i].shorten();
 }

@@ -23,7 +23,8 @@ fn add_register(edges: &mut Edges, tmps: usize, r: usize) -> Result<(), NoMemory
     requires sized { tmps + r < edges.old.names }
     requires few { edges.old.names ≤ 2 ^ 17 }
     ensures names { edges.new.names ≡ edges.old.names }
-    ensures edges { OnOk result (Adds edges.old.names edges.old edges.new (λ x y. ((x ≡ tmps + r) × ((tmps ≤ y) × (y < tmps + r)))
+    ensures edges { OnOk result (Adds edges.old.names edges.old edges.new (λ x y. ((x ≡ tmps + r) × ((tmps ≤ y)
+        × (y < tmps + r)))
         ⊎ ((y ≡ tmps + r) × ((tmps ≤ x) × (x < tmps + r))))) }
 {
     for s in 0..r {
@@ -57,7 +58,8 @@ fn add_block(
     requires sized { edges.old.names ≡ flow.now.proc.now.tmps + 25 }
     requires block { block < length flow.now.proc.now.blocks }
     ensures names { edges.new.names ≡ edges.old.names }
-    ensures edges { OnOk result (Adds edges.old.names edges.old edges.new (λ x y. (place : ℕ) × MeetAt flow.now.proc.now block place x y)) }
+    ensures edges { OnOk result (Adds edges.old.names edges.old edges.new (λ x y. (place : ℕ)
+        × MeetAt flow.now.proc.now block place x y)) }
 {
     live_homes();
     let tmps = flow.proc.tmps;

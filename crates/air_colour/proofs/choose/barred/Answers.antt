@@ -5,7 +5,8 @@ use Rattle.air_colour.proofs.choose.barred.Goals as goal
 
 pub bounds-given-x : goal.bounds-given-x
 bounds-given-x c =
-    let lt = c.near-near.ensures.below (get_or c.near-near.result.now c.loop-x.x-index 0) (Contains-get_or c.near-near.result.now c.loop-x.x-index 0 c.loop-x-test.true) in
+    let lt = c.near-near.ensures.below (get_or c.near-near.result.now c.loop-x.x-index 0)
+    (Contains-get_or c.near-near.result.now c.loop-x.x-index 0 c.loop-x-test.true) in
     omega (arith, lt, c.requires.room.names)
 
 pub returns-then-eq : goal.returns-then-eq

@@ -29,9 +29,10 @@ returns-clause-coloured c =
     let given : List (Option ℕ) = c.in_ok-colouring.colouring.given.items in
     let joins : List ℕ = c.in_ok-colouring.colouring.joins.items in
     let moves : c.as_slice-2.result.now ≡ map (move_of g.tmps) g.moves =
-        c.as_slice-2.ensures ∙ c.in_ok-moves.ensures ∙ ap (λ (l : List Copied). map (move_of g.tmps) l) c.as_slice.ensures in
+    c.as_slice-2.ensures ∙ c.in_ok-moves.ensures ∙ ap (λ (l : List Copied). map (move_of g.tmps) l) c.as_slice.ensures in
     assigned g given joins c.in_ok-colouring.ensures.long
-    (subst (λ (l : List Move). IsColouring colours (graph_in g) (register_of g.tmps) (moves_of l) joins (given_in given)) moves c.in_ok-colouring.ensures.coloured)
+    (subst (λ (l : List Move). IsColouring colours (graph_in g) (register_of g.tmps) (moves_of l) joins
+    (given_in given)) moves c.in_ok-colouring.ensures.coloured)
     _ (c.in_ok-homes.ensures ∙ ap (λ (l : List (Option ℕ)). map as_register (take g.tmps l)) c.deref.ensures.value)
     (c.in_ok-extend.ensures.ok ∙ ap (λ (l : List ℕ). l ++ c.deref-2.result.now) c.new-joins.ensures ∙ c.deref-2.ensures.value)
 

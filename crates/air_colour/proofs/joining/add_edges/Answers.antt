@@ -28,5 +28,5 @@ pub returns-clause-meets : goal.returns-clause-meets
 returns-clause-meets c =
     let end : c.loop-x.x-index ≡ length c.args.near.now = omega (arith, c.loop-x-test.false, c.loop-x.auto.x-index-end) in
     let all : take c.loop-x.x-index c.args.near.now ≡ c.args.near.now =
-        ap (λ (k : ℕ). take k c.args.near.now) end ∙ take-length c.args.near.now in
+    ap (λ (k : ℕ). take k c.args.near.now) end ∙ take-length c.args.near.now in
     subst (λ (l : List ℕ). (y z : ℕ) → JoinedTo c.args.edges.now c.loop-x.edges c.args.a l y z) all c.loop-x.invariant.meets

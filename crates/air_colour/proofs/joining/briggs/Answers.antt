@@ -10,13 +10,13 @@ use Rattle.air_colour.proofs.joining.briggs.Goals as goal
 pub returns-then-first-k : goal.returns-then-first-k
 returns-then-first-k c =
     let all = split_count (λ x. slice_index_or c.args.left.now x false) (has c.args.edges.now c.args.a) (has c.args.edges.now c.args.b)
-        (is_significant c.args.k (graph_of c.args.edges.now c.args.left.now c.args.fixed.now)) (length c.args.left.now) in
+    (is_significant c.args.k (graph_of c.args.edges.now c.args.left.now c.args.fixed.now)) (length c.args.left.now) in
     (λ t. absurd (false≢true t), λ lt. absurd (omega (arith, all, lt, c.significant_near-first.ensures, c.if-first-k.true)))
 
 pub returns : goal.returns
 returns c =
     let all = split_count (λ x. slice_index_or c.args.left.now x false) (has c.args.edges.now c.args.a) (has c.args.edges.now c.args.b)
-        (is_significant c.args.k (graph_of c.args.edges.now c.args.left.now c.args.fixed.now)) (length c.args.left.now) in (
+    (is_significant c.args.k (graph_of c.args.edges.now c.args.left.now c.args.fixed.now)) (length c.args.left.now) in (
       λ t.
           let lt = ltb-true c.significant_beyond.result (c.args.k - c.significant_near-first.result) t in
           omega (arith, all, lt, c.significant_near-first.ensures, c.significant_beyond.ensures, c.if-first-k.false),

@@ -11,14 +11,14 @@ add_edges-requires-clause-below c x i =
 pub add_edges-requires-clause-differ : goal.add_edges-requires-clause-differ
 add_edges-requires-clause-differ c x i e =
     let t : has c.args.edges.now c.args.b x ≡ true =
-        (c.near.ensures.is.all x).0 (subst (λ (l : List ℕ). Contains l x) (c.deref.ensures.value ∙ c.in_ok-near.ensures.items) i) in
+    (c.near.ensures.is.all x).0 (subst (λ (l : List ℕ). Contains l x) (c.deref.ensures.value ∙ c.in_ok-near.ensures.items) i) in
     false≢true (sym c.requires.apart ∙ subst (λ (z : ℕ). has c.args.edges.now c.args.b z ≡ true) e t)
 
 pub returns-clause-meets : goal.returns-clause-meets
 returns-clause-meets c y z _ _ =
     let same : c.deref.result.now ≡ c.near.result.now = c.deref.ensures.value ∙ c.in_ok-near.ensures.items in
     let both : JoinedTo c.args.edges.now c.add_edges.new.edges c.args.a c.near.result.now y z =
-        subst (λ (l : List ℕ). JoinedTo c.args.edges.now c.add_edges.new.edges c.args.a l y z) same (c.in_ok-add_edges.ensures.meets y z) in
+    subst (λ (l : List ℕ). JoinedTo c.args.edges.now c.add_edges.new.edges c.args.a l y z) same (c.in_ok-add_edges.ensures.meets y z) in
     let at_y = c.near.ensures.is.all y in
     let at_z = c.near.ensures.is.all z in (
       λ t. elim (both.0 t) [

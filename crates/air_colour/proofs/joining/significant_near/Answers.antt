@@ -8,7 +8,8 @@ use Rattle.air_colour.proofs.joining.significant_near.Goals as goal
 
 pub counts-requires-clause-x : goal.counts-requires-clause-x
 counts-requires-clause-x c =
-    let lt = c.near-near.ensures.below (get_or c.near-near.result.now c.loop-x.x-index 0) (Contains-get_or c.near-near.result.now c.loop-x.x-index 0 c.loop-x-test.true) in
+    let lt = c.near-near.ensures.below (get_or c.near-near.result.now c.loop-x.x-index 0)
+    (Contains-get_or c.near-near.result.now c.loop-x.x-index 0 c.loop-x-test.true) in
     omega (arith, lt, c.requires.room.names)
 
 pub returns : goal.returns
@@ -17,5 +18,6 @@ returns c =
     c.loop-x.invariant.counted
     ∙ ap (λ k. count_by (λ x. significant_left c.args.k c.args.edges.now c.args.left.now c.args.fixed.now x) (take k c.near-near.result.now)) end
     ∙ ap (count_by (λ x. significant_left c.args.k c.args.edges.now c.args.left.now c.args.fixed.now x)) (take-length c.near-near.result.now)
-    ∙ sym (listed_count (λ x. significant_left c.args.k c.args.edges.now c.args.left.now c.args.fixed.now x) (has c.args.edges.now c.args.a) c.near-near.result.now (length c.args.left.now)
+    ∙ sym (listed_count (λ x. significant_left c.args.k c.args.edges.now c.args.left.now c.args.fixed.now x)
+    (has c.args.edges.now c.args.a) c.near-near.result.now (length c.args.left.now)
     c.near-near.ensures.is (λ x i. let lt = c.near-near.ensures.below x i in omega (arith, lt, c.requires.room.names)))

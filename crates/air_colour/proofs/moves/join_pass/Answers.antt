@@ -20,7 +20,8 @@ loop-j-preserved c =
                 let before = c.loop-j.invariant.joined g first is kept so in
                 let now = c.in_ok-joined.ensures.joined w.if-joined.true g is before.0 in (
                   now.1,
-                  one_joined c.args.k g (moves_of c.args.moves.now) first c.loop-j.joins.items c.if-joined.joins.items (class_in c.loop-j.class) (class_in c.join_move.new.class) c.loop-j.j
+                  one_joined c.args.k g (moves_of c.args.moves.now) first c.loop-j.joins.items c.if-joined.joins.items (class_in c.loop-j.class)
+                      (class_in c.join_move.new.class) c.loop-j.j
                       before.1 c.loop-j-test.true now.0 now.2 (ap (λ v. v.items) w.joins-is ∙ w.in_ok-push.ensures.items),
                   λ f. absurd (false≢true (sym f ∙ w.any-is)),
                 );
@@ -34,10 +35,14 @@ loop-j-preserved c =
             no_more = omega arith;
             joined = λ g first is kept so.
                 let before = c.loop-j.invariant.joined g first is kept so in (
-                  kept_unchanged g c.loop-j.edges c.join_move.new.edges c.loop-j.left c.join_move.new.left c.args.fixed.now c.loop-j.class c.join_move.new.class same.0 same.1 same.2 before.0,
-                  subst (λ (l : List ℕ). IsJoinedSoFar c.args.k g (moves_of c.args.moves.now) first l (class_in c.join_move.new.class)) (sym (ap (λ v. v.items) w.joins-is))
-                      (subst (λ (l : List ℕ). IsJoinedSoFar c.args.k g (moves_of c.args.moves.now) first c.loop-j.joins.items (class_in l)) (sym same.2) before.1),
-                  λ f. subst (λ (l : List ℕ). (i : ℕ) → i < c.loop-j.j + 1 → MayJoinMove c.args.k g (class_in l) ((moves_of c.args.moves.now).at i) → ⊥) (sym same.2)
+                  kept_unchanged g c.loop-j.edges c.join_move.new.edges c.loop-j.left c.join_move.new.left c.args.fixed.now c.loop-j.class
+                      c.join_move.new.class same.0 same.1 same.2 before.0,
+                  subst (λ (l : List ℕ). IsJoinedSoFar c.args.k g (moves_of c.args.moves.now) first l (class_in c.join_move.new.class)) (sym (ap
+                      (λ v. v.items) w.joins-is))
+                      (subst (λ (l : List ℕ). IsJoinedSoFar c.args.k g (moves_of c.args.moves.now) first c.loop-j.joins.items (class_in l))
+                      (sym same.2) before.1),
+                  λ f. subst (λ (l : List ℕ). (i : ℕ) → i < c.loop-j.j + 1 → MayJoinMove c.args.k g (class_in l) ((moves_of c.args.moves.now).at i)
+                      → ⊥) (sym same.2)
                       (below_more _ _ (before.2 (sym w.any-is ∙ f)) (c.in_ok-joined.ensures.not_joined w.if-joined.false g is before.0)),
                 );
           }

@@ -8,7 +8,8 @@ use Rattle.air_colour.proofs.simplify.degree.Goals as goal
 
 pub bounds-left-b : goal.bounds-left-b
 bounds-left-b c =
-    let lt = c.near-near.ensures.below (get_or c.near-near.result.now c.loop-b.b-index 0) (Contains-get_or c.near-near.result.now c.loop-b.b-index 0 c.loop-b-test.true) in
+    let lt = c.near-near.ensures.below (get_or c.near-near.result.now c.loop-b.b-index 0)
+    (Contains-get_or c.near-near.result.now c.loop-b.b-index 0 c.loop-b-test.true) in
     omega (arith, lt, c.requires.room.names)
 
 pub returns : goal.returns

@@ -19,11 +19,11 @@ loop-y-preserved c =
     let y : ℕ = get_or c.args.live.now k 0 in
     let test : ℕ → Bool = λ y. not (is_move c.args.moves.now (home_at c.args.tmps y) (home_at c.args.tmps c.args.x)) in
     let is : c.has_home.result ≡ is_move c.args.moves.now (home_at c.args.tmps y) (home_at c.args.tmps c.args.x) =
-        c.has_home.ensures
-        ∙ ap (λ (l : List Home). list_any (λ h. same_home h c.home_at-in-loop-y.result) l) c.as_slice.ensures
-        ∙ c.in_ok-sources.ensures c.home_at-in-loop-y.result
-        ∙ ap (λ (h : Home). is_move c.args.moves.now h c.home_at.result) c.home_at-in-loop-y.ensures
-        ∙ ap (λ (h : Home). is_move c.args.moves.now (home_at c.args.tmps y) h) c.home_at.ensures in
+    c.has_home.ensures
+    ∙ ap (λ (l : List Home). list_any (λ h. same_home h c.home_at-in-loop-y.result) l) c.as_slice.ensures
+    ∙ c.in_ok-sources.ensures c.home_at-in-loop-y.result
+    ∙ ap (λ (h : Home). is_move c.args.moves.now h c.home_at.result) c.home_at-in-loop-y.ensures
+    ∙ ap (λ (h : Home). is_move c.args.moves.now (home_at c.args.tmps y) h) c.home_at.ensures in
     let more = filter_more test c.args.live.now k 0 c.loop-y-test.true in
     let old : List ℕ = filter test (take k c.args.live.now) in
     elim c.if-not-has_home.branch [

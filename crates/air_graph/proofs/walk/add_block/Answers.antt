@@ -59,17 +59,19 @@ loop-place-preserved c =
     let e : c.loop-place.place ≡ c.loop-place.place - 1 + 1 = omega (arith, some) in
     let lt : c.loop-place.place - 1 < length (block_of p c.args.block).insts = omega (arith, some, c.loop-place.auto.place, c.places-place.ensures) in
     let now : LiveNow p c.args.block (c.loop-place.place - 1 + 1) c.loop-place.now =
-        subst (λ (k : ℕ). LiveNow p c.args.block k c.loop-place.now) e c.loop-place.invariant.live in
+    subst (λ (k : ℕ). LiveNow p c.args.block k c.loop-place.now) e c.loop-place.invariant.live in
     record {
       names = c.add_defined.ensures.names ∙ c.loop-place.invariant.names;
-      live = live_step p c.args.block c.requires.block (c.loop-place.place - 1) some_inst lt c.live_homes.ensures.touches c.live_homes.ensures.goes_on c.in_ok-t.t
+      live = live_step p c.args.block c.requires.block
+          (c.loop-place.place - 1) some_inst lt c.live_homes.ensures.touches c.live_homes.ensures.goes_on c.in_ok-t.t
           c.in_ok-t.ensures c.loop-place.now now c.in_ok-now-2.now
           (subst (λ (l : List ℕ). (y : ℕ) → Contains c.in_ok-now-2.now y
           ↔ ((Contains c.in_ok-t.t.used y ⊎ Contains c.in_ok-t.t.late y) ⊎ (Contains l y × (Contains c.in_ok-t.t.defined y → ⊥))))
           c.as_slice-in-loop-place-2.ensures c.in_ok-now-2.ensures);
       edges = subst (λ (k : ℕ). Adds k c.args.edges.now c.add_defined.new.edges
           (λ a b. (at : ℕ) × (c.loop-place.place - 1 ≤ at) × MeetAt p c.args.block at a b)) (sym c.requires.sized)
-          (edges_step p c.args.block c.requires.block (c.loop-place.place - 1) some_inst lt c.live_homes.ensures.touches c.live_homes.ensures.goes_on c.in_ok-t.t
+          (edges_step p c.args.block c.requires.block
+          (c.loop-place.place - 1) some_inst lt c.live_homes.ensures.touches c.live_homes.ensures.goes_on c.in_ok-t.t
           c.in_ok-t.ensures c.loop-place.now now c.args.edges.now c.loop-place.edges c.add_defined.new.edges
           (subst (λ (k : ℕ). Adds k c.args.edges.now c.loop-place.edges (λ a b. (at : ℕ) × (c.loop-place.place - 1 + 1 ≤ at) × MeetAt p c.args.block at a b))
           c.requires.sized

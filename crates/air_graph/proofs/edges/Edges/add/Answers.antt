@@ -40,25 +40,25 @@ invariant_of-self-2 c =
     let names : ℕ = c.self.inside.names in
     let same = ap (λ (s : EdgeSet). s.names) c.self.view_is in
     let pair : c.if-i-j.pair ≡ pair_of c.args.i c.args.j =
-        elim c.if-i-j.branch [
-          | then-i-j w ↦ w.pair-is ∙ w.pair_number-pair.ensures ∙ rw (lt-ltb c.args.i c.args.j w.if-i-j.true) refl
-          | else-i-j w ↦ w.pair-is ∙ w.pair_number-pair-else-i-j.ensures ∙ rw (le-ltb c.args.i c.args.j (omega arith)) refl
-        ] in
+    elim c.if-i-j.branch [
+      | then-i-j w ↦ w.pair-is ∙ w.pair_number-pair.ensures ∙ rw (lt-ltb c.args.i c.args.j w.if-i-j.true) refl
+      | else-i-j w ↦ w.pair-is ∙ w.pair_number-pair-else-i-j.ensures ∙ rw (le-ltb c.args.i c.args.j (omega arith)) refl
+    ] in
     let old : BitSet = row_of c.self.inside.rows 0 in
     let n : length c.self.inside.rows.sets ≡ 1 = c.self.invariant.one in
     let now : row_of c.set.new.self 0 ≡ set.insert old (pair_of c.args.i c.args.j) =
-        ap (λ r. row_of r 0) c.set.ensures
-        ∙ get_or-set_same c.self.inside.rows.sets 0 (set.insert old c.if-i-j.pair) set.empty (omega (arith, n))
-        ∙ ap (λ k. set.insert old k) pair in
+    ap (λ r. row_of r 0) c.set.ensures
+    ∙ get_or-set_same c.self.inside.rows.sets 0 (set.insert old c.if-i-j.pair) set.empty (omega (arith, n))
+    ∙ ap (λ k. set.insert old k) pair in
     let none : edge_in old i j ≡ false =
-        ap (λ (s : EdgeSet). has_edge s c.args.i c.args.j) c.self.view_is ∙ sym c.has.ensures ∙ c.if-has.false in
+    ap (λ (s : EdgeSet). has_edge s c.args.i c.args.j) c.self.view_is ∙ sym c.has.ensures ∙ c.if-has.false in
     let edges : EdgeSet = record { names = names; pairs = old } in
     let near : List (List ℕ) = c.self.inside.near.items in
     let lists : List (List ℕ) = c.put_both.new.lists in
     let lent : c.deref_mut.result.now ≡ near = c.deref_mut.ensures.value in
     let long : length lists ≡ length near = c.put_both.ensures.long ∙ ap (λ (l : List (List ℕ)). length l) lent in
     let back : take c.self.inside.near.len (lists ++ drop (length lists) near) ≡ lists =
-        take_at lists (drop (length lists) near) c.self.inside.near.len (omega arith) in
+    take_at lists (drop (length lists) near) c.self.inside.near.len (omega arith) in
     record {
       one = ap (λ (r : BitRows). length r.sets) c.set.ensures ∙ length-set c.self.inside.rows.sets 0 (set.insert old c.if-i-j.pair) ∙ n;
       bits = ap (λ (r : BitRows). r.bits) c.set.ensures ∙ c.self.invariant.bits;
@@ -79,7 +79,7 @@ invariant_of-self c =
     let lent : c.deref_mut.result.now ≡ near = c.deref_mut.ensures.value in
     let long : length lists ≡ length near = c.put_both.ensures.long ∙ ap (λ (l : List (List ℕ)). length l) lent in
     let back : take c.self.inside.near.len (lists ++ drop (length lists) near) ≡ lists =
-        take_at lists (drop (length lists) near) c.self.inside.near.len (omega arith) in
+    take_at lists (drop (length lists) near) c.self.inside.near.len (omega arith) in
     record {
       one = c.self.invariant.one;
       bits = c.self.invariant.bits;
