@@ -1,5 +1,5 @@
 -- Counting neighbours by their list.
-use Rattle.std.proofs.Common.{◌≡◌, ℕ, zero, suc, ◌+◌, ◌<◌, ◌⊎◌, ◌↔◌, inl, inr, Bool, true, false, cond, not, ◌&&◌, ◌||◌, eqb, List, [], ◌∷◌, arith, refl, sym, ◌∙◌, ap, subst}
+use Rattle.std.proofs.Common.{◌≡◌, ℕ, zero, suc, ◌+◌, ◌<◌, ◌≤◌, ◌⊎◌, ◌↔◌, inl, inr, Bool, true, false, cond, not, ◌&&◌, ◌||◌, eqb, List, [], ◌∷◌, take, arith, refl, sym, ◌∙◌, ap, subst}
 use Rattle.std.specs.Prelude.{Contains, count_by}
 use Rattle.std.proofs.lemmas.Bool.{cases_eq, eq-eqb, false≢true, ne_eqb}
 use Rattle.std.proofs.lemmas.List.Sums.{sum_by-cons}
@@ -82,3 +82,13 @@ split_count l a b s (suc n) =
     let rest = split_count l a b s n in
     let here = split_bits (l n) (a n) (b n) (s n) in
     omega (arith, rest, here)
+
+-- a front has no more that pass
+pub count_front : (p : ℕ → Bool) (xs : List ℕ) (i : ℕ) → count_by p (take i xs) ≤ count_by p xs
+count_front p xs zero = omega arith
+count_front p [] (suc i) = omega arith
+count_front p (x ∷ xs) (suc i) =
+    let more = count_front p xs i in
+    let all = sum_by-cons (λ x. cond (p x) 1 0) x xs in
+    let front = sum_by-cons (λ x. cond (p x) 1 0) x (take i xs) in
+    omega (arith, more, all, front)

@@ -1,14 +1,32 @@
 //! Whether two classes may be joined, and joining them.
 
-ghost use Rattle.std.specs.Prelude.{◌≡◌, not, ℕ, ◌<◌, ◌≤◌, ◌↔◌, ◌⊎◌, ◌&&◌, length, slice_index_or, slice_set, IsTrue, OnOk, Contains, ◌≢◌, true, false};
+ghost use Rattle.std.specs.Prelude.{◌≡◌, not, ℕ, ◌<◌, ◌≤◌, ◌↔◌, ◌⊎◌, ◌&&◌, length, slice_index_or, slice_set, IsTrue, OnOk, Contains, ◌≢◌, leb, true, false};
 ghost use Rattle.air_colour.specs.Interference.{IsIn, count, degree};
 ghost use Rattle.air_colour.specs.Joining.{is_significant, is_neighbour_of_either, MayJoin};
-ghost use Rattle.air_colour.specs.Kept.{graph_of, has, HasRoom, JoinedTo, significant_left};
+ghost use Rattle.air_colour.specs.Kept.{graph_of, has, HasRoom, JoinedTo, neighbours_left, significant_left};
 
-use crate::simplify::degree;
 use air_graph::Edges;
 use b3_base::NoMemory;
 use std::alloc::Global;
+
+/// Whether the class `a` interferes with at least `k` of the classes that are left. It stops at the first `k`.
+fn reaches(edges: &Edges, left: &[bool], a: usize, k: usize) -> bool
+    requires room { HasRoom edges.now (length left.now) (length left.now) }
+    requires a { a < length left.now }
+    ensures { result ≡ leb k (neighbours_left edges.now left.now a) }
+{
+    let mut neighbours: usize = 0;
+    let near = edges.near(a);
+    for b in near {
+        if k <= neighbours {
+            return true;
+        }
+        if left[*b as usize] {
+            neighbours += 1;
+        }
+    }
+    k <= neighbours
+}
 
 /// Whether the class holds a register or has at least `k` neighbours.
 fn significant(edges: &Edges, left: &[bool], fixed: &[bool], a: usize, k: usize) -> bool
@@ -16,7 +34,7 @@ fn significant(edges: &Edges, left: &[bool], fixed: &[bool], a: usize, k: usize)
     requires a { a < length left.now }
     ensures { result ≡ is_significant k (graph_of edges.now left.now fixed.now) a }
 {
-    fixed[a] || k <= degree(edges, left, a)
+    fixed[a] || reaches(edges, left, a, k)
 }
 
 /// Whether the class `x` is left, and holds a register or has at least `k` neighbours.
@@ -94,7 +112,7 @@ fn harmless(edges: &Edges, left: &[bool], fixed: &[bool], a: usize, x: usize, k:
     ensures { IsTrue result ↔ ((slice_index_or fixed.now x false ≡ true) ⊎ ((has edges.now x a ≡ true)
         ⊎ (degree (graph_of edges.now left.now fixed.now) x < k))) }
 {
-    fixed[x] || edges.has(x, a) || degree(edges, left, x) < k
+    fixed[x] || edges.has(x, a) || !reaches(edges, left, x, k)
 }
 
 /// The George test: each neighbour of `b` is harmless.
