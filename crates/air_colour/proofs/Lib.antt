@@ -1,0 +1,17 @@
+mod Counting
+mod Taking
+mod Joins
+mod Choice
+mod Merging
+mod Listed
+mod Promise
+mod KeptGraph
+mod ChosenSteps
+mod EdgeSteps
+mod Same
+mod Moving
+mod Whole
+mod Example
+mod Given
+mod Assigned
+mod Working

@@ -1,0 +1,12 @@
+pub mod Interference
+pub mod Easy
+pub mod Joining
+pub mod Choosing
+pub mod Classes
+pub mod Colouring
+pub mod Kept
+pub mod Chosen
+pub mod Progress
+pub mod Homes
+pub mod Assigned
+pub mod Worklist

@@ -1,0 +1,16 @@
+//! Registers for temporaries: the interference graph is coloured, after moves were joined.
+#![tactic(auto)]
+
+mod assign;
+mod choose;
+mod colouring;
+mod homes;
+mod joining;
+mod moves;
+mod simplify;
+#[cfg(test)]
+mod tests;
+mod worklist;
+
+pub use colouring::colour;
+pub use moves::Move;

@@ -1,0 +1,7 @@
+mod Triangle
+pub mod Beside
+pub mod Numbers
+pub mod Adding
+mod Pairs
+mod Meeting
+mod Walking

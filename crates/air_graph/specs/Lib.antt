@@ -1,0 +1,5 @@
+pub mod Edges
+pub mod Graph
+pub mod Homes
+pub mod Moves
+pub mod Walk

@@ -1,0 +1,65 @@
+//! Which homes are live along a block.
+
+ghost use Rattle.std.specs.Prelude.{◌≡◌, filter, not, ◌||◌, ◌↔◌, ◌⊎◌, ◌+◌, ◌<◌, ℕ, Contains, IfOk, length};
+ghost use Rattle.flow_live.specs.Graph.{LiveOut};
+ghost use Rattle.flow_live.specs.Liveness.{IsLivenessOf};
+ghost use Rattle.air_ir.specs.declared.procedure.AirProc.{AirProc};
+ghost use Rattle.air_flow.specs.Flow.{flow_of};
+ghost use Rattle.air_graph.specs.Walk.{AreBelow, in_list, name_at};
+
+use crate::homes::name_at;
+use crate::met::in_list;
+use crate::touched::{Numbers, Touched};
+use b3_base::NoMemory;
+use flow_live::LiveSets;
+use std::alloc::Global;
+
+/// The homes that are live out of a block.
+pub(crate) fn live_out(
+    alloc: Global,
+    tmps: u32,
+    live: &LiveSets,
+    block: usize,
+) -> Result<Numbers, NoMemory>
+    requires names { live.now.names ≡ tmps + 31 }
+    requires block { block < live.now.blocks }
+    ensures below { IfOk result (λ list. AreBelow (tmps + 25) list) }
+    ensures live { IfOk result (λ list. (p : AirProc) → IsLivenessOf (flow_of p) live.now → (n : ℕ) → n < tmps + 25
+        → Contains list n ↔ LiveOut (flow_of p) (name_at tmps n) block) }
+{
+    let mut list = Numbers::new(alloc);
+    for n in 0..tmps as usize + 25 {
+        if live.live_out(block, name_at(tmps, n)) {
+            list.push(n)?;
+        }
+    }
+    Ok(list)
+}
+
+/// The homes that are live after an instruction and aren't touched by it.
+fn untouched(alloc: Global, t: &Touched, live: &[usize]) -> Result<Numbers, NoMemory>
+    ensures { IfOk result (λ list. list ≡ filter (λ y. not (in_list t.now.defined y ||
+        (in_list t.now.used y || in_list t.now.late y))) live.now) }
+{
+    let mut list = Numbers::new(alloc);
+    for y in live {
+        let defined = in_list(t.defined.as_slice(), *y);
+        let used = in_list(t.used.as_slice(), *y);
+        let late = in_list(t.late.as_slice(), *y);
+        if !(defined || (used || late)) {
+            list.push(*y)?;
+        }
+    }
+    Ok(list)
+}
+
+/// The homes that are live before an instruction, from those that are live after it.
+pub(crate) fn live_before(alloc: Global, t: &Touched, live: &[usize]) -> Result<Numbers, NoMemory>
+    ensures { IfOk result (λ list. (y : ℕ) → Contains list y
+        ↔ ((Contains t.now.used y ⊎ Contains t.now.late y) ⊎ (Contains live.now y × (Contains t.now.defined y → ⊥)))) }
+{
+    let mut list = untouched(alloc, t, live)?;
+    list.extend(t.used.as_slice())?;
+    list.extend(t.late.as_slice())?;
+    Ok(list)
+}
