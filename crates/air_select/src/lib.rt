@@ -1,0 +1,13 @@
+//! Selection: the procedure of Air for a procedure of B3.
+#![tactic(auto)]
+
+mod code;
+mod entry;
+mod known;
+mod procedure;
+mod rows;
+mod tables;
+mod uses;
+mod values;
+
+pub use procedure::select;
