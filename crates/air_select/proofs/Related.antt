@@ -1,7 +1,7 @@
 -- The states of the two runs: what homes hold of the words of values.
-use Rattle.std.proofs.Common.{◌≡◌, ◌≢◌, ℕ, suc, ◌+◌, ◌*◌, ◌^◌, ◌<◌, Bool, true, false, List, [], ◌∷◌, length, nat_eq, Option, Some, None, refl, sym, ap, ◌∙◌, subst, arith}
+use Rattle.std.proofs.Common.{◌≡◌, ◌≢◌, ℕ, suc, ◌+◌, ◌*◌, ◌^◌, ◌<◌, inl, inr, Bool, true, false, List, [], ◌∷◌, length, nat_eq, Option, Some, None, refl, sym, ap, ◌∙◌, subst, arith}
 use Rattle.std.specs.Prelude.{if◌then◌else◌}
-use Rattle.std.proofs.lemmas.Bool.{eq-eqb, ne_eqb}
+use Rattle.std.proofs.lemmas.Bool.{cases_eq, eq-eqb, ne_eqb}
 use Rattle.b3_base.specs.Arithmetic.{low}
 use Rattle.b3_base.specs.Observed.{Start}
 use Rattle.b3_base.specs.Word.{bits}
@@ -17,6 +17,7 @@ use Rattle.air_ir.specs.Operands.{Homes, Held, Holds, put, read, same_home}
 use Rattle.air_ir.specs.Steps.{State}
 use Rattle.air_ir.specs.declared.operand.Home.{Home}
 use Rattle.air_ir.specs.declared.operand.Home.TheVariants.{Tmp, Reg, Spill}
+use Rattle.b3_sound.proofs.Effects.{word_here, word_there}
 use Rattle.air_select.specs.Selected.{Tables, folds, names_argument}
 use Rattle.air_select.specs.Tables.{argument, first_extra, home, location, place, second_extra, width_at}
 use Rattle.air_select.proofs.Setting.{IsSound}
@@ -56,6 +57,9 @@ unfolding read
 holds_word W32 word lt = ap Some (low_word W32 word lt)
 holds_word W64 word lt = ap Some (low_word W64 word lt)
 
+some_same : (a b : ℕ) → Some a ≡ Some b → a ≡ b
+some_same a b e = cc
+
 module _ (p : Procedure) (t : Tables) (sound : IsSound p t) (start : Start) where
   -- the state with something else in a home
   abbrev pub after : State → Home → Held → State
@@ -87,18 +91,76 @@ module _ (p : Procedure) (t : Tables) (sound : IsSound p t) (start : Start) wher
       answers = r.answers;
     }
 
+    other_word : (word q w : ℕ) (held : Held) → q ≢ id → (b3.with_word st id word).words q ≡ Some w → folds t q ≡ false
+        → Has (put s.homes (home t.index id) held) (width_at t.index q) (home t.index q) w
+    other_word word q w held differ now un =
+        let places : place t.index q ≢ place t.index id = other_place id q v named differ in
+        ap (read (width_at t.index q)) (put_there s.homes (3 * place t.index id) (3 * place t.index q) held (omega arith))
+        ∙ r.words q w (sym (word_there st id word q differ) ∙ now) un
+
+    own_word : (word q w : ℕ) (held : Held) → read (width_at t.index id) held ≡ Some word → q ≡ id → (b3.with_word st id word).words q ≡ Some w
+        → Has (put s.homes (home t.index id) held) (width_at t.index q) (home t.index q) w
+    own_word word q w held reads same now =
+        let is : word ≡ w = some_same word w (sym (ap (b3.with_word st id word).words same ∙ word_here st id word) ∙ now) in
+        subst (λ (x : ℕ). Has (put s.homes (home t.index id) held) (width_at t.index x) (home t.index x) w) (sym same)
+        (ap (read (width_at t.index id)) (put_here s.homes (3 * place t.index id) held) ∙ reads ∙ ap Some is)
+
     -- a word is written into the home of a value
     pub word_related : (word : ℕ) (held : Held) → read (width_at t.index id) held ≡ Some word
         → Related p t start (b3.with_word st id word) (after s (home t.index id) held)
     word_related word held reads = record {
-      words = λ q w now un. go (nat_eq q id) refl q w now un;
+      words = λ q w now un. elim (cases_eq q id) [
+        | inl same ↦ own_word word q w held reads same now
+        | inr differ ↦ other_word word q w held differ now un
+      ];
       locations = λ q w now.
           ap (read (width_at t.index q)) (put_there s.homes (3 * place t.index id) (3 * place t.index q + 1) held (omega arith)) ∙ r.locations q w now;
-      arguments = ?;
+      arguments = λ reg few names.
+          let below = sound.below id v named in
+          ap (read W64) (put_there s.homes (3 * place t.index id) (3 * length t.index.ids + reg) held (omega arith)) ∙ r.arguments reg few names;
+      memory = r.memory;
+      events = r.events;
+      answers = r.answers;
+    }
+
+    -- a folded value has a word without a home
+    pub folded_related : (word : ℕ) → folds t id ≡ true → Related p t start (b3.with_word st id word) s
+    folded_related word gone = record {
+      words = λ q w now un. elim (cases_eq q id) [
+        | inl same ↦ absurd (let both : true ≡ false = sym gone ∙ ap (folds t) (sym same) ∙ un in cc)
+        | inr differ ↦ r.words q w (sym (word_there st id word q differ) ∙ now) un
+      ];
+      locations = r.locations;
+      arguments = r.arguments;
+      memory = r.memory;
+      events = r.events;
+      answers = r.answers;
+    }
+
+    -- a word is written into the location of a Phi
+    pub location_related : (word : ℕ) (held : Held) → read (width_at t.index id) held ≡ Some word
+        → Related p t start (b3.with_location st id word) (after s (location t.index id) held)
+    location_related word held reads = record {
+      words = λ q w now un.
+          ap (read (width_at t.index q)) (put_there s.homes (3 * place t.index id + 1) (3 * place t.index q) held (omega arith)) ∙ r.words q w now un;
+      locations = λ q w now. elim (cases_eq q id) [
+        | inl same ↦
+            let is : word ≡ w = some_same word w (sym (ap (b3.with_location st id word).locations same ∙ location_here word) ∙ now) in
+            subst (λ (x : ℕ). Has (put s.homes (location t.index id) held) (width_at t.index x) (location t.index x) w) (sym same)
+            (ap (read (width_at t.index id)) (put_here s.homes (3 * place t.index id + 1) held) ∙ reads ∙ ap Some is)
+        | inr differ ↦
+            let places : place t.index q ≢ place t.index id = other_place id q v named differ in
+            ap (read (width_at t.index q)) (put_there s.homes (3 * place t.index id + 1) (3 * place t.index q + 1) held (omega arith))
+            ∙ r.locations q w (sym (location_there word q differ) ∙ now)
+      ];
+      arguments = λ reg few names. kept_argument 1 held (omega arith) reg few names;
       memory = r.memory;
       events = r.events;
       answers = r.answers;
     }
       where
-        go : (b : Bool) → ?
-        go = ?
+        location_here : (word : ℕ) → (b3.with_location st id word).locations id ≡ Some word
+        location_here word = rw (eq-eqb id id refl) refl
+
+        location_there : (word q : ℕ) → q ≢ id → (b3.with_location st id word).locations q ≡ st.locations q
+        location_there word q differ = rw (ne_eqb q id differ) refl
