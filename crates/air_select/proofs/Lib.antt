@@ -1,2 +1,5 @@
-pub mod Setting
+pub mod OneOp
+pub mod Facts
+pub mod Instructions
 pub mod Related
+pub mod Setting
