@@ -32,7 +32,7 @@ constant_role Const32 e = refl
 constant_role Const64 e = refl
 constant_role _ e = absurd (cc)
 
-body_below : (limit : ℕ) (body : Body) → IsConstantBelow limit body → (body ≡ Constant (word_in body)) × (word_in body < limit)
+pub body_below : (limit : ℕ) (body : Body) → IsConstantBelow limit body → (body ≡ Constant (word_in body)) × (word_in body < limit)
 body_below limit (Constant word) below = (refl, below)
 body_below limit _ below = absurd below
 

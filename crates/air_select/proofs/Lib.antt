@@ -1,3 +1,4 @@
+pub mod Children
 pub mod OneOp
 pub mod Facts
 pub mod Instructions
