@@ -1,3 +1,5 @@
+pub mod Does
+pub mod Plain
 pub mod Children
 pub mod OneOp
 pub mod Facts
