@@ -10,6 +10,9 @@ use Rattle.b3_ir.specs.Naming.{type_of, value_named}
 use Rattle.b3_ir.specs.Procedure.{Procedure, values_of}
 use Rattle.b3_ir.specs.Types.{AllowsTypes, width_of}
 use Rattle.b3_ir.specs.declared.opcode.Opcode.{Opcode}
+use Rattle.b3_ir.specs.declared.opcode.Opcode.TheVariants as opcode
+use Rattle.b3_ir.specs.declared.value.Body.TheVariants.{Argument}
+use Rattle.b3_ir.specs.declared.value.Reg.{Reg}
 use Rattle.b3_ir.specs.declared.value.Value.{Value}
 use Rattle.b3_ir.proofs.Typing.{allowed}
 use Rattle.b3_meaning.specs.Opcodes.{AreWordsOf, Gives, Misfits, Outcome, Undefines, result}
@@ -28,18 +31,24 @@ use Rattle.air_ir.specs.Meaning.{Over, To}
 use Rattle.air_ir.specs.Operands.{Holds, read}
 use Rattle.air_ir.specs.Steps.{Goes, Outcome as Ran, State}
 use Rattle.air_ir.specs.declared.operand.Home.{Home}
-use Rattle.air_select.specs.Selected.{Tables, folds, targets_of}
+use Rattle.air_select.specs.Selected.{Tables, folds, names_argument, targets_of}
 use Rattle.air_select.specs.Tables.{home, known_in, width_at}
 use Rattle.air_select.specs.declared.known.Known.{Known}
 use Rattle.air_select.proofs.Instructions.{with_home}
 use Rattle.air_select.proofs.Related.{Related, holds_word, word_related}
 use Rattle.air_select.proofs.Setting.{IsSound}
 
+-- each argument is in a register that the entry moves
+abbrev pub HasArguments : Procedure → Type 0
+HasArguments p = (b : ℕ) (v : Value) (reg : Reg) → Contains (values_of p b) v → v.kind.opcode ≡ opcode.ArgumentReg → v.body ≡ Argument reg
+    → (reg.0 < 8) × (names_argument (values_of p 0) reg.0 ≡ true)
+
 -- a value runs: both runs have come to it, in related states
 pub record Here (p : Procedure) (t : Tables) (start : Start) (v : Value) : Type 0 where
   pub valid : IsKept p
   pub sound : IsSound p t
   pub ranged : IsRangedStart start
+  pub arguments : HasArguments p
   pub passed : List ℕ
   pub block : ℕ
   pub before : List Value

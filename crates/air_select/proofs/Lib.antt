@@ -1,3 +1,5 @@
+pub mod Copied
+pub mod Shapes
 pub mod Does
 pub mod Plain
 pub mod Children
