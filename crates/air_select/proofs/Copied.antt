@@ -58,10 +58,10 @@ module _ (p : Procedure) (t : Tables) (start : Start) (v : Value) (h : Here p t 
       (copying p t start v h op.Move v.id ((width, w) ∷ []) s.world refl)
       (writes_use width from (def_at width to ∷ []) ∙ writes_def width to))
 
-  row : IsRow (role_of v.kind.opcode) v.ty (types_of p v) v.body
+  pub row : IsRow (role_of v.kind.opcode) v.ty (types_of p v) v.body
   row = row_by_role v.kind.opcode v.ty (types_of p v) (reported_count v) v.body (allows p t start v h) (rules p t start v h).fits.body
 
-  row_of_role : (o : Opcode) → v.kind.opcode ≡ o → IsRow (role_of o) v.ty (types_of p v) v.body
+  pub row_of_role : (o : Opcode) → v.kind.opcode ≡ o → IsRow (role_of o) v.ty (types_of p v) v.body
   row_of_role o e = subst (λ (q : Opcode). IsRow (role_of q) v.ty (types_of p v) v.body) e row
 
   -- ---- constants

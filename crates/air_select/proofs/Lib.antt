@@ -1,3 +1,4 @@
+pub mod Sources
 pub mod Copied
 pub mod Shapes
 pub mod Does
