@@ -1,3 +1,4 @@
+pub mod Rests
 pub mod Sources
 pub mod Copied
 pub mod Shapes
