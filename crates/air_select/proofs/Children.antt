@@ -143,6 +143,14 @@ module _ (p : Procedure) (valid : IsKept p) (t : Tables) (sound : IsSound p t) (
         let body = body_below (2 ^ bits (width_of d.ty)) d.body (subst (λ q. IsRow q d.ty (types_of p d) d.body) role row) in
         ap (λ (k : Known). k.word) (sound.is_known c d in_c) ∙ some_is (word_in d.body) w (sym (reached.constants d (word_in d.body) ran role body.0) ∙ now)
 
+    -- what is known of a constant that has run is its word
+    pub known_word : (id w : ℕ) → Ran p valid passed before id → is_constant (known t.index id).opcode ≡ true → st.words id ≡ Some w → (known t.index id).word ≡ w
+    known_word id w ran const now =
+        let c = ran_in_block p b passed before rest is ran.0 ran.2 in
+        subst (λ (q : ℕ). st.words q ≡ Some w → is_constant (known t.index q).opcode ≡ true → (known t.index q).word ≡ w) ran.1
+        (λ now' const'. constant_word ran.0 w ran.2 c.0 c.1 (sym (ap (λ (k : Known). is_constant k.opcode) (sound.is_known c.0 ran.0 c.1)) ∙ const') now')
+        now const
+
     pub child_word : (id w : ℕ) → Ran p valid passed before id → IsReadable t id → st.words id ≡ Some w
         → word_of s.homes (width_at t.index id) (arg_of t id) ≡ Some w
     child_word id w ran reads now = go (folds t id) refl
@@ -150,13 +158,8 @@ module _ (p : Procedure) (valid : IsKept p) (t : Tables) (sound : IsSound p t) (
         go : (f : Bool) → folds t id ≡ f → word_of s.homes (width_at t.index id) (if f then Imm (known t.index id).word else At (home t.index id)) ≡ Some w
         go false e = at_home s.homes (width_at t.index id) (home t.index id) w (r.words id w now e)
         go true e =
-            let c = ran_in_block p b passed before rest is ran.0 ran.2 in
-            let known_word : (known t.index id).word ≡ w =
-            subst (λ (q : ℕ). st.words q ≡ Some w → is_constant (known t.index q).opcode ≡ true → (known t.index q).word ≡ w) ran.1
-            (λ now' const. constant_word ran.0 w ran.2 c.0 c.1 (sym (ap (λ (k : Known). is_constant k.opcode) (sound.is_known c.0 ran.0 c.1)) ∙ const) now')
-            now (reads e) in
             of_immediate s.homes (width_at t.index id) (known t.index id).word
-            ∙ ap (λ n. Some (low (width_at t.index id) n)) known_word ∙ ap Some (low_word (width_at t.index id) w (word_small id w now))
+            ∙ ap (λ n. Some (low (width_at t.index id) n)) (known_word id w ran (reads e) now) ∙ ap Some (low_word (width_at t.index id) w (word_small id w now))
 
     -- the words that the uses of some ids read
     abbrev pub typed : List ℕ → List ℕ → List Read

@@ -1,3 +1,5 @@
+pub mod Leaving
+pub mod Deciding
 pub mod Rotations
 pub mod Remainders
 pub mod Rests
