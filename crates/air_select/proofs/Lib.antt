@@ -1,3 +1,5 @@
+pub mod SameBlocks
+pub mod Opcodes
 pub mod Leaving
 pub mod Deciding
 pub mod Rotations
