@@ -1,3 +1,4 @@
+pub mod Beginning
 pub mod SameBlocks
 pub mod Opcodes
 pub mod Leaving
