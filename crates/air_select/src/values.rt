@@ -227,7 +227,7 @@ fn push_branch(
     t: &Tables,
     v: &Value,
 ) -> Result<(), NoMemory>
-    ensures { OnOk result (insts.new ≡ insts.old ++ code.branch_on v.now (code.condition_of t.now (tables.child v.now.children 0))) }
+    ensures { OnOk result (insts.new ≡ insts.old ++ code.branch_on t.now v.now (code.condition_of t.now (tables.child v.now.children 0))) }
 {
     let id = child(&v.children, 0);
     let operands = tested(alloc, t, id)?;
