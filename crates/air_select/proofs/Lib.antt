@@ -1,2 +1,5 @@
 pub mod Setting
 pub mod Related
+pub mod Walks
+pub mod Places
+pub mod Tallies
