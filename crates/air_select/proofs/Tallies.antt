@@ -3,7 +3,7 @@ use Rattle.std.proofs.Common.{◌≡◌, ◌≢◌, ℕ, zero, suc, ◌+◌, ◌
 use Rattle.std.specs.Prelude.{if◌then◌else◌, nat_lt, slice_get, slice_index_or, slice_set}
 use Rattle.std.specs.List.{filter, flat_map, list_all}
 use Rattle.std.specs.Option.{option_map}
-use Rattle.std.proofs.lemmas.List.{drop_all, drop_more, length-map, map-append}
+use Rattle.std.proofs.lemmas.List.{drop_all, drop_more, length-map, map-append, take_all}
 use Rattle.std.proofs.lemmas.Bool.{le-ltb, lt-ltb, ltb-false, ltb-true, ne_eqb}
 use Rattle.std.proofs.lemmas.Bool.Decides.{eqb_tells}
 use Rattle.std.proofs.lemmas.Option.{get_or_from_slice_get, slice_get_within, slice_get-map}
@@ -236,3 +236,8 @@ fold_next p valid x n at ts k t is_x is_n is_ts at_k at_t folds folds' so_far mo
     ap (is_folded k) (sym t_there) ∙ folded_is y (uses p) v.id k n long (omega (arith, slice_get_within (ids_of p) at v.id id_there)) k_there in
     more ∙ ap (λ l. l ++ is_folded k t ∷ []) so_far ∙ ap (λ b. map (is_foldable p) (take at (ids_of p)) ++ b ∷ []) folded
     ∙ sym (map-append (is_foldable p) (take at (ids_of p)) (v.id ∷ [])) ∙ ap (map (is_foldable p)) (sym (take_item (ids_of p) at v.id id_there))
+
+pub fold_end : (p : Procedure) (x : Index) (at : ℕ) → x ≡ index_of p → length x.known ≤ at
+    → (folds : List Bool) → folds ≡ map (is_foldable p) (take at (ids_of p)) → folds ≡ map (is_foldable p) (ids_of p)
+fold_end p x at is_x end folds so_far =
+    so_far ∙ ap (map (is_foldable p)) (take_all at (ids_of p) (omega (arith, ap (λ (z : Index). length z.known) is_x, ids_length p)))

@@ -80,3 +80,8 @@ pub walk_smaller : (p : Kept) (block node : ℕ) (v : Value) (next : Option ℕ)
     → values_from p block next ≡ drop 1 (values_from p block (Some node)) → length (values_from p block next) < length (values_from p block (Some node))
 walk_smaller p block node v next e rest =
     let long = ap (λ (vs : List Value). length vs) (values_next p block node v next e rest) in omega arith
+
+-- the value of a node, and those that are left behind it
+pub walk_here : {X : Type 0} (p : Kept) (block node : ℕ) (v : Value) (with_rest : List Value → X) (whole : X) → IsWalked p block with_rest whole (Some node)
+    → slice_get (values_from p block (Some node)) 0 ≡ Some v → with_rest (v ∷ drop 1 (values_from p block (Some node))) ≡ whole
+walk_here p block node v with_rest whole walk e = ap with_rest (sym (from_head (values_from p block (Some node)) v e)) ∙ walk.makes
