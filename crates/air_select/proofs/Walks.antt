@@ -24,7 +24,7 @@ from_head [] v e = cc
 from_head (w ∷ vs) v e = let same : w ≡ v = cc in ap (λ x. x ∷ vs) same
 
 -- the values from a node on: its own, and those from the next
-values_next : (p : Kept) (block node : ℕ) (v : Value) (next : Option ℕ) → slice_get (values_from p block (Some node)) 0 ≡ Some v
+pub values_next : (p : Kept) (block node : ℕ) (v : Value) (next : Option ℕ) → slice_get (values_from p block (Some node)) 0 ≡ Some v
     → values_from p block next ≡ drop 1 (values_from p block (Some node)) → values_from p block (Some node) ≡ v ∷ values_from p block next
 values_next p block node v next e rest =
     from_head (values_from p block (Some node)) v e ∙ ap (λ (vs : List Value). v ∷ vs) (sym rest)
