@@ -17,8 +17,8 @@ use Rattle.b3_sound.proofs.FromValid.{is_kept}
 use Rattle.air_ir.specs.declared.procedure.AirBlock.{AirBlock}
 use Rattle.air_ir.specs.declared.procedure.AirInst.{AirInst}
 use Rattle.air_select.specs.Indexed.{ids, ids_before}
-use Rattle.air_select.specs.Selected.{Tables, argument_move, argument_moves, block_code, names_argument, targets_of, value_code}
-use Rattle.air_select.specs.Tables.{Index, ids_of, index_of, known_from, known_in}
+use Rattle.air_select.specs.Selected.{Tables, block_code, targets_of, value_code}
+use Rattle.air_select.specs.Tables.{ids_of, known_from, known_in}
 use Rattle.air_select.specs.declared.known.Known.{Known}
 use Rattle.air_select.proofs.Places.{is_new, row, split_at, take_item, values_in}
 use Rattle.air_select.proofs.Walks.{IsWalked, walk_first, walk_next, walk_stands, values_next}
@@ -161,28 +161,3 @@ pub block_added : (t : Tables) (p : Procedure) (e : AirBlock) (block : ℕ) (of 
 block_added t p e block of b list list' there is so_far more =
     more ∙ ap (λ l. l ++ b ∷ []) so_far ∙ ap (λ c. e ∷ (map (block_code t) (take block p.blocks) ++ c ∷ [])) is
     ∙ ap (λ l. e ∷ l) (sym (map-append (block_code t) (take block p.blocks) (of ∷ [])) ∙ ap (map (block_code t)) (sym (take_item p.blocks block of there)))
-
--- ---- the moves of arguments
-
-pub argument_added : (x : Index) (vs : List Value) (value r : ℕ) (base insts insts' : List AirInst) → names_argument vs r ≡ true
-    → insts ≡ base ++ argument_moves x vs value r → insts' ≡ insts ++ argument_move x value r ∷ [] → insts' ≡ base ++ argument_moves x vs value (r + 1)
-argument_added x vs value r base insts insts' named so_far more =
-    joined_back base insts insts' (argument_moves x vs value r) (argument_move x value r ∷ []) so_far more
-    ∙ ap (λ l. base ++ (argument_moves x vs value r ++ l)) (ap (λ b. if b then argument_move x value r ∷ [] else []) (sym named))
-    ∙ ap (λ n. base ++ argument_moves x vs value n) (next r)
-  where
-    next : (n : ℕ) → suc n ≡ n + 1
-    next n = omega arith
-
-    joined_back : (a l l' m n : List AirInst) → l ≡ a ++ m → l' ≡ l ++ n → l' ≡ a ++ (m ++ n)
-    joined_back a l l' m n e more = more ∙ ap (λ z. z ++ n) e ∙ append_assoc a m n
-
-pub argument_skipped : (x : Index) (vs : List Value) (value r : ℕ) (base insts : List AirInst) → names_argument vs r ≡ false
-    → insts ≡ base ++ argument_moves x vs value r → insts ≡ base ++ argument_moves x vs value (r + 1)
-argument_skipped x vs value r base insts named so_far =
-    so_far ∙ ap (λ l. base ++ l) (sym (append-nil (argument_moves x vs value r)))
-    ∙ ap (λ l. base ++ (argument_moves x vs value r ++ l)) (ap (λ b. if b then argument_move x value r ∷ [] else []) (sym named))
-    ∙ ap (λ n. base ++ argument_moves x vs value n) (next r)
-  where
-    next : (n : ℕ) → suc n ≡ n + 1
-    next n = omega arith
