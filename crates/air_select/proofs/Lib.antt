@@ -1,4 +1,12 @@
-pub mod Setting
+pub mod Sources
+pub mod Copied
+pub mod Shapes
+pub mod Does
+pub mod Plain
+pub mod Children
+pub mod OneOp
+pub mod Facts
+pub mod Instructions
 pub mod Related
 pub mod Walks
 pub mod Places
@@ -6,3 +14,4 @@ pub mod Tallies
 pub mod Entries
 pub mod Masks
 pub mod Listed
+pub mod Setting
