@@ -15,3 +15,4 @@ pub mod Entries
 pub mod Masks
 pub mod Listed
 pub mod Setting
+pub mod Sound
