@@ -9,3 +9,4 @@ pub mod Facts
 pub mod Instructions
 pub mod Related
 pub mod Setting
+pub mod Sites
