@@ -10,3 +10,4 @@ pub mod Instructions
 pub mod Related
 pub mod Setting
 pub mod Sites
+pub mod Weights
