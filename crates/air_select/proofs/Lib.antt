@@ -16,3 +16,5 @@ pub mod Masks
 pub mod Listed
 pub mod Setting
 pub mod Sound
+pub mod Sites
+pub mod Weights
