@@ -18,3 +18,5 @@ pub mod Setting
 pub mod Sound
 pub mod Sites
 pub mod Weights
+pub mod Returned
+pub mod Folded

@@ -32,7 +32,7 @@ get_behind [] b n = ap (slice_get b) (omega arith)
 get_behind (x ∷ a) b n =
     let e : length (x ∷ a) + n ≡ suc (length a + n) = omega arith in ap (slice_get (x ∷ (a ++ b))) e ∙ get_behind a b n
 
-get_within : {X : Type 0} (a b : List X) (n : ℕ) (x : X) → n < length a → slice_get (a ++ b) n ≡ Some x → slice_get a n ≡ Some x
+pub get_within : {X : Type 0} (a b : List X) (n : ℕ) (x : X) → n < length a → slice_get (a ++ b) n ≡ Some x → slice_get a n ≡ Some x
 get_within [] b n x lt e = absurd (omega arith)
 get_within (y ∷ a) b zero x lt e = e
 get_within (y ∷ a) b (suc n) x lt e = get_within a b n x (omega arith) e

@@ -25,11 +25,11 @@ use Rattle.air_select.proofs.Setting.{IsFoldedKind, IsSound}
 
 -- ---- tests
 
-both_first : (a b : Bool) → (a && b) ≡ true → a ≡ true
+pub both_first : (a b : Bool) → (a && b) ≡ true → a ≡ true
 both_first true b e = refl
 both_first false b e = e
 
-both_second : (a b : Bool) → (a && b) ≡ true → b ≡ true
+pub both_second : (a b : Bool) → (a && b) ≡ true → b ≡ true
 both_second true b e = e
 both_second false b e = absurd cc
 
@@ -40,7 +40,7 @@ one_of false b e = inr e
 -- ---- places
 
 -- an item that a list has stands somewhere in it
-stands : (vs : List Value) (v : Value) → Contains vs v → (j : ℕ) × (slice_get vs j ≡ Some v)
+pub stands : (vs : List Value) (v : Value) → Contains vs v → (j : ℕ) × (slice_get vs j ≡ Some v)
 stands vs v has = (has.0, slice_get-get_or vs has.0 v has.1 ∙ ap Some has.2)
 
 named_below : (p : Procedure) (id : ℕ) (v : Value) → value_named p id ≡ Some v → place_among (ids_of p) id < length (ids_of p)
@@ -68,7 +68,7 @@ type_is p id = by (value_named p id) refl
         (omega (arith, not_named id (all_values p) e, known_length 0 p.blocks, length-map (all_values p) (λ (w : Value). w.id))))
 
 -- what is folded is foldable
-foldable : (p : Procedure) (id : ℕ) → folds (tables p) id ≡ true → is_foldable p id ≡ true
+pub foldable : (p : Procedure) (id : ℕ) → folds (tables p) id ≡ true → is_foldable p id ≡ true
 foldable p id e =
     let marks = map (is_foldable p) (ids_of p) in
     let at = place_among (ids_of p) id in
@@ -175,7 +175,7 @@ one_use (u ∷ []) e = (u, refl)
 one_use (u ∷ w ∷ us) e = absurd (omega arith)
 
 -- a foldable value is of one of three kinds
-foldable_kind : (x : Index) (us : List Use) (id : ℕ) (k : Known) → known x id ≡ k
+pub foldable_kind : (x : Index) (us : List Use) (id : ℕ) (k : Known) → known x id ≡ k
     → (list_all (fits x) (uses_of us id) && (is_constant (known x id).opcode || nat_eq (length (uses_of us id)) 1)) ≡ true
     → (is_constant k.opcode ≡ true) ⊎ ((is_comparison k.opcode ≡ true) ⊎ (is_bit_test x k ≡ true))
 foldable_kind x us id k is_k e =
