@@ -1,3 +1,6 @@
+pub mod Rotations
+pub mod Remainders
+pub mod Rests
 pub mod Sources
 pub mod Copied
 pub mod Shapes

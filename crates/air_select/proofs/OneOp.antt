@@ -104,10 +104,10 @@ comparing o c f computes results same chill ty types ws w alike taken words =
 
 -- ---- divisions
 
-undefined_gives : (u : Undefined) (w : ℕ) → Undefines u ≡ Gives w → ⊥
+pub undefined_gives : (u : Undefined) (w : ℕ) → Undefines u ≡ Gives w → ⊥
 undefined_gives u w e = cc
 
-chilled_is : (chill : Bool) (word w : ℕ) (u : Undefined) → chilled chill word u ≡ Gives w → word ≡ w
+pub chilled_is : (chill : Bool) (word w : ℕ) (u : Undefined) → chilled chill word u ≡ Gives w → word ≡ w
 chilled_is true word w u e = cc
 chilled_is false word w u e = absurd (undefined_gives u w e)
 
@@ -115,7 +115,7 @@ least_quotient : (width : Width) → quotient width true (least width) (2 ^ bits
 least_quotient W32 = refl
 least_quotient W64 = refl
 
-both : (a b : Bool) → (a && b) ≡ true → (a ≡ true) × (b ≡ true)
+pub both : (a b : Bool) → (a && b) ≡ true → (a ≡ true) × (b ≡ true)
 both true true e = (refl, refl)
 both true false e = absurd (cc)
 both false b e = absurd (cc)

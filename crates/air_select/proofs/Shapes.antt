@@ -1,10 +1,13 @@
 -- The children of a value, by what its row takes.
 use Rattle.std.proofs.Common.{◌≡◌, ℕ, ◌<◌, Bool, true, false, List, [], ◌∷◌, map, Option, Some, None, refl, sym, ap, ◌∙◌, subst}
+use Rattle.std.specs.Prelude.{Contains, slice_get}
 use Rattle.b3_ir.specs.Types.{AreTaken, IsTaken}
 use Rattle.b3_ir.specs.declared.opcode.Ty.{Ty}
 use Rattle.b3_ir.specs.declared.table.Takes.{Takes}
 use Rattle.b3_ir.specs.declared.table.More.TheVariants.{NoMore}
 use Rattle.b3_meaning.specs.Run as b3
+use Rattle.b3_sound.proofs.Lists.{contains_head, contains_tail}
+use Rattle.air_select.specs.Tables.{child}
 use Rattle.air_select.proofs.Children.{words_cons, words_nil}
 
 module _ (types : ℕ → Ty) (f : ℕ → Option ℕ) (alike : Ty) where
@@ -97,3 +100,88 @@ module _ (types : ℕ → Ty) (f : ℕ → Option ℕ) (alike : Ty) where
         y_taken = others.x_taken;
         z_taken = others.y_taken;
       }
+
+  -- ---- the same by places
+
+  pub record OneHere (a : Takes) (cs ws : List ℕ) : Type 0 where
+    pub wx : ℕ
+    pub words : ws ≡ wx ∷ []
+    pub x_now : f (child cs 0) ≡ Some wx
+    pub x_at : slice_get cs 0 ≡ Some (child cs 0)
+    pub x_in : Contains cs (child cs 0)
+    pub x_taken : IsTaken alike a (types (child cs 0))
+
+  pub record TwoHere (a b : Takes) (cs ws : List ℕ) : Type 0 where
+    pub wx : ℕ
+    pub wy : ℕ
+    pub words : ws ≡ wx ∷ wy ∷ []
+    pub x_now : f (child cs 0) ≡ Some wx
+    pub y_now : f (child cs 1) ≡ Some wy
+    pub x_at : slice_get cs 0 ≡ Some (child cs 0)
+    pub y_at : slice_get cs 1 ≡ Some (child cs 1)
+    pub x_in : Contains cs (child cs 0)
+    pub y_in : Contains cs (child cs 1)
+    pub x_taken : IsTaken alike a (types (child cs 0))
+    pub y_taken : IsTaken alike b (types (child cs 1))
+
+  pub record ThreeHere (a b c : Takes) (cs ws : List ℕ) : Type 0 where
+    pub wx : ℕ
+    pub wy : ℕ
+    pub wz : ℕ
+    pub words : ws ≡ wx ∷ wy ∷ wz ∷ []
+    pub x_now : f (child cs 0) ≡ Some wx
+    pub y_now : f (child cs 1) ≡ Some wy
+    pub z_now : f (child cs 2) ≡ Some wz
+    pub x_at : slice_get cs 0 ≡ Some (child cs 0)
+    pub y_at : slice_get cs 1 ≡ Some (child cs 1)
+    pub z_at : slice_get cs 2 ≡ Some (child cs 2)
+    pub x_in : Contains cs (child cs 0)
+    pub y_in : Contains cs (child cs 1)
+    pub z_in : Contains cs (child cs 2)
+    pub x_taken : IsTaken alike a (types (child cs 0))
+    pub y_taken : IsTaken alike b (types (child cs 1))
+    pub z_taken : IsTaken alike c (types (child cs 2))
+
+  pub one_here : (a : Takes) (cs ws : List ℕ) → OneChild a cs ws → OneHere a cs ws
+  one_here a cs ws o =
+      subst (λ (l : List ℕ). OneHere a l ws) (sym o.are)
+      (record { wx = o.wx; words = o.words; x_now = o.x_now; x_at = refl; x_in = contains_head o.x []; x_taken = o.x_taken })
+
+  pub two_here : (a b : Takes) (cs ws : List ℕ) → TwoChildren a b cs ws → TwoHere a b cs ws
+  two_here a b cs ws o =
+      subst (λ (l : List ℕ). TwoHere a b l ws) (sym o.are)
+      (record {
+        wx = o.wx;
+        wy = o.wy;
+        words = o.words;
+        x_now = o.x_now;
+        y_now = o.y_now;
+        x_at = refl;
+        y_at = refl;
+        x_in = contains_head o.x (o.y ∷ []);
+        y_in = contains_tail o.x (o.y ∷ []) o.y (contains_head o.y []);
+        x_taken = o.x_taken;
+        y_taken = o.y_taken;
+      })
+
+  pub three_here : (a b c : Takes) (cs ws : List ℕ) → ThreeChildren a b c cs ws → ThreeHere a b c cs ws
+  three_here a b c cs ws o =
+      subst (λ (l : List ℕ). ThreeHere a b c l ws) (sym o.are)
+      (record {
+        wx = o.wx;
+        wy = o.wy;
+        wz = o.wz;
+        words = o.words;
+        x_now = o.x_now;
+        y_now = o.y_now;
+        z_now = o.z_now;
+        x_at = refl;
+        y_at = refl;
+        z_at = refl;
+        x_in = contains_head o.x (o.y ∷ o.z ∷ []);
+        y_in = contains_tail o.x (o.y ∷ o.z ∷ []) o.y (contains_head o.y (o.z ∷ []));
+        z_in = contains_tail o.x (o.y ∷ o.z ∷ []) o.z (contains_tail o.y (o.z ∷ []) o.z (contains_head o.z []));
+        x_taken = o.x_taken;
+        y_taken = o.y_taken;
+        z_taken = o.z_taken;
+      })
