@@ -23,3 +23,4 @@ pub mod Sites
 pub mod Weights
 pub mod Returned
 pub mod Folded
+pub mod Entering

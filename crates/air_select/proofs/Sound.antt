@@ -151,7 +151,7 @@ its_id (w ∷ us) id u rest e =
     (eqb_tells w.id id)
 
 -- what fits as a condition compares or tests a bit
-condition_kind : (x : Index) (op : Opcode) (at : ℕ) (k : Known) → condition_fits x op at k ≡ true → (is_comparison k.opcode ≡ true) ⊎ (is_bit_test x k ≡ true)
+pub condition_kind : (x : Index) (op : Opcode) (at : ℕ) (k : Known) → condition_fits x op at k ≡ true → (is_comparison k.opcode ≡ true) ⊎ (is_bit_test x k ≡ true)
 condition_kind x opcode.Branch zero k e = one_of (is_comparison k.opcode) (is_bit_test x k) e
 condition_kind x opcode.Branch (suc at) k e = absurd cc
 condition_kind x opcode.Select zero k e = inl e
