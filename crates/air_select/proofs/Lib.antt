@@ -24,3 +24,4 @@ pub mod Weights
 pub mod Returned
 pub mod Folded
 pub mod Entering
+pub mod Successors
