@@ -25,3 +25,4 @@ pub mod Returned
 pub mod Folded
 pub mod Entering
 pub mod Successors
+pub mod Sample
