@@ -8,13 +8,15 @@ use Rattle.b3_ir.specs.declared.opcode.Ty.{Ty}
 use Rattle.b3_ir.specs.declared.value.Body.{Body}
 use Rattle.b3_ir.specs.declared.value.Body.TheVariants.{Cases}
 use Rattle.b3_ir.specs.declared.value.Value.{Value}
+use Rattle.air_ir.specs.Kinds.{Kind, Copies, Computes, Loads, Stores, Checks, ChecksResult, Calls, Patches, SlotAddresses, FramePointers, Branches, Jumps, Switches, Returns, Fails, kind_of}
 use Rattle.air_ir.specs.WellFormed as air
 use Rattle.air_ir.specs.declared.op.AirOp.{AirOp}
-use Rattle.air_ir.specs.declared.op.AirOp.TheVariants.{BranchIf, SelectIf}
+use Rattle.air_ir.specs.declared.op.AirOp.TheVariants.{BranchIf, SelectIf, Shuffle}
 use Rattle.air_ir.specs.declared.op.Test.{Test}
 use Rattle.air_ir.specs.declared.op.Test.TheVariants.{Bit, Compare}
 use Rattle.air_ir.specs.declared.operand.Arg.TheVariants.{Imm}
 use Rattle.air_ir.specs.declared.operand.Operand.{Operand}
+use Rattle.air_ir.specs.declared.procedure.AirBlock.{AirBlock}
 use Rattle.air_ir.specs.declared.procedure.AirInst.{AirInst}
 use Rattle.air_ir.specs.declared.procedure.AirProc.{AirProc}
 use Rattle.air_select.specs.Foldable.{is_and, is_comparison, is_constant, is_foldable}
@@ -79,6 +81,27 @@ abbrev pub ReturnsType : Procedure → Ty → Type 0
 ReturnsType p ty = (block : ℕ) × (k : ℕ) × (v : Value) × (i : ℕ) × (j : ℕ) × (m : ℕ) × (child : Value)
     × StandsAt p block k v × (v.kind.opcode ≡ opcode.Return) × (v.children ≡ i ∷ [])
     × StandsAt p j m child × (child.id ≡ i) × (child.ty ≡ ty)
+
+-- ---- ops
+
+-- the kinds of ops that are selected: copies, what computes a word, and what ends a block
+abbrev pub is_arithmetic_kind : Kind → Bool
+is_arithmetic_kind Copies = true
+is_arithmetic_kind Computes = true
+is_arithmetic_kind (Branches test) = true
+is_arithmetic_kind Jumps = true
+is_arithmetic_kind (Switches cases) = true
+is_arithmetic_kind Returns = true
+is_arithmetic_kind Fails = true
+is_arithmetic_kind _ = false
+
+-- a Shuffle isn't
+abbrev pub is_arithmetic : AirOp → Bool
+is_arithmetic Shuffle = false
+is_arithmetic op = is_arithmetic_kind (kind_of op)
+
+abbrev pub IsArithmetic : AirProc → Type 0
+IsArithmetic q = All (λ (b : AirBlock). All (λ (i : AirInst). is_arithmetic i.op ≡ true) b.insts) q.blocks
 
 -- ---- folded values
 

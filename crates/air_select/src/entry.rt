@@ -4,6 +4,7 @@ ghost use Rattle.std.specs.Prelude.{◌≡◌, ◌++◌, ◌∷◌, [], ◌<◌,
 ghost use Rattle.b3_ir.specs.Naming.{all_values};
 ghost use Rattle.b3_ir.specs.Procedure.{values_of};
 ghost use Rattle.b3_rules.specs.Rules.{first_return};
+ghost use Rattle.air_select.specs.Indexed as indexed;
 ghost use Rattle.air_select.specs.Selected as code;
 
 use crate::code::{push, push_move};
@@ -108,6 +109,13 @@ fn returns_of(index: &Index, value: &Value) -> Returns
     }
 }
 
+/// Whether a value is a Return.
+fn is_return(value: &Value) -> bool
+    ensures { result ≡ indexed.is_return value.now.kind.opcode }
+{
+    matches!(value.kind.opcode, Opcode::Return)
+}
+
 /// The first Return of a block.
 fn return_in(p: &Proc, block: usize) -> Option<&Value>
     requires { block < length p.now.procedure.blocks }
@@ -117,7 +125,7 @@ fn return_in(p: &Proc, block: usize) -> Option<&Value>
     let mut at = p.first(block);
     while let Some(node) = at {
         let value = p.value(node);
-        if value.kind.opcode == Opcode::Return {
+        if is_return(value) {
             return Some(value);
         }
         at = p.next(node);

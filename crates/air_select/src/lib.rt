@@ -7,6 +7,8 @@ mod known;
 mod procedure;
 mod rows;
 mod tables;
+#[cfg(test)]
+mod tests;
 mod uses;
 mod values;
 

@@ -2,6 +2,7 @@
 
 ghost use Rattle.std.specs.Prelude.{◌≡◌, ℕ, ◌<◌, ◌≤◌, ◌&&◌, ◌||◌, ◌++◌, ◌∷◌, [], length, map, nat_eq, IfOk, OnOk, suc};
 ghost use Rattle.b3_ir.specs.Types as types;
+ghost use Rattle.b3_rules.specs.Valid.{IsValidProcedure};
 ghost use Rattle.air_select.specs.Foldable as fold;
 ghost use Rattle.air_select.specs.Tables as tables;
 ghost use Rattle.air_select.specs.Tallied as tallied;
@@ -141,9 +142,11 @@ fn is_folded(known: Known, tally: Tally) -> bool
 
 /// For each value whether it is folded. It is refused for want of memory alone.
 pub(crate) fn folded_values(alloc: Global, p: &Proc, index: &Index) -> Result<Seq<bool>, NoMemory>
-    requires { index.now ≡ tables.index_of p.now.procedure }
+    requires valid { IsValidProcedure p.now.procedure }
+    requires index { index.now ≡ tables.index_of p.now.procedure }
     ensures { IfOk result (λ folds. folds ≡ map (fold.is_foldable p.now.procedure) (tables.ids_of p.now.procedure)) }
 {
+    p.whole();
     let mut tallies = no_uses(alloc, index.known.len())?;
     for block in 0..p.blocks() {
         note_block(&mut tallies, index, p, block as u32);

@@ -203,6 +203,31 @@ fn push_rotate_left(
     push_rotation(alloc, insts, t, v, Arg::At(extra))
 }
 
+/// Adds three operands.
+fn push_three(
+    operands: &mut Operands,
+    a: Operand,
+    b: Operand,
+    c: Operand,
+) -> Result<(), NoMemory>
+    ensures { OnOk result (operands.new ≡ operands.old ++ a ∷ b ∷ c ∷ []) }
+{
+    operands.push(a)?;
+    operands.push(b)?;
+    operands.push(c)
+}
+
+/// The operands of a choice: those of its test, the two words, and the result.
+fn choice(alloc: Global, t: &Tables, v: &Value) -> Result<Operands, NoMemory>
+    ensures { IfOk result (λ os. os ≡ (code.condition_of t.now (tables.child v.now.children 0)).over ++ code.use_of t.now (tables.child v.now.children 1) ∷ code.use_of t.now (tables.child v.now.children 2) ∷ code.result_of t.now v.now ∷ []) }
+{
+    let mut operands = tested(alloc, t, child(&v.children, 0))?;
+    let first = use_child(t, v, 1);
+    let second = use_child(t, v, 2);
+    push_three(&mut operands, first, second, result_of(t, v))?;
+    Ok(operands)
+}
+
 /// Adds a choice by a condition.
 fn push_select(
     alloc: Global,
@@ -212,12 +237,9 @@ fn push_select(
 ) -> Result<(), NoMemory>
     ensures { OnOk result (insts.new ≡ insts.old ++ code.select_on t.now v.now (code.condition_of t.now (tables.child v.now.children 0))) }
 {
-    let id = child(&v.children, 0);
-    let mut operands = tested(alloc, t, id)?;
-    operands.push(use_child(t, v, 1))?;
-    operands.push(use_child(t, v, 2))?;
-    operands.push(result_of(t, v))?;
-    push(insts, v.id, AirOp::SelectIf(test_of(t, id)), operands)
+    let operands = choice(alloc, t, v)?;
+    let test = test_of(t, child(&v.children, 0));
+    push(insts, v.id, AirOp::SelectIf(test), operands)
 }
 
 /// Adds a branch by a condition.
@@ -227,7 +249,7 @@ fn push_branch(
     t: &Tables,
     v: &Value,
 ) -> Result<(), NoMemory>
-    ensures { OnOk result (insts.new ≡ insts.old ++ code.branch_on v.now (code.condition_of t.now (tables.child v.now.children 0))) }
+    ensures { OnOk result (insts.new ≡ insts.old ++ code.branch_on t.now v.now (code.condition_of t.now (tables.child v.now.children 0))) }
 {
     let id = child(&v.children, 0);
     let operands = tested(alloc, t, id)?;
