@@ -57,7 +57,7 @@ stands_somewhere p v has =
     let there = in_some_block p.blocks v has in
     (there.0, there.1.0, at_place (values_of p there.0) there.1.0 v there.1.1 there.1.2)
 
-id_found : (id : ℕ) (vs : List Value) (v : Value) → with_id id vs ≡ Some v → Contains vs v × (v.id ≡ id)
+pub id_found : (id : ℕ) (vs : List Value) (v : Value) → with_id id vs ≡ Some v → Contains vs v × (v.id ≡ id)
 id_found id [] v e = absurd cc
 id_found id (w ∷ vs) v e =
     ⊎_elim
@@ -71,7 +71,7 @@ id_found id (w ∷ vs) v e =
     (eqb_tells w.id id)
 
 -- an id of a type other than Void names a value of that type
-named_of : (id : ℕ) (found : Option Value) (ty : Ty) → type_or_void found ≡ ty → ty ≢ Void → (v : Value) × (found ≡ Some v) × (v.ty ≡ ty)
+pub named_of : (id : ℕ) (found : Option Value) (ty : Ty) → type_or_void found ≡ ty → ty ≢ Void → (v : Value) × (found ≡ Some v) × (v.ty ≡ ty)
 named_of id (Some v) ty e some = (v, refl, e)
 named_of id None ty e some = absurd (some (sym e))
 
