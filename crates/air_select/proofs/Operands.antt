@@ -75,7 +75,7 @@ fits_at o (suc (suc i)) width word e = e
 -- ---- children
 module _ (p : Procedure) (valid : IsKept p) (t : Tables) (sound : IsSound p t) where
   -- the word of a constant is one of its width
-  constant_small : (c : ℕ) → type_of p c ≢ Void → is_constant (known t.index c).opcode ≡ true → (known t.index c).word < 2 ^ bits (width_at t.index c)
+  pub constant_small : (c : ℕ) → type_of p c ≢ Void → is_constant (known t.index c).opcode ≡ true → (known t.index c).word < 2 ^ bits (width_at t.index c)
   constant_small c typed const =
       let named = named_of c (value_named p c) (type_of p c) refl typed in
       let w = named.0 in
@@ -115,20 +115,20 @@ module _ (p : Procedure) (valid : IsKept p) (t : Tables) (sound : IsSound p t) w
         (refl, width, subst (λ w. IsWord (immediates_at v.kind.opcode i) w (arg_of t c)) width (word_fits i c at none typed'))
 
 -- ---- the children of a row
-two_of : (ty : ℕ → Ty) (alike : Ty) (a b : Taken) (cs : List ℕ) → AreTaken alike (a ∷ b ∷ []) NoMore (map ty cs)
+pub two_of : (ty : ℕ → Ty) (alike : Ty) (a b : Taken) (cs : List ℕ) → AreTaken alike (a ∷ b ∷ []) NoMore (map ty cs)
     → (c : ℕ) × (d : ℕ) × (cs ≡ c ∷ d ∷ []) × IsTaken alike a (ty c) × IsTaken alike b (ty d)
 two_of ty alike a b [] taken = absurd taken
 two_of ty alike a b (c ∷ []) taken = absurd taken.1
 two_of ty alike a b (c ∷ d ∷ []) taken = (c, d, refl, taken.0, taken.1.0)
 two_of ty alike a b (c ∷ d ∷ e ∷ cs) taken = absurd (let none = taken.1.1 in cc)
 
-one_of : (ty : ℕ → Ty) (alike : Ty) (a : Taken) (cs : List ℕ) → AreTaken alike (a ∷ []) NoMore (map ty cs)
+pub one_of : (ty : ℕ → Ty) (alike : Ty) (a : Taken) (cs : List ℕ) → AreTaken alike (a ∷ []) NoMore (map ty cs)
     → (c : ℕ) × (cs ≡ c ∷ []) × IsTaken alike a (ty c)
 one_of ty alike a [] taken = absurd taken
 one_of ty alike a (c ∷ []) taken = (c, refl, taken.0)
 one_of ty alike a (c ∷ d ∷ cs) taken = absurd (let none = taken.1 in cc)
 
-three_of : (ty : ℕ → Ty) (alike : Ty) (a b d : Taken) (cs : List ℕ) → AreTaken alike (a ∷ b ∷ d ∷ []) NoMore (map ty cs)
+pub three_of : (ty : ℕ → Ty) (alike : Ty) (a b d : Taken) (cs : List ℕ) → AreTaken alike (a ∷ b ∷ d ∷ []) NoMore (map ty cs)
     → (c : ℕ) × (e : ℕ) × (f : ℕ) × (cs ≡ c ∷ e ∷ f ∷ []) × IsTaken alike a (ty c) × IsTaken alike b (ty e) × IsTaken alike d (ty f)
 three_of ty alike a b d [] taken = absurd taken
 three_of ty alike a b d (c ∷ cs) taken =
