@@ -62,6 +62,11 @@ any_word width _ is = is
 pub any_fits : (width : Width) (o : Operand) → Fits (Word width NoImmediate) o → Fits (Word width AnyWord) o
 any_fits width o fits = (fits.0, fits.1, any_word width o.arg fits.2)
 
+-- the two children of a remainder
+pub record Divided (t : Tables) (v : Value) : Type 0 where
+  pub dividend : Fits (Word (width_of v.ty) NoImmediate) (use_of t (child v.children 0))
+  pub divisor : Fits (Word (width_of v.ty) NoImmediate) (use_of t (child v.children 1))
+
 module _ (p : Procedure) (kept : IsKept p) (t : Tables) (sound : IsSound p t) where
   module _ (b : ℕ) (v : Value) (here : Contains (values_of p b) v) (o : Opcode) (is : v.kind.opcode ≡ o) where
     -- child i has this type, and can be no condition
@@ -140,11 +145,7 @@ module _ (p : Procedure) (kept : IsKept p) (t : Tables) (sound : IsSound p t) wh
     -- ---- remainders
     module _ (a : Ty) (some : a ≢ Void) (none : (k : Known) → condition_fits t.index o 0 k ≡ false) (none' : (k : Known) → condition_fits t.index o 1 k ≡ false)
         (never : second_immediates o ≡ NoImmediate) (taken : AreTaken a (Alike ∷ Alike ∷ []) NoMore (types_of p v)) (own : v.ty ≡ a) where
-      pub record Divided : Type 0 where
-        pub dividend : Fits (Word (width_of v.ty) NoImmediate) (use_of t (child v.children 0))
-        pub divisor : Fits (Word (width_of v.ty) NoImmediate) (use_of t (child v.children 1))
-
-      pub divided : Divided
+      pub divided : Divided t v
       divided =
           let cs = two_of (type_of p) a Alike Alike v.children taken in
           let both = two_children a a cs.0 cs.1 cs.2 cs.3 cs.4 some some none none' in
