@@ -5,7 +5,7 @@ use Rattle.std.specs.List.{flat_map}
 use Rattle.std.proofs.lemmas.Bool.Decides.{eqb_tells}
 use Rattle.std.proofs.lemmas.Option.{get_or_from_slice_get, slice_get_within}
 use Rattle.std.proofs.lemmas.List.Concat.{flat_map-cons}
-use Rattle.std.proofs.lemmas.List.Elements.{Contains-append_cases}
+use Rattle.std.proofs.lemmas.List.Elements.{Contains-append_cases, Contains-append_left, Contains-append_right}
 use Rattle.b3_ir.specs.Naming.{all_values, type_of, type_or_void, value_named, with_id}
 use Rattle.b3_ir.specs.Procedure.{Block, Procedure, StandsAt, no_block, values_of}
 use Rattle.b3_ir.specs.Types.{AllowsTypes, AreMore}
@@ -50,6 +50,18 @@ in_some_block (block ∷ blocks) v has =
       | inr more ↦ let there = in_some_block blocks v more in (suc there.0, there.1)
     ]
 
+in_list : (blocks : List Block) (b : ℕ) (v : Value) → Contains (values_in blocks b) v → Contains (all_in blocks) v
+unfolding all_in values_in
+in_list [] b v has = absurd (contains_none v has)
+in_list (block ∷ blocks) zero v has = rw (flat_map-cons (λ (b : Block). b.values) block blocks) (Contains-append_left block.values (all_in blocks) v has)
+in_list (block ∷ blocks) (suc b) v has =
+    rw (flat_map-cons (λ (b : Block). b.values) block blocks) (Contains-append_right block.values (all_in blocks) v (in_list blocks b v has))
+
+-- a value of a block is one of the procedure
+pub in_all : (p : Procedure) (b : ℕ) (v : Value) → Contains (values_of p b) v → Contains (all_values p) v
+unfolding all_in values_in
+in_all p b v has = in_list p.blocks b v has
+
 -- a value of the procedure stands at a place of a block
 pub stands_somewhere : (p : Procedure) (v : Value) → Contains (all_values p) v → (b : ℕ) × (k : ℕ) × StandsAt p b k v
 unfolding all_in values_in
@@ -57,7 +69,7 @@ stands_somewhere p v has =
     let there = in_some_block p.blocks v has in
     (there.0, there.1.0, at_place (values_of p there.0) there.1.0 v there.1.1 there.1.2)
 
-id_found : (id : ℕ) (vs : List Value) (v : Value) → with_id id vs ≡ Some v → Contains vs v × (v.id ≡ id)
+pub id_found : (id : ℕ) (vs : List Value) (v : Value) → with_id id vs ≡ Some v → Contains vs v × (v.id ≡ id)
 id_found id [] v e = absurd cc
 id_found id (w ∷ vs) v e =
     ⊎_elim
@@ -71,7 +83,7 @@ id_found id (w ∷ vs) v e =
     (eqb_tells w.id id)
 
 -- an id of a type other than Void names a value of that type
-named_of : (id : ℕ) (found : Option Value) (ty : Ty) → type_or_void found ≡ ty → ty ≢ Void → (v : Value) × (found ≡ Some v) × (v.ty ≡ ty)
+pub named_of : (id : ℕ) (found : Option Value) (ty : Ty) → type_or_void found ≡ ty → ty ≢ Void → (v : Value) × (found ≡ Some v) × (v.ty ≡ ty)
 named_of id (Some v) ty e some = (v, refl, e)
 named_of id None ty e some = absurd (some (sym e))
 
@@ -85,7 +97,7 @@ return_by w vs v later Return is e =
     (subst (Contains (w ∷ vs)) it (contains_head w vs), ap (λ (x : Value). x.kind.opcode) (sym it) ∙ is)
 return_by w vs v later _ is e = later e
 
-return_found : (vs : List Value) (v : Value) → first_return vs ≡ Some v → Contains vs v × (v.kind.opcode ≡ Return)
+pub return_found : (vs : List Value) (v : Value) → first_return vs ≡ Some v → Contains vs v × (v.kind.opcode ≡ Return)
 return_found [] v e = absurd cc
 return_found (w ∷ vs) v e =
     return_by w vs v (λ later. let rest = return_found vs v later in (contains_tail w vs v rest.0, rest.1)) w.kind.opcode refl e
