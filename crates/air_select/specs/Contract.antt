@@ -1,18 +1,27 @@
--- What selection asks of a procedure, and what it promises of sizes, of what is returned and of ops.
-use Rattle.std.specs.Prelude.{◌≡◌, ℕ, ◌+◌, ◌*◌, ◌^◌, ◌≤◌, Bool, true, false, List, [], ◌∷◌, All, length, sum_by, slice_index_or}
+-- What selection asks of a procedure, and what it promises of sizes, of what is returned and of folded values.
+use Rattle.std.specs.Prelude.{◌≡◌, ℕ, ◌+◌, ◌*◌, ◌^◌, ◌≤◌, suc, Bool, true, false, List, [], ◌∷◌, All, Contains, length, map, sum_by, slice_get, slice_index_or, Some, take}
 use Rattle.b3_ir.specs.Procedure.{Block, Kept, Procedure, StandsAt, empty_kept, total}
+use Rattle.b3_ir.specs.Types.{width_of}
 use Rattle.b3_ir.specs.declared.opcode.Opcode.{Opcode}
 use Rattle.b3_ir.specs.declared.opcode.Opcode.TheVariants as opcode
 use Rattle.b3_ir.specs.declared.opcode.Ty.{Ty}
 use Rattle.b3_ir.specs.declared.value.Body.{Body}
 use Rattle.b3_ir.specs.declared.value.Body.TheVariants.{Cases}
 use Rattle.b3_ir.specs.declared.value.Value.{Value}
-use Rattle.air_ir.specs.Kinds.{Kind, Copies, Computes, Branches, Jumps, Switches, Returns, Fails, kind_of}
+use Rattle.air_ir.specs.Kinds.{Kind, Copies, Computes, Loads, Stores, Checks, ChecksResult, Calls, Patches, SlotAddresses, FramePointers, Branches, Jumps, Switches, Returns, Fails, kind_of}
+use Rattle.air_ir.specs.WellFormed as air
 use Rattle.air_ir.specs.declared.op.AirOp.{AirOp}
-use Rattle.air_ir.specs.declared.op.AirOp.TheVariants.{Shuffle}
+use Rattle.air_ir.specs.declared.op.AirOp.TheVariants.{BranchIf, SelectIf, Shuffle}
+use Rattle.air_ir.specs.declared.op.Test.{Test}
+use Rattle.air_ir.specs.declared.op.Test.TheVariants.{Bit, Compare}
+use Rattle.air_ir.specs.declared.operand.Arg.TheVariants.{Imm}
+use Rattle.air_ir.specs.declared.operand.Operand.{Operand}
 use Rattle.air_ir.specs.declared.procedure.AirBlock.{AirBlock}
 use Rattle.air_ir.specs.declared.procedure.AirInst.{AirInst}
 use Rattle.air_ir.specs.declared.procedure.AirProc.{AirProc}
+use Rattle.air_select.specs.Foldable.{is_and, is_comparison, is_constant, is_foldable}
+use Rattle.air_select.specs.Selected.{condition, tables, turned, use_of}
+use Rattle.air_select.specs.Tables.{word_in}
 
 -- the procedure at a place of a module
 abbrev pub procedure_at : List Kept → ℕ → Procedure
@@ -75,7 +84,7 @@ ReturnsType p ty = (block : ℕ) × (k : ℕ) × (v : Value) × (i : ℕ) × (j 
 
 -- ---- ops
 
--- the kinds of ops that are made: copies, what computes a word, and what ends a block
+-- the kinds of ops that are selected: copies, what computes a word, and what ends a block
 abbrev pub is_arithmetic_kind : Kind → Bool
 is_arithmetic_kind Copies = true
 is_arithmetic_kind Computes = true
@@ -93,3 +102,64 @@ is_arithmetic op = is_arithmetic_kind (kind_of op)
 
 abbrev pub IsArithmetic : AirProc → Type 0
 IsArithmetic q = All (λ (b : AirBlock). All (λ (i : AirInst). is_arithmetic i.op ≡ true) b.insts) q.blocks
+
+-- ---- folded values
+
+-- a foldable value is made by no instruction
+abbrev pub NoneIsMade : Procedure → AirProc → Type 0
+NoneIsMade p q = (block place : ℕ) (i : AirInst) → air.StandsAt q block place i → is_foldable p i.value ≡ false
+
+-- an instruction of the block is made for a value and has this
+abbrev pub IsMade : AirProc → ℕ → Value → (AirInst → Type 0) → Type 0
+IsMade q block v Has = (place : ℕ) × (i : AirInst) × air.StandsAt q (suc block) place i × (i.value ≡ v.id) × Has i
+
+-- the word of a constant as it stands in a use: the amount of a rotation left as its negative
+abbrev pub carried_word : Opcode → Ty → ℕ → ℕ
+carried_word opcode.RotL ty word = turned (width_of ty) word
+carried_word op ty word = word
+
+-- the instruction has this word as its second operand
+abbrev pub HasSecond : ℕ → AirInst → Type 0
+HasSecond word i = (o : Operand) × (slice_get i.operands 1 ≡ Some o) × (o.arg ≡ Imm word)
+
+abbrev pub test_in : AirOp → List Test
+test_in (BranchIf test) = test ∷ []
+test_in (SelectIf test) = test ∷ []
+test_in _ = []
+
+-- the instruction tests what a comparison compares: a constant that is folded stands there as its word
+abbrev pub TestsComparison : Procedure → Value → AirInst → Type 0
+TestsComparison p c i =
+    (test_in i.op ≡ Compare (condition c.kind.opcode) ∷ [])
+    × (take 2 i.operands ≡ map (use_of (tables p)) c.children)
+
+-- the instruction tests the one bit of a word in a value
+abbrev pub TestsBit : Procedure → ℕ → ℕ → AirInst → Type 0
+TestsBit p id word i =
+    (bit : ℕ) × (2 ^ bit ≡ word) × (test_in i.op ≡ Bit bit ∷ []) × (i.operands ≡ use_of (tables p) id ∷ [])
+
+-- a foldable constant is carried by each value that uses it and is not folded itself
+abbrev pub CarriesConstants : Procedure → AirProc → Type 0
+CarriesConstants p q = (b j c m : ℕ) (v k : Value) → StandsAt p b j v → StandsAt p c m k
+    → is_foldable p v.id ≡ false → is_constant k.kind.opcode ≡ true → is_foldable p k.id ≡ true
+    → slice_get v.children 1 ≡ Some k.id
+    → IsMade q b v (HasSecond (carried_word v.kind.opcode v.ty (word_in k.body)))
+
+-- a foldable comparison is carried by the value whose condition it is
+abbrev pub CarriesComparisons : Procedure → AirProc → Type 0
+CarriesComparisons p q = (b j c m : ℕ) (v k : Value) → StandsAt p b j v → StandsAt p c m k
+    → is_comparison k.kind.opcode ≡ true → is_foldable p k.id ≡ true → Contains v.children k.id
+    → IsMade q b v (TestsComparison p k)
+
+-- and so is a foldable test of a bit, with the constant of the bit
+abbrev pub CarriesBits : Procedure → AirProc → Type 0
+CarriesBits p q = (b j c m d n : ℕ) (v k w : Value) (x : ℕ) → StandsAt p b j v → StandsAt p c m k
+    → is_and k.kind.opcode ≡ true → is_foldable p k.id ≡ true → Contains v.children k.id
+    → k.children ≡ x ∷ w.id ∷ [] → StandsAt p d n w → IsMade q b v (TestsBit p x (word_in w.body))
+
+-- no instruction is made for a foldable value, and the instruction of its use carries it
+pub record IsFolded (p : Procedure) (q : AirProc) : Type 0 where
+  pub none : NoneIsMade p q
+  pub constants : CarriesConstants p q
+  pub comparisons : CarriesComparisons p q
+  pub bits : CarriesBits p q

@@ -1,0 +1,470 @@
+-- Folded values: no instruction is made for one, and the instruction of its use carries it.
+use Rattle.std.proofs.Common.{◌≡◌, ℕ, zero, suc, ◌+◌, ◌-◌, ◌^◌, ◌<◌, ◌⊎◌, inl, inr, Bool, true, false, ◌&&◌, ◌||◌, List, [], ◌∷◌, ◌++◌, Option, Some, None, length, map, take, refl, sym, ap, ◌∙◌, subst, arith, nat_eq, length-append}
+use Rattle.std.specs.Prelude.{All, Contains, if◌then◌else◌, slice_get, slice_index_or}
+use Rattle.std.specs.List.{flat_map}
+use Rattle.std.specs.Option.{option_map}
+use Rattle.std.proofs.lemmas.Bool.{cases_lt, eqb-true}
+use Rattle.std.proofs.lemmas.List.{length-map}
+use Rattle.std.proofs.lemmas.List.Elements.{All-append, All-nil}
+use Rattle.std.proofs.lemmas.Option.{get_or_from_slice_get, slice_get-get_or, slice_get-map, slice_get_within}
+use Rattle.b3_base.specs.declared.word.Width.{Width}
+use Rattle.b3_base.specs.declared.word.Width.TheVariants.{W32}
+use Rattle.b3_ir.specs.Naming.{all_values, type_of}
+use Rattle.b3_ir.specs.Procedure.{AllFit, Block, Procedure, StandsAt, no_block, place_among, values_of}
+use Rattle.b3_ir.specs.Table.{is_terminal}
+use Rattle.b3_ir.specs.Types.{AllowsTypes, AreTaken, width_of}
+use Rattle.b3_ir.specs.declared.opcode.Opcode.{Opcode}
+use Rattle.b3_ir.specs.declared.opcode.Opcode.TheVariants as opcode
+use Rattle.b3_ir.specs.declared.opcode.Ty.{Ty}
+use Rattle.b3_ir.specs.declared.table.More.TheVariants.{NoMore}
+use Rattle.b3_ir.specs.declared.table.Takes.{Takes}
+use Rattle.b3_ir.specs.declared.table.Takes.TheVariants.{Alike}
+use Rattle.b3_ir.specs.declared.value.Value.{Value}
+use Rattle.b3_ir.proofs.Typing.{allowed}
+use Rattle.b3_rules.specs.Rules.{types_of}
+use Rattle.b3_rules.specs.Valid.{IsValidProcedure}
+use Rattle.b3_sound.proofs.FromValid.{is_kept}
+use Rattle.b3_sound.proofs.Kept.{EndsBlock, IsKept}
+use Rattle.air_ir.specs.WellFormed as air
+use Rattle.air_ir.specs.declared.op.AirOp.{AirOp}
+use Rattle.air_ir.specs.declared.op.AirOp.TheVariants as op
+use Rattle.air_ir.specs.declared.op.Test.TheVariants.{Bit, Compare}
+use Rattle.air_ir.specs.declared.operand.Arg.TheVariants.{At, Imm}
+use Rattle.air_ir.specs.declared.procedure.AirBlock.{AirBlock}
+use Rattle.air_ir.specs.declared.procedure.AirInst.{AirInst}
+use Rattle.air_select.specs.Contract.{CarriesBits, CarriesComparisons, CarriesConstants, HasSecond, IsFolded, IsMade, NoneIsMade, TestsBit, TestsComparison, carried_word, test_in}
+use Rattle.air_select.specs.Foldable.{bit_of, condition_fits, constant_fits, fits, is_and, is_bit, is_bit_test, is_comparison, is_constant, is_foldable, is_immediate, second_immediates, uses}
+use Rattle.air_select.specs.Selected.{Condition, Tables, argument_moves, argument_move, arg_of, block_code, branch_on, code_of, computes, condition, condition_of, entry_of, folds, inst, last_id, names_argument, negative_amount, op_of, result_of, return_of, rotate_by, select_on, selected, selected_by, tables, turned, use_at, use_of, value_code}
+use Rattle.air_select.specs.Tables.{Index, child, first_extra, ids_of, index_of, known, known_in, word_in}
+use Rattle.air_select.specs.declared.known.Known.{Known}
+use Rattle.air_select.proofs.Children.{FitsAsCondition, FitsAsConstant, fit_cases}
+use Rattle.air_select.proofs.Places.{at_place, get_behind, get_front, get_within, in_blocks, known_is, place_is, row_get, split_at}
+use Rattle.air_select.proofs.Sites.{All-slice, all_one, all_three, all_two}
+use Rattle.air_select.proofs.Sound.{both_first, both_second, foldable, foldable_kind, sound, stands}
+
+-- ---- pieces of a list
+
+-- an item of the piece of a part
+flat_get : {X Y : Type 0} (f : X → List Y) (xs : List X) (j : ℕ) (x : X) (n : ℕ) (y : Y) → slice_get xs j ≡ Some x → slice_get (f x) n ≡ Some y
+    → slice_get (flat_map f xs) (length (flat_map f (take j xs)) + n) ≡ Some y
+flat_get f [] j x n y there at = absurd cc
+flat_get f (z ∷ xs) zero x n y there at =
+    let same : x ≡ z = cc in
+    let first : 0 + n ≡ n = omega arith in
+    ap (slice_get (f z ++ flat_map f xs)) first ∙ get_front (f z) (flat_map f xs) n y (subst (λ w. slice_get (f w) n ≡ Some y) same at)
+flat_get f (z ∷ xs) (suc j) x n y there at =
+    let far : length (f z ++ flat_map f (take j xs)) + n ≡ length (f z) + (length (flat_map f (take j xs)) + n) = omega (arith, length-append (f z) (flat_map f (take j xs))) in
+    ap (slice_get (f z ++ flat_map f xs)) far ∙ get_behind (f z) (flat_map f xs) (length (flat_map f (take j xs)) + n) ∙ flat_get f xs j x n y there at
+
+record IsPieceOf {X Y : Type 0} (f : X → List Y) (xs : List X) (y : Y) : Type 0 where
+  at : ℕ
+  part : X
+  there : slice_get xs at ≡ Some part
+  within : ℕ
+  here : slice_get (f part) within ≡ Some y
+
+flat_found : {X Y : Type 0} (f : X → List Y) (xs : List X) (k : ℕ) (y : Y) → slice_get (flat_map f xs) k ≡ Some y → IsPieceOf f xs y
+flat_found f [] k y e = absurd cc
+flat_found f (x ∷ xs) k y e =
+    elim (cases_lt k (length (f x))) [
+      | inl less ↦ record { at = 0; part = x; there = refl; within = k; here = get_within (f x) (flat_map f xs) k y less e }
+      | inr past ↦
+          let m : ℕ = k - length (f x) in
+          let split : length (f x) + m ≡ k = omega arith in
+          let more = flat_found f xs m y (sym (get_behind (f x) (flat_map f xs) m) ∙ ap (slice_get (flat_map f (x ∷ xs))) split ∙ e) in
+          record { at = suc more.at; part = more.part; there = more.there; within = more.within; here = more.here }
+    ]
+
+-- ---- what an instruction is made for
+
+abbrev IsFor : ℕ → AirInst → Type 0
+IsFor id i = i.value ≡ id
+
+module _ (t : Tables) (v : Value) where
+  either_for : (b : Bool) (is other : List AirInst) → All (IsFor v.id) is → All (IsFor v.id) other → All (IsFor v.id) (if b then is else other)
+  either_for true is other h k = h
+  either_for false is other h k = k
+
+  return_for : (cs : List ℕ) → All (IsFor v.id) (return_of t v cs)
+  return_for [] = all_one (IsFor v.id) _ refl
+  return_for (c ∷ cs) = all_two (IsFor v.id) _ _ refl refl
+
+  code_for : (o : Opcode) → All (IsFor v.id) (code_of t o v)
+  code_for opcode.Nop = All-nil (IsFor v.id)
+  code_for opcode.Mod = either_for v.kind.chill _ _ (all_three (IsFor v.id) _ _ _ refl refl refl) (all_two (IsFor v.id) _ _ refl refl)
+  code_for opcode.UMod = either_for v.kind.chill _ _ (all_three (IsFor v.id) _ _ _ refl refl refl) (all_two (IsFor v.id) _ _ refl refl)
+  code_for opcode.RotL = either_for (folds t (child v.children 1)) _ _ (all_one (IsFor v.id) _ refl) (all_two (IsFor v.id) _ _ refl refl)
+  code_for opcode.Return = return_for v.children
+  code_for _ = all_one (IsFor v.id) _ refl
+
+  made_for : All (IsFor v.id) (value_code t v)
+  unfolding value_code
+  made_for = either_for (folds t v.id) [] (code_of t v.kind.opcode v) (All-nil (IsFor v.id)) (code_for v.kind.opcode)
+
+  -- a value that has an instruction is not folded
+  unfolded_by : (n : ℕ) (i : AirInst) → slice_get (value_code t v) n ≡ Some i → folds t v.id ≡ false
+  unfolding value_code
+  unfolded_by n i e = by (folds t v.id) e
+    where
+      by : (b : Bool) → slice_get (if b then [] else code_of t v.kind.opcode v) n ≡ Some i → b ≡ false
+      by true at = absurd cc
+      by false at = refl
+
+  code_is : folds t v.id ≡ false → value_code t v ≡ code_of t v.kind.opcode v
+  unfolding value_code
+  code_is e = rw e refl
+
+moves_for : (x : Index) (vs : List Value) (value n : ℕ) → All (IsFor value) (argument_moves x vs value n)
+moves_for x vs value zero = All-nil (IsFor value)
+moves_for x vs value (suc r) =
+    All-append (IsFor value) (argument_moves x vs value r) _ (moves_for x vs value r) (by (names_argument vs r))
+  where
+    by : (b : Bool) → All (IsFor value) (if b then argument_move x value r ∷ [] else [])
+    by true = all_one (IsFor value) _ refl
+    by false = All-nil (IsFor value)
+
+entry_for : (x : Index) (vs : List Value) → All (IsFor (last_id vs)) (entry_of x vs).insts
+unfolding entry_of
+entry_for x vs = All-append (IsFor (last_id vs)) (argument_moves x vs (last_id vs) 8) _ (moves_for x vs (last_id vs) 8) (all_one (IsFor (last_id vs)) _ refl)
+
+-- ---- opcodes
+
+ending_no_constant : (o : Opcode) → is_terminal o ≡ true → is_constant o ≡ true → ⊥
+ending_no_constant opcode.Const32 e c = cc
+ending_no_constant opcode.Const64 e c = cc
+ending_no_constant _ e c = cc
+
+ending_no_comparison : (o : Opcode) → is_terminal o ≡ true → is_comparison o ≡ true → ⊥
+ending_no_comparison opcode.Equal e c = cc
+ending_no_comparison _ e c = cc
+
+ending_no_and : (o : Opcode) → is_terminal o ≡ true → is_and o ≡ true → ⊥
+ending_no_and opcode.BitAnd e c = cc
+ending_no_and _ e c = cc
+
+constant_no_comparison : (o : Opcode) → is_constant o ≡ true → is_comparison o ≡ true → ⊥
+constant_no_comparison opcode.Const32 e c = cc
+constant_no_comparison opcode.Const64 e c = cc
+constant_no_comparison _ e c = cc
+
+constant_no_and : (o : Opcode) → is_constant o ≡ true → is_and o ≡ true → ⊥
+constant_no_and opcode.Const32 e c = cc
+constant_no_and opcode.Const64 e c = cc
+constant_no_and _ e c = cc
+
+and_no_comparison : (o : Opcode) → is_and o ≡ true → is_comparison o ≡ false
+and_no_comparison opcode.BitAnd e = refl
+and_no_comparison _ e = absurd cc
+
+-- what has a condition is none of the kinds that are folded
+record HasNoKind (o : Opcode) : Type 0 where
+  constant : is_constant o ≡ false
+  comparison : is_comparison o ≡ false
+  conjunction : is_and o ≡ false
+
+user_kind : (x : Index) (o : Opcode) (i : ℕ) (k : Known) → condition_fits x o i k ≡ true → HasNoKind o
+user_kind x opcode.Branch i k e = record { constant = refl; comparison = refl; conjunction = refl }
+user_kind x opcode.Select i k e = record { constant = refl; comparison = refl; conjunction = refl }
+user_kind x _ i k e = absurd cc
+
+not_both : (b : Bool) → b ≡ true → b ≡ false → ⊥
+not_both b e f = let bad : true ≡ false = sym e ∙ f in cc
+
+-- ---- the code of a use
+
+-- an instruction of some code with a property
+abbrev HasInst : List AirInst → (AirInst → Type 0) → Type 0
+HasInst code Has = (n : ℕ) × (i : AirInst) × (slice_get code n ≡ Some i) × Has i
+
+child_is : (cs : List ℕ) (i id : ℕ) → slice_get cs i ≡ Some id → child cs i ≡ id
+child_is cs i id e = get_or_from_slice_get cs i id 0 e
+
+module _ (t : Tables) (v : Value) (id : ℕ) (folded : folds t id ≡ true) where
+  arg_is : arg_of t id ≡ Imm (known t.index id).word
+  arg_is = rw folded refl
+
+  computes_second : (op : AirOp) → slice_get v.children 1 ≡ Some id → HasInst (computes t v op) (HasSecond (known t.index id).word)
+  computes_second op at =
+      (0, inst v op (map (use_of t) v.children ++ result_of t v ∷ []), refl,
+      (use_of t id, get_front (map (use_of t) v.children) (result_of t v ∷ []) 1 (use_of t id) (slice_get-map (use_of t) v.children 1 ∙ ap (option_map (use_of t)) at), arg_is))
+
+  rotates_second : slice_get v.children 1 ≡ Some id → HasInst (code_of t opcode.RotL v) (HasSecond (turned (width_of v.ty) (known t.index id).word))
+  rotates_second at =
+      let same : id ≡ child v.children 1 = sym (child_is v.children 1 id at) in
+      by (child v.children 1) same
+    where
+      by : (amount : ℕ) → id ≡ amount
+          → HasInst (if folds t amount then rotate_by t v (Imm (turned (width_of v.ty) (known t.index amount).word)) ∷ []
+          else negative_amount t v ∷ rotate_by t v (At (first_extra t.index v.id)) ∷ []) (HasSecond (turned (width_of v.ty) (known t.index id).word))
+      by amount same =
+          subst (λ (a : ℕ). HasInst (if folds t a then rotate_by t v (Imm (turned (width_of v.ty) (known t.index a).word)) ∷ []
+          else negative_amount t v ∷ rotate_by t v (At (first_extra t.index v.id)) ∷ []) (HasSecond (turned (width_of v.ty) (known t.index id).word))) same
+          (rw folded (0, rotate_by t v (Imm (turned (width_of v.ty) (known t.index id).word)), refl, (use_at W32 (Imm (turned (width_of v.ty) (known t.index id).word)), refl, refl)))
+
+  -- an opcode that may have an immediate carries it
+  carries_second : (o : Opcode) (width : Width) (word : ℕ) → is_immediate (second_immediates o) width word ≡ true → slice_get v.children 1 ≡ Some id
+      → HasInst (code_of t o v) (HasSecond (carried_word o v.ty (known t.index id).word))
+  carries_second opcode.RotL width word e at = rotates_second at
+  carries_second opcode.Add width word e at = computes_second (op_of opcode.Add) at
+  carries_second opcode.BitAnd width word e at = computes_second (op_of opcode.BitAnd) at
+  carries_second opcode.BitOr width word e at = computes_second (op_of opcode.BitOr) at
+  carries_second opcode.BitXor width word e at = computes_second (op_of opcode.BitXor) at
+  carries_second opcode.Shl width word e at = computes_second (op_of opcode.Shl) at
+  carries_second opcode.SShr width word e at = computes_second (op_of opcode.SShr) at
+  carries_second opcode.ZShr width word e at = computes_second (op_of opcode.ZShr) at
+  carries_second opcode.RotR width word e at = computes_second (op_of opcode.RotR) at
+  carries_second opcode.Equal width word e at = computes_second (op_of opcode.Equal) at
+  carries_second opcode.NotEqual width word e at = computes_second (op_of opcode.NotEqual) at
+  carries_second opcode.LessThan width word e at = computes_second (op_of opcode.LessThan) at
+  carries_second opcode.GreaterThan width word e at = computes_second (op_of opcode.GreaterThan) at
+  carries_second opcode.LessEqual width word e at = computes_second (op_of opcode.LessEqual) at
+  carries_second opcode.GreaterEqual width word e at = computes_second (op_of opcode.GreaterEqual) at
+  carries_second opcode.Above width word e at = computes_second (op_of opcode.Above) at
+  carries_second opcode.Below width word e at = computes_second (op_of opcode.Below) at
+  carries_second opcode.AboveEqual width word e at = computes_second (op_of opcode.AboveEqual) at
+  carries_second opcode.BelowEqual width word e at = computes_second (op_of opcode.BelowEqual) at
+  carries_second _ width word e at = absurd cc
+
+  -- the condition of a comparison, and of a bit
+  abbrev comparing : Known → Condition
+  comparing k = record { test = Compare (condition k.opcode); over = use_of t k.first ∷ use_of t k.second ∷ [] }
+
+  abbrev bit_testing : Known → Condition
+  bit_testing k = record { test = Bit (bit_of (known t.index k.second).word); over = use_of t k.first ∷ [] }
+
+  compares : is_comparison (known t.index id).opcode ≡ true → condition_of t id ≡ comparing (known t.index id)
+  compares e = rw (folded, e) refl
+
+  tests_bit : is_comparison (known t.index id).opcode ≡ false → condition_of t id ≡ bit_testing (known t.index id)
+  tests_bit e = rw (folded, e) refl
+
+  abbrev Compared : Known → AirInst → Type 0
+  Compared k i = (test_in i.op ≡ Compare (condition k.opcode) ∷ []) × (take 2 i.operands ≡ use_of t k.first ∷ use_of t k.second ∷ [])
+
+  carries_comparison : (o : Opcode) (i : ℕ) → condition_fits t.index o i (known t.index id) ≡ true → is_comparison (known t.index id).opcode ≡ true
+      → slice_get v.children i ≡ Some id → HasInst (code_of t o v) (Compared (known t.index id))
+  carries_comparison opcode.Branch zero e is at =
+      let c : condition_of t (child v.children 0) ≡ comparing (known t.index id) = ap (condition_of t) (child_is v.children 0 id at) ∙ compares is in
+      subst (λ (d : Condition). HasInst (branch_on t v d) (Compared (known t.index id))) (sym c)
+      (0, inst v (op.BranchIf (comparing (known t.index id)).test) (comparing (known t.index id)).over, refl, (refl, refl))
+  carries_comparison opcode.Select zero e is at =
+      let c : condition_of t (child v.children 0) ≡ comparing (known t.index id) = ap (condition_of t) (child_is v.children 0 id at) ∙ compares is in
+      subst (λ (d : Condition). HasInst (select_on t v d) (Compared (known t.index id))) (sym c)
+      (0, inst v (op.SelectIf (comparing (known t.index id)).test)
+      ((comparing (known t.index id)).over ++ use_of t (child v.children 1) ∷ use_of t (child v.children 2) ∷ result_of t v ∷ []), refl, (refl, refl))
+  carries_comparison opcode.Branch (suc i) e is at = absurd cc
+  carries_comparison opcode.Select (suc i) e is at = absurd cc
+  carries_comparison _ i e is at = absurd cc
+
+  abbrev BitTested : Known → AirInst → Type 0
+  BitTested k i =
+      (is_bit (known t.index k.second).word ≡ true) × (test_in i.op ≡ Bit (bit_of (known t.index k.second).word) ∷ [])
+      × (i.operands ≡ use_of t k.first ∷ [])
+
+  carries_bit : (o : Opcode) (i : ℕ) → condition_fits t.index o i (known t.index id) ≡ true → is_and (known t.index id).opcode ≡ true
+      → slice_get v.children i ≡ Some id → HasInst (code_of t o v) (BitTested (known t.index id))
+  carries_bit opcode.Branch zero e is at =
+      let k = known t.index id in
+      let other : is_comparison k.opcode ≡ false = and_no_comparison k.opcode is in
+      let test : is_bit_test t.index k ≡ true = sym (ap (λ b. b || is_bit_test t.index k) other) ∙ e in
+      let second : (is_constant (known t.index k.second).opcode && is_bit (known t.index k.second).word) ≡ true =
+      both_second (is_and k.opcode) (is_constant (known t.index k.second).opcode && is_bit (known t.index k.second).word) test in
+      let bit = both_second (is_constant (known t.index k.second).opcode) (is_bit (known t.index k.second).word) second in
+      let c : condition_of t (child v.children 0) ≡ bit_testing k = ap (condition_of t) (child_is v.children 0 id at) ∙ tests_bit other in
+      subst (λ (d : Condition). HasInst (branch_on t v d) (BitTested k)) (sym c)
+      (0, inst v (op.BranchIf (bit_testing k).test) (bit_testing k).over, refl, (bit, refl, refl))
+  carries_bit opcode.Select zero e is at = absurd (not_both (is_comparison (known t.index id).opcode) e (and_no_comparison (known t.index id).opcode is))
+  carries_bit opcode.Branch (suc i) e is at = absurd cc
+  carries_bit opcode.Select (suc i) e is at = absurd cc
+  carries_bit _ i e is at = absurd cc
+
+-- ---- the children of a comparison
+
+two_listed : (ty : ℕ → Ty) (alike : Ty) (a b : Takes) (cs : List ℕ) → AreTaken alike (a ∷ b ∷ []) NoMore (map ty cs) → cs ≡ child cs 0 ∷ child cs 1 ∷ []
+two_listed ty alike a b [] taken = absurd taken
+two_listed ty alike a b (c ∷ []) taken = absurd taken.1
+two_listed ty alike a b (c ∷ d ∷ []) taken = refl
+two_listed ty alike a b (c ∷ d ∷ e ∷ cs) taken = absurd (let none : ty e ∷ map ty cs ≡ [] = taken.1.1 in cc)
+
+two_children : (ty : ℕ → Ty) (o : Opcode) (is : Ty) (cs : List ℕ) → is_comparison o ≡ true → AllowsTypes o is (map ty cs) → cs ≡ child cs 0 ∷ child cs 1 ∷ []
+two_children ty opcode.Equal is cs e h = two_listed ty h.alike Alike Alike cs h.children
+two_children ty opcode.NotEqual is cs e h = two_listed ty h.alike Alike Alike cs h.children
+two_children ty opcode.LessThan is cs e h = two_listed ty h.alike Alike Alike cs h.children
+two_children ty opcode.GreaterThan is cs e h = two_listed ty h.alike Alike Alike cs h.children
+two_children ty opcode.LessEqual is cs e h = two_listed ty h.alike Alike Alike cs h.children
+two_children ty opcode.GreaterEqual is cs e h = two_listed ty h.alike Alike Alike cs h.children
+two_children ty opcode.Above is cs e h = two_listed ty h.alike Alike Alike cs h.children
+two_children ty opcode.Below is cs e h = two_listed ty h.alike Alike Alike cs h.children
+two_children ty opcode.AboveEqual is cs e h = two_listed ty h.alike Alike Alike cs h.children
+two_children ty opcode.BelowEqual is cs e h = two_listed ty h.alike Alike Alike cs h.children
+two_children ty _ is cs e h = absurd cc
+
+-- ---- the whole
+
+-- the last value of a block is a terminal
+last_stands : (vs : List Value) → EndsBlock vs → (j : ℕ) × (v : Value) × (slice_get vs j ≡ Some v) × (v.id ≡ last_id vs) × (is_terminal v.kind.opcode ≡ true)
+last_stands [] ends = absurd ends
+last_stands (v ∷ []) ends = (0, v, refl, refl, ends)
+last_stands (v ∷ w ∷ vs) ends = let more = last_stands (w ∷ vs) ends.1 in (suc more.0, more.1, more.2, more.3, more.4)
+
+contains_at : {X : Type 0} (xs : List X) (k : ℕ) (x : X) → slice_get xs k ≡ Some x → Contains xs x
+contains_at xs k x there = (k, slice_get_within xs k x there, get_or_from_slice_get xs k x x there)
+
+mapped : {X Y : Type 0} (f : X → Y) (o : Option X) (y : Y) → option_map f o ≡ Some y → (x : X) × (o ≡ Some x) × (f x ≡ y)
+mapped f (Some x) y e = let same : f x ≡ y = cc in (x, refl, same)
+mapped f None y e = absurd cc
+
+module _ (p : Procedure) (valid : IsValidProcedure p) (fit : AllFit p.blocks) where
+  folds_at : (b j : ℕ) (v : Value) → StandsAt p b j v → folds (tables p) v.id ≡ is_foldable p v.id
+  folds_at b j v at =
+      let there = row_get p.blocks b j v at in
+      let below : place_among (ids_of p) v.id < length (ids_of p) =
+      omega (arith, place_is p valid b j v at, slice_get_within (all_values p) _ v there, length-map (all_values p) (λ (w : Value). w.id)) in
+      get_or_from_slice_get (map (is_foldable p) (ids_of p)) (place_among (ids_of p) v.id) (is_foldable p v.id) false
+      (slice_get-map (is_foldable p) (ids_of p) (place_among (ids_of p) v.id) ∙ ap (option_map (is_foldable p)) (at_place (ids_of p) v.id below))
+
+  ending_unfolded : (b j : ℕ) (v : Value) → StandsAt p b j v → is_terminal v.kind.opcode ≡ true → is_foldable p v.id ≡ false
+  ending_unfolded b j v at ends = by (is_foldable p v.id) refl
+    where
+      by : (c : Bool) → is_foldable p v.id ≡ c → is_foldable p v.id ≡ false
+      by false e = e
+      by true e =
+          absurd (elim (foldable_kind (index_of p) (uses p) v.id (known_in b v) (known_is p valid b j v at) e) [
+            | inl constant ↦ ending_no_constant v.kind.opcode ends constant
+            | inr other ↦ elim other [
+              | inl comparison ↦ ending_no_comparison v.kind.opcode ends comparison
+              | inr bit ↦
+                  ending_no_and v.kind.opcode ends
+                  (both_first (is_and v.kind.opcode) (is_constant (known (index_of p) (child v.children 1)).opcode && is_bit (known (index_of p) (child v.children 1)).word) bit)
+            ]
+          ])
+
+  none_made : NoneIsMade p (selected p)
+  unfolding selected_by block_code
+  none_made zero place i at =
+      let of : entry_of (index_of p) (values_of p 0) ≡ at.of = (let e = at.block_there in cc) in
+      let there : slice_get (entry_of (index_of p) (values_of p 0)).insts place ≡ Some i = subst (λ (b : AirBlock). slice_get b.insts place ≡ Some i) (sym of) at.inst_there in
+      let value : i.value ≡ last_id (values_of p 0) = All-slice (IsFor (last_id (values_of p 0))) (entry_of (index_of p) (values_of p 0)).insts place i (entry_for (index_of p) (values_of p 0)) there in
+      let kept = is_kept p valid fit in
+      let last = last_stands (values_of p 0) (kept.ends 0 kept.some) in
+      ap (is_foldable p) (value ∙ sym last.3) ∙ ending_unfolded 0 last.0 last.1 last.2 last.4
+  none_made (suc b) place i at =
+      let t = tables p in
+      let block = mapped (block_code t) (slice_get p.blocks b) at.of (sym (slice_get-map (block_code t) p.blocks b) ∙ at.block_there) in
+      let of : Block = block.0 in
+      let there : slice_get (flat_map (value_code t) of.values) place ≡ Some i = subst (λ (x : AirBlock). slice_get x.insts place ≡ Some i) (sym block.2) at.inst_there in
+      let piece = flat_found (value_code t) of.values place i there in
+      let v : Value = piece.part in
+      let values : values_of p b ≡ of.values = ap (λ (x : Block). x.values) (get_or_from_slice_get p.blocks b of no_block block.1) in
+      let stands_at : StandsAt p b piece.at v = subst (λ (vs : List Value). slice_get vs piece.at ≡ Some v) (sym values) piece.there in
+      let value : i.value ≡ v.id = All-slice (IsFor v.id) (value_code t v) piece.within i (made_for t v) piece.here in
+      ap (is_foldable p) value ∙ sym (folds_at b piece.at v stands_at) ∙ unfolded_by t v piece.within i piece.here
+
+  -- an instruction of a value's code stands in the block
+  made : (b j : ℕ) (v : Value) (Has : AirInst → Type 0) → StandsAt p b j v → folds (tables p) v.id ≡ false
+      → HasInst (code_of (tables p) v.kind.opcode v) Has → IsMade (selected p) b v Has
+  unfolding selected_by block_code
+  made b j v Has at unfolded has =
+      let t = tables p in
+      let of : Block = slice_index_or p.blocks b no_block in
+      let there = slice_get-get_or p.blocks b no_block (in_blocks p.blocks b j v at) in
+      let here : slice_get (value_code t v) has.0 ≡ Some has.1 = ap (λ l. slice_get l has.0) (code_is t v unfolded) ∙ has.2 in (
+        length (flat_map (value_code t) (take j (values_of p b))) + has.0,
+        has.1,
+        record {
+          of = block_code t of;
+          block_there = slice_get-map (block_code t) p.blocks b ∙ ap (option_map (block_code t)) there;
+          inst_there = flat_get (value_code t) (values_of p b) j v has.0 has.1 at here;
+        },
+        All-slice (IsFor v.id) (value_code t v) has.0 has.1 (made_for t v) here,
+        has.3,
+      )
+
+  abbrev index : Index
+  index = index_of p
+
+  constants : CarriesConstants p (selected p)
+  constants b j c m v k at at_k unfolded constant folded child_at =
+      let t = tables p in
+      let k_folds : folds t k.id ≡ true = folds_at c m k at_k ∙ folded in
+      let is = known_is p valid c m k at_k in
+      let fit = (sound p valid).uses_fit b 1 k.id v (contains_at (values_of p b) j v at) child_at k_folds in
+      let has : HasInst (code_of t v.kind.opcode v) (HasSecond (carried_word v.kind.opcode v.ty (known index k.id).word)) =
+      elim (fit_cases t b v.kind.opcode 1 k.id fit) [
+        | inl h ↦ carries_second t v k.id k_folds v.kind.opcode (width_of (known index k.id).ty) (known index k.id).word h.fits child_at
+        | inr h ↦ absurd (not_both (is_constant (known index k.id).opcode) (ap (λ (w : Known). is_constant w.opcode) is ∙ constant) h.constant)
+      ] in
+      subst (λ (w : Known). IsMade (selected p) b v (HasSecond (carried_word v.kind.opcode v.ty w.word))) is
+      (made b j v (HasSecond (carried_word v.kind.opcode v.ty (known index k.id).word)) at (folds_at b j v at ∙ unfolded) has)
+
+  -- what has a condition is not folded
+  user_unfolded : (b j : ℕ) (v : Value) → StandsAt p b j v → HasNoKind v.kind.opcode → folds (tables p) v.id ≡ false
+  user_unfolded b j v at h = by (folds (tables p) v.id) refl
+    where
+      by : (c : Bool) → folds (tables p) v.id ≡ c → folds (tables p) v.id ≡ false
+      by false e = e
+      by true e =
+          absurd (elim ((sound p valid).kinds b v (contains_at (values_of p b) j v at) e) [
+            | inl constant ↦ not_both (is_constant v.kind.opcode) constant h.constant
+            | inr other ↦ elim other [
+              | inl comparison ↦ not_both (is_comparison v.kind.opcode) comparison h.comparison
+              | inr bit ↦
+                  not_both (is_and v.kind.opcode)
+                  (both_first (is_and v.kind.opcode) (is_constant (known (index_of p) (child v.children 1)).opcode && is_bit (known (index_of p) (child v.children 1)).word) bit) h.conjunction
+            ]
+          ])
+
+  -- how a child that is no constant fits
+  as_condition : (b j c m i : ℕ) (v k : Value) → StandsAt p b j v → StandsAt p c m k → (is_constant k.kind.opcode ≡ true → ⊥)
+      → folds (tables p) k.id ≡ true → slice_get v.children i ≡ Some k.id → condition_fits index v.kind.opcode i (known index k.id) ≡ true
+  as_condition b j c m i v k at at_k other folded child_at =
+      let fit = (sound p valid).uses_fit b i k.id v (contains_at (values_of p b) j v at) child_at folded in
+      elim (fit_cases (tables p) b v.kind.opcode i k.id fit) [
+        | inl h ↦ absurd (other (sym (ap (λ (w : Known). is_constant w.opcode) (known_is p valid c m k at_k)) ∙ h.constant))
+        | inr h ↦ h.fits
+      ]
+
+  child_place : (v : Value) (id : ℕ) → Contains v.children id → (i : ℕ) × (slice_get v.children i ≡ Some id)
+  child_place v id has = (has.0, slice_get-get_or v.children has.0 id has.1 ∙ ap Some has.2)
+
+  comparisons : CarriesComparisons p (selected p)
+  comparisons b j c m v k at at_k comparison folded has =
+      let t = tables p in
+      let k_folds : folds t k.id ≡ true = folds_at c m k at_k ∙ folded in
+      let is = known_is p valid c m k at_k in
+      let i = child_place v k.id has in
+      let fit = as_condition b j c m i.0 v k at at_k (λ constant. constant_no_comparison k.kind.opcode constant comparison) k_folds i.1 in
+      let inst_has = carries_comparison t v k.id k_folds v.kind.opcode i.0 fit (ap (λ (w : Known). is_comparison w.opcode) is ∙ comparison) i.1 in
+      let cut = split_at (values_of p c) m k at_k in
+      let rules = (is_kept p valid fit_all).rules c (take m (values_of p c)) k (cut.0, cut.1) in
+      let two = two_children (type_of p) k.kind.opcode k.ty k.children comparison (allowed k.kind.opcode k.ty (types_of p k) rules.typed) in
+      made b j v (TestsComparison p k) at (user_unfolded b j v at (user_kind index v.kind.opcode i.0 (known index k.id) fit))
+      (inst_has.0, inst_has.1, inst_has.2, (
+        inst_has.3.0 ∙ ap (λ (w : Known). Compare (condition w.opcode) ∷ []) is,
+        inst_has.3.1 ∙ ap (λ (w : Known). use_of t w.first ∷ use_of t w.second ∷ []) is ∙ ap (map (use_of t)) (sym two),
+      ))
+    where
+      fit_all : AllFit p.blocks
+      fit_all = fit
+
+  bits : CarriesBits p (selected p)
+  bits b j c m d n v k w x at at_k conjunction folded has children at_w =
+      let t = tables p in
+      let k_folds : folds t k.id ≡ true = folds_at c m k at_k ∙ folded in
+      let is = known_is p valid c m k at_k in
+      let i = child_place v k.id has in
+      let fits_so = as_condition b j c m i.0 v k at at_k (λ constant. constant_no_and k.kind.opcode constant conjunction) k_folds i.1 in
+      let inst_has = carries_bit t v k.id k_folds v.kind.opcode i.0 fits_so (ap (λ (z : Known). is_and z.opcode) is ∙ conjunction) i.1 in
+      let first : (known index k.id).first ≡ x = ap (λ (z : Known). z.first) is ∙ ap (λ l. child l 0) children in
+      let second : (known index k.id).second ≡ w.id = ap (λ (z : Known). z.second) is ∙ ap (λ l. child l 1) children in
+      let word : (known index (known index k.id).second).word ≡ word_in w.body = ap (λ z. (known index z).word) second ∙ ap (λ (z : Known). z.word) (known_is p valid d n w at_w) in
+      made b j v (TestsBit p x (word_in w.body)) at (user_unfolded b j v at (user_kind index v.kind.opcode i.0 (known index k.id) fits_so))
+      (inst_has.0, inst_has.1, inst_has.2, (
+        bit_of (word_in w.body),
+        eqb-true (2 ^ bit_of (word_in w.body)) (word_in w.body) (subst (λ z. is_bit z ≡ true) word inst_has.3.0),
+        inst_has.3.1 ∙ ap (λ z. Bit (bit_of z) ∷ []) word,
+        inst_has.3.2 ∙ ap (λ z. use_of t z ∷ []) first,
+      ))
+
+  pub is_folded : IsFolded p (selected p)
+  is_folded = record { none = none_made; constants = constants; comparisons = comparisons; bits = bits }

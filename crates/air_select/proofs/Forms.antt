@@ -1,0 +1,166 @@
+-- Each instruction of a value has the operands that its op takes: the opcodes that are one op over their children, copies,
+-- remainders and rotations.
+use Rattle.std.proofs.Common.{◌≡◌, ◌≢◌, ℕ, zero, suc, ◌+◌, ◌*◌, ◌-◌, ◌%◌, ◌^◌, ◌<◌, ◌≤◌, ◌⊎◌, inl, inr, Bool, true, false, List, [], ◌∷◌, ◌++◌, map, Option, Some, None, length, refl, sym, ap, ◌∙◌, subst, arith}
+use Rattle.std.specs.Prelude.{All, Contains, if◌then◌else◌, slice_get}
+use Rattle.b3_base.specs.Word.{bits}
+use Rattle.b3_base.specs.declared.word.Width.{Width}
+use Rattle.b3_base.specs.declared.word.Width.TheVariants.{W32, W64}
+use Rattle.b3_ir.specs.Fits.{IsConstantBelow, reported_count}
+use Rattle.b3_ir.specs.Naming.{type_of}
+use Rattle.b3_ir.specs.Procedure.{Procedure, values_of}
+use Rattle.b3_ir.specs.Types.{AllowsTypes, AreTaken, IsTaken, width_of}
+use Rattle.b3_ir.specs.declared.opcode.Opcode.{Opcode}
+use Rattle.b3_ir.specs.declared.opcode.Opcode.TheVariants as opcode
+use Rattle.b3_ir.specs.declared.opcode.Ty.{Ty}
+use Rattle.b3_ir.specs.declared.opcode.Ty.TheVariants.{Void, Int32, Int64}
+use Rattle.b3_ir.specs.declared.table.More.TheVariants.{NoMore}
+use Rattle.b3_ir.specs.declared.table.Takes.TheVariants.{Alike, This}
+use Rattle.b3_ir.specs.declared.value.Value.{Value}
+use Rattle.b3_rules.specs.Rules.{types_of}
+use Rattle.b3_sound.proofs.Kept.{IsKept}
+use Rattle.stackmap.specs.declared.site.Returns.{Returns}
+use Rattle.air_ir.specs.Forms.{AllFit, AreThese, Fits, HasOperands, Immediates, NoImmediate, AnyWord, OfSum, OfLogic, IsWord, Takes, Word, Result, takes}
+use Rattle.air_ir.specs.declared.op.AirOp.{AirOp}
+use Rattle.air_ir.specs.declared.op.AirOp.TheVariants as op
+use Rattle.air_ir.specs.declared.operand.Arg.{Arg}
+use Rattle.air_ir.specs.declared.operand.Arg.TheVariants.{At, Imm}
+use Rattle.air_ir.specs.declared.operand.Home.TheVariants.{Tmp}
+use Rattle.air_ir.specs.declared.operand.Operand.{Operand}
+use Rattle.air_select.specs.Foldable.{condition_fits, second_immediates}
+use Rattle.air_select.specs.Selected.{Tables, arg_of, chosen_rest, def_at, folds, quotient_of, rest_into, result_of, rotate_by, negative_amount, turned, use_at, use_of}
+use Rattle.air_select.specs.Tables.{child, first_extra, home, known, place, second_extra, width_at}
+use Rattle.air_select.specs.declared.known.Known.{Known}
+use Rattle.air_select.proofs.Operands.{child_fits, immediates_at, one_of, two_of}
+use Rattle.air_select.proofs.Setting.{IsSound}
+
+-- the operands after the children, and with them
+pub fit_three : (a b r : Takes) (x y z : Operand) → Fits a x → Fits b y → Fits r z → AllFit (a ∷ b ∷ r ∷ []) (x ∷ y ∷ z ∷ [])
+unfolding AllFit
+fit_three a b r x y z p q s = (p, (q, (s, tt)))
+
+pub fit_two : (a r : Takes) (x z : Operand) → Fits a x → Fits r z → AllFit (a ∷ r ∷ []) (x ∷ z ∷ [])
+unfolding AllFit
+fit_two a r x z p s = (p, (s, tt))
+
+pub fit_four : (a b c r : Takes) (w x y z : Operand) → Fits a w → Fits b x → Fits c y → Fits r z → AllFit (a ∷ b ∷ c ∷ r ∷ []) (w ∷ x ∷ y ∷ z ∷ [])
+unfolding AllFit
+fit_four a b c r w x y z p q s u = (p, (q, (s, (u, tt))))
+
+pub fit_one : (a : Takes) (x : Operand) → Fits a x → AllFit (a ∷ []) (x ∷ [])
+unfolding AllFit
+fit_one a x p = (p, tt)
+
+pub fit_none : AllFit [] []
+unfolding AllFit
+fit_none = tt
+
+any_word : (width : Width) (arg : Arg) → IsWord NoImmediate width arg → IsWord AnyWord width arg
+any_word width (At home) is = tt
+any_word width (Imm word) is = (is.0, tt)
+any_word width _ is = is
+
+pub any_fits : (width : Width) (o : Operand) → Fits (Word width NoImmediate) o → Fits (Word width AnyWord) o
+any_fits width o fits = (fits.0, fits.1, any_word width o.arg fits.2)
+
+-- the two children of a remainder
+pub record Divided (t : Tables) (v : Value) : Type 0 where
+  pub dividend : Fits (Word (width_of v.ty) NoImmediate) (use_of t (child v.children 0))
+  pub divisor : Fits (Word (width_of v.ty) NoImmediate) (use_of t (child v.children 1))
+
+module _ (p : Procedure) (kept : IsKept p) (t : Tables) (sound : IsSound p t) where
+  module _ (b : ℕ) (v : Value) (here : Contains (values_of p b) v) (o : Opcode) (is : v.kind.opcode ≡ o) where
+    -- child i has this type, and can be no condition
+    pub child_as : (i c : ℕ) (ty : Ty) → slice_get v.children i ≡ Some c → ((k : Known) → condition_fits t.index o i k ≡ false) → type_of p c ≡ ty
+        → ty ≢ Void → Fits (Word (width_of ty) (immediates_at o i)) (use_of t c)
+    child_as i c ty at none typed some =
+        subst (λ (q : Opcode). ((k : Known) → condition_fits t.index q i k ≡ false) → Fits (Word (width_of ty) (immediates_at q i)) (use_of t c)) is
+        (λ none. child_fits p kept t sound b v here i c ty at none typed some) none
+
+    first_at : (c : ℕ) (cs : List ℕ) → v.children ≡ c ∷ cs → slice_get v.children 0 ≡ Some c
+    first_at c cs e = ap (λ (l : List ℕ). slice_get l 0) e
+
+    second_at : (c d : ℕ) (cs : List ℕ) → v.children ≡ c ∷ d ∷ cs → slice_get v.children 1 ≡ Some d
+    second_at c d cs e = ap (λ (l : List ℕ). slice_get l 1) e
+
+    own_result : (ty : Ty) → v.ty ≡ ty → Fits (Result (width_of ty)) (result_of t v)
+    own_result ty e = (refl, ap width_of e, tt)
+
+    -- what is made of two children, the second of which may be an immediate
+    two_children : (ty u : Ty) → (c d : ℕ) → v.children ≡ c ∷ d ∷ [] → type_of p c ≡ ty → type_of p d ≡ u → ty ≢ Void → u ≢ Void
+        → ((k : Known) → condition_fits t.index o 0 k ≡ false) → ((k : Known) → condition_fits t.index o 1 k ≡ false)
+        → Fits (Word (width_of ty) NoImmediate) (use_of t c) × Fits (Word (width_of u) (second_immediates o)) (use_of t d)
+    two_children ty u c d e tc td some also none none' =
+        (child_as 0 c ty (first_at c (d ∷ []) e) none tc some, child_as 1 d u (second_at c d [] e) none' td also)
+
+    -- two children of types that are known, and the result
+    pub binary : (ty u r : Ty) (c d : ℕ) → v.children ≡ c ∷ d ∷ [] → type_of p c ≡ ty → type_of p d ≡ u → ty ≢ Void → u ≢ Void → v.ty ≡ r
+        → ((k : Known) → condition_fits t.index o 0 k ≡ false) → ((k : Known) → condition_fits t.index o 1 k ≡ false)
+        → AllFit (Word (width_of ty) NoImmediate ∷ Word (width_of u) (second_immediates o) ∷ Result (width_of r) ∷ [])
+        (map (use_of t) v.children ++ result_of t v ∷ [])
+    binary ty u r c d e tc td some also own none none' =
+        let both = two_children ty u c d e tc td some also none none' in
+        subst (λ (l : List ℕ). AllFit (Word (width_of ty) NoImmediate ∷ Word (width_of u) (second_immediates o) ∷ Result (width_of r) ∷ [])
+        (map (use_of t) l ++ result_of t v ∷ [])) (sym e)
+        (fit_three (Word (width_of ty) NoImmediate) (Word (width_of u) (second_immediates o)) (Result (width_of r)) (use_of t c) (use_of t d) (result_of t v)
+        both.0 both.1 (own_result r own))
+
+    -- one child, and the result
+    pub unary : (ty r : Ty) (c : ℕ) → v.children ≡ c ∷ [] → type_of p c ≡ ty → ty ≢ Void → v.ty ≡ r → ((k : Known) → condition_fits t.index o 0 k ≡ false)
+        → AllFit (Word (width_of ty) NoImmediate ∷ Result (width_of r) ∷ []) (map (use_of t) v.children ++ result_of t v ∷ [])
+    unary ty r c e tc some own none =
+        subst (λ (l : List ℕ). AllFit (Word (width_of ty) NoImmediate ∷ Result (width_of r) ∷ []) (map (use_of t) l ++ result_of t v ∷ [])) (sym e)
+        (fit_two (Word (width_of ty) NoImmediate) (Result (width_of r)) (use_of t c) (result_of t v) (child_as 0 c ty (first_at c [] e) none tc some) (own_result r own))
+
+    -- ---- by the row
+    module _ (a : Ty) (some : a ≢ Void) (none : (k : Known) → condition_fits t.index o 0 k ≡ false) (none' : (k : Known) → condition_fits t.index o 1 k ≡ false) where
+      -- two children of one type
+      pub alike_two : (r : Ty) → AreTaken a (Alike ∷ Alike ∷ []) NoMore (types_of p v) → v.ty ≡ r
+          → AllFit (Word (width_of a) NoImmediate ∷ Word (width_of a) (second_immediates o) ∷ Result (width_of r) ∷ []) (map (use_of t) v.children ++ result_of t v ∷ [])
+      alike_two r taken own =
+          let cs = two_of (type_of p) a Alike Alike v.children taken in
+          binary a a r cs.0 cs.1 cs.2 cs.3 cs.4 some some own none none'
+
+      -- a child of the value's own type, and an amount
+      pub shifted : AreTaken a (Alike ∷ This Int32 ∷ []) NoMore (types_of p v) → v.ty ≡ a
+          → AllFit (Word (width_of a) NoImmediate ∷ Word W32 (second_immediates o) ∷ Result (width_of a) ∷ []) (map (use_of t) v.children ++ result_of t v ∷ [])
+      shifted taken own =
+          let cs = two_of (type_of p) a Alike (This Int32) v.children taken in
+          binary a Int32 a cs.0 cs.1 cs.2 cs.3 cs.4 some (λ e. cc) own none none'
+
+      -- one child of the value's own type
+      pub alike_one : AreTaken a (Alike ∷ []) NoMore (types_of p v) → v.ty ≡ a
+          → AllFit (Word (width_of a) NoImmediate ∷ Result (width_of a) ∷ []) (map (use_of t) v.children ++ result_of t v ∷ [])
+      alike_one taken own =
+          let cs = one_of (type_of p) a Alike v.children taken in
+          unary a a cs.0 cs.1 cs.2 some own none
+
+    -- one child of a type, and a result of another one
+    pub from_one : (alike from r : Ty) → from ≢ Void → AreTaken alike (This from ∷ []) NoMore (types_of p v) → v.ty ≡ r
+        → ((k : Known) → condition_fits t.index o 0 k ≡ false)
+        → AllFit (Word (width_of from) NoImmediate ∷ Result (width_of r) ∷ []) (map (use_of t) v.children ++ result_of t v ∷ [])
+    from_one alike from r some taken own none =
+        let cs = one_of (type_of p) alike (This from) v.children taken in
+        unary from r cs.0 cs.1 cs.2 some own none
+
+    -- ---- remainders
+    module _ (a : Ty) (some : a ≢ Void) (none : (k : Known) → condition_fits t.index o 0 k ≡ false) (none' : (k : Known) → condition_fits t.index o 1 k ≡ false)
+        (never : second_immediates o ≡ NoImmediate) (taken : AreTaken a (Alike ∷ Alike ∷ []) NoMore (types_of p v)) (own : v.ty ≡ a) where
+      pub divided : Divided t v
+      divided =
+          let cs = two_of (type_of p) a Alike Alike v.children taken in
+          let both = two_children a a cs.0 cs.1 cs.2 cs.3 cs.4 some some none none' in
+          let first : child v.children 0 ≡ cs.0 = ap (λ (l : List ℕ). child l 0) cs.2 in
+          let second : child v.children 1 ≡ cs.1 = ap (λ (l : List ℕ). child l 1) cs.2 in
+          record {
+            dividend = subst (λ (w : Ty). Fits (Word (width_of w) NoImmediate) (use_of t (child v.children 0))) (sym own)
+                (subst (λ (c : ℕ). Fits (Word (width_of a) NoImmediate) (use_of t c)) (sym first) both.0);
+            divisor = subst (λ (w : Ty). Fits (Word (width_of w) NoImmediate) (use_of t (child v.children 1))) (sym own)
+                (subst (λ (c : ℕ). Fits (Word (width_of a) NoImmediate) (use_of t c)) (sym second) (subst (λ (m : Immediates). Fits (Word (width_of a) m) (use_of t cs.1)) never both.1));
+          }
+
+-- what a value's own temporaries hold fits
+pub home_fits : (width : Width) (n : ℕ) → Fits (Word width NoImmediate) (use_at width (At (Tmp n)))
+home_fits width n = (refl, refl, tt)
+
+pub result_fits : (width : Width) (n : ℕ) → Fits (Result width) (def_at width (Tmp n))
+result_fits width n = (refl, refl, tt)

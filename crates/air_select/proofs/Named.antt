@@ -1,0 +1,208 @@
+-- The operands of what is selected name temporaries of the procedure, and registers that values may stand in.
+use Rattle.std.proofs.Common.{◌≡◌, ℕ, zero, suc, ◌+◌, ◌*◌, ◌<◌, ◌≤◌, ◌⊎◌, inl, inr, Bool, true, false, List, [], ◌∷◌, ◌++◌, map, length, refl, sym, ap, ◌∙◌, subst, arith}
+use Rattle.std.specs.Prelude.{All, Contains, ◌==◌, if◌then◌else◌, nat_eq}
+use Rattle.std.specs.List.{flat_map}
+use Rattle.std.proofs.lemmas.List.Elements.{All-append, All-cons, All-map, All-nil}
+use Rattle.b3_base.specs.declared.word.Width.{Width}
+use Rattle.b3_base.specs.declared.word.Width.TheVariants.{W32, W64}
+use Rattle.b3_ir.specs.Procedure.{place_among}
+use Rattle.b3_ir.specs.Types.{width_of}
+use Rattle.b3_ir.specs.declared.opcode.Opcode.{Opcode}
+use Rattle.b3_ir.specs.declared.opcode.Opcode.TheVariants as opcode
+use Rattle.b3_ir.specs.declared.value.Value.{Value}
+use Rattle.air_ir.specs.declared.op.AirOp.{AirOp}
+use Rattle.air_ir.specs.declared.op.AirOp.TheVariants as op
+use Rattle.air_ir.specs.declared.op.Test.TheVariants.{Bit, Compare, NonZero}
+use Rattle.air_ir.specs.declared.operand.Arg.{Arg}
+use Rattle.air_ir.specs.declared.operand.Arg.TheVariants.{At, Imm}
+use Rattle.air_ir.specs.declared.operand.Home.{Home}
+use Rattle.air_ir.specs.declared.operand.Home.TheVariants.{Tmp}
+use Rattle.air_ir.specs.declared.operand.Operand.{Operand}
+use Rattle.air_ir.specs.declared.procedure.AirInst.{AirInst}
+use Rattle.air_ir.specs.declared.procedure.AirProc.{AirProc}
+use Rattle.air_ir.specs.WellFormed.{NamesOwn}
+use Rattle.air_select.specs.Foldable.{bit_of, is_comparison}
+use Rattle.air_select.specs.Selected.{Condition, Tables, arg_of, argument_move, argument_moves, cases_in, chosen_rest, code_of, computes, condition, condition_of, def_at, entry_of, folded_condition, folds, inst, last_id, names_argument, negative_amount, op_of, phi_in, quotient_of, register, register_in, rest_into, result_of, return_of, rotate_by, select_on, turned, use_at, use_of, value_code}
+use Rattle.air_select.specs.Tables.{Index, argument, child, first_extra, home, known, place, second_extra, tmp_count, width_at}
+use Rattle.air_select.proofs.Sites.{all_of, all_one, all_three, all_two}
+
+place_most : (ids : List ℕ) (id : ℕ) → place_among ids id ≤ length ids
+place_most [] id = omega arith
+place_most (n ∷ ns) id = by (n == id) (place_most ns id)
+  where
+    by : (b : Bool) → place_among ns id ≤ length ns → (if b then 0 else suc (place_among ns id)) ≤ length (n ∷ ns)
+    by true le = omega arith
+    by false le = omega (arith, le)
+
+module _ (q : AirProc) (t : Tables) (tmps : q.tmps ≡ tmp_count t.index) where
+  abbrev pub IsOwn : Operand → Type 0
+  IsOwn o = NamesOwn q o.role o.arg
+
+  below : (id k : ℕ) → k ≤ 2 → 3 * place t.index id + k < q.tmps
+  below id k le = let most = place_most t.index.ids id in omega (arith, most, tmps, le)
+
+  home_below : (id : ℕ) → 3 * place t.index id < q.tmps
+  home_below id = let most = place_most t.index.ids id in omega (arith, most, tmps)
+
+  choice_own : (b : Bool) (width : Width) (word n : ℕ) → n < q.tmps → IsOwn (use_at width (if b then Imm word else At (Tmp n)))
+  choice_own true width word n lt = tt
+  choice_own false width word n lt = lt
+
+  arg_own : (width : Width) (id : ℕ) → IsOwn (use_at width (arg_of t id))
+  arg_own width id = choice_own (folds t id) width (known t.index id).word (3 * place t.index id) (home_below id)
+
+  use_own : (id : ℕ) → IsOwn (use_of t id)
+  use_own id = arg_own (width_at t.index id) id
+
+  one_own : (id : ℕ) → All IsOwn (use_of t id ∷ [])
+  one_own id = all_one IsOwn (use_of t id) (use_own id)
+
+  pick : {X : Type 0} (P : X → Type 0) (b : Bool) (x y : X) → P x → P y → P (if b then x else y)
+  pick P true x y p q = p
+  pick P false x y p q = q
+
+  abbrev IsOwnCondition : Condition → Type 0
+  IsOwnCondition c = All IsOwn c.over
+
+  folded_own : (id : ℕ) → IsOwnCondition (folded_condition t id)
+  folded_own id =
+      let k = known t.index id in
+      pick IsOwnCondition (is_comparison k.opcode)
+      (record { test = Compare (condition k.opcode); over = use_of t k.first ∷ use_of t k.second ∷ [] })
+      (record { test = Bit (bit_of (known t.index k.second).word); over = use_of t k.first ∷ [] })
+      (all_two IsOwn (use_of t k.first) (use_of t k.second) (use_own k.first) (use_own k.second))
+      (one_own k.first)
+
+  condition_own : (id : ℕ) → IsOwnCondition (condition_of t id)
+  condition_own id =
+      pick IsOwnCondition (folds t id) (folded_condition t id) (record { test = NonZero; over = use_of t id ∷ [] })
+      (folded_own id) (one_own id)
+
+  abbrev pub IsOwnInst : AirInst → Type 0
+  IsOwnInst i = All IsOwn i.operands
+
+  module _ (v : Value) (argued : v.kind.opcode ≡ opcode.ArgumentReg → register_in v.body < 8) where
+    here_below : (k : ℕ) → k ≤ 2 → 3 * place t.index v.id + k < q.tmps
+    here_below k le = below v.id k le
+
+    computes_own : (op : AirOp) → All IsOwnInst (computes t v op)
+    computes_own op =
+        all_one IsOwnInst (inst v op (map (use_of t) v.children ++ result_of t v ∷ []))
+        (All-append IsOwn (map (use_of t) v.children) (result_of t v ∷ [])
+        (All-map IsOwn (use_of t) v.children (all_of (λ id. IsOwn (use_of t id)) use_own v.children))
+        (all_one IsOwn (result_of t v) (home_below v.id)))
+
+    quotient_own : (op : AirOp) → IsOwnInst (quotient_of t v op)
+    quotient_own op =
+        all_three IsOwn (use_of t (child v.children 0)) (use_of t (child v.children 1)) (def_at (width_of v.ty) (first_extra t.index v.id))
+        (use_own (child v.children 0)) (use_own (child v.children 1)) (below v.id 1 (omega arith))
+
+    rest_own : (to : ℕ) → to < q.tmps → IsOwnInst (rest_into t v (Tmp to))
+    rest_own to lt =
+        All-cons IsOwn (use_at (width_of v.ty) (At (first_extra t.index v.id)))
+        (use_of t (child v.children 1) ∷ use_of t (child v.children 0) ∷ def_at (width_of v.ty) (Tmp to) ∷ [])
+        (below v.id 1 (omega arith))
+        (all_three IsOwn (use_of t (child v.children 1)) (use_of t (child v.children 0)) (def_at (width_of v.ty) (Tmp to))
+        (use_own (child v.children 1)) (use_own (child v.children 0)) lt)
+
+    chosen_own : IsOwnInst (chosen_rest t v)
+    chosen_own =
+        All-cons IsOwn (use_of t (child v.children 1))
+        (use_at (width_of v.ty) (At (second_extra t.index v.id)) ∷ use_at (width_of v.ty) (At (first_extra t.index v.id)) ∷ result_of t v ∷ [])
+        (use_own (child v.children 1))
+        (all_three IsOwn (use_at (width_of v.ty) (At (second_extra t.index v.id))) (use_at (width_of v.ty) (At (first_extra t.index v.id)))
+        (result_of t v) (below v.id 2 (omega arith)) (below v.id 1 (omega arith)) (home_below v.id))
+
+    remainder_own : (op : AirOp) → (b : Bool)
+        → All IsOwnInst (if b then quotient_of t v op ∷ rest_into t v (second_extra t.index v.id) ∷ chosen_rest t v ∷ []
+        else quotient_of t v op ∷ rest_into t v (home t.index v.id) ∷ [])
+    remainder_own op true =
+        all_three IsOwnInst (quotient_of t v op) (rest_into t v (second_extra t.index v.id)) (chosen_rest t v)
+        (quotient_own op) (rest_own (3 * place t.index v.id + 2) (below v.id 2 (omega arith))) chosen_own
+    remainder_own op false =
+        all_two IsOwnInst (quotient_of t v op) (rest_into t v (home t.index v.id)) (quotient_own op)
+        (rest_own (3 * place t.index v.id) (home_below v.id))
+
+    rotate_own : (amount : Arg) → IsOwn (use_at W32 amount) → IsOwnInst (rotate_by t v amount)
+    rotate_own amount own =
+        all_three IsOwn (use_of t (child v.children 0)) (use_at W32 amount) (result_of t v) (use_own (child v.children 0)) own (home_below v.id)
+
+    rotate_left_own : (b : Bool)
+        → All IsOwnInst (if b then rotate_by t v (Imm (turned (width_of v.ty) (known t.index (child v.children 1)).word)) ∷ []
+        else negative_amount t v ∷ rotate_by t v (At (first_extra t.index v.id)) ∷ [])
+    rotate_left_own true =
+        let amount : Arg = Imm (turned (width_of v.ty) (known t.index (child v.children 1)).word) in
+        all_one IsOwnInst (rotate_by t v amount) (rotate_own amount tt)
+    rotate_left_own false =
+        all_two IsOwnInst (negative_amount t v) (rotate_by t v (At (first_extra t.index v.id)))
+        (all_two IsOwn (use_of t (child v.children 1)) (def_at W32 (first_extra t.index v.id)) (use_own (child v.children 1)) (below v.id 1 (omega arith)))
+        (rotate_own (At (first_extra t.index v.id)) (below v.id 1 (omega arith)))
+
+    select_own : (c : Condition) → IsOwnCondition c → All IsOwnInst (select_on t v c)
+    select_own c own =
+        let rest : List Operand = use_of t (child v.children 1) ∷ use_of t (child v.children 2) ∷ result_of t v ∷ [] in
+        all_one IsOwnInst (inst v (op.SelectIf c.test) (c.over ++ rest))
+        (All-append IsOwn c.over rest own
+        (all_three IsOwn (use_of t (child v.children 1)) (use_of t (child v.children 2)) (result_of t v)
+        (use_own (child v.children 1)) (use_own (child v.children 2)) (home_below v.id)))
+
+    move_own : (width : Width) (from : Arg) (to : ℕ) → IsOwn (use_at width from) → to < q.tmps → All IsOwnInst (inst v op.Move (use_at width from ∷ def_at width (Tmp to) ∷ []) ∷ [])
+    move_own width from to a b =
+        all_one IsOwnInst (inst v op.Move (use_at width from ∷ def_at width (Tmp to) ∷ [])) (all_two IsOwn (use_at width from) (def_at width (Tmp to)) a b)
+
+    return_own : (cs : List ℕ) → All IsOwnInst (return_of t v cs)
+    return_own [] = all_one IsOwnInst (inst v op.Return []) (All-nil IsOwn)
+    return_own (c ∷ cs) =
+        let width = width_at t.index c in
+        all_two IsOwnInst (inst v op.Move (use_at width (arg_of t c) ∷ def_at width (register 0) ∷ [])) (inst v op.Return (use_at width (At (register 0)) ∷ []))
+        (all_two IsOwn (use_at width (arg_of t c)) (def_at width (register 0)) (arg_own width c) (inl (omega arith)))
+        (all_one IsOwn (use_at width (At (register 0))) (inl (omega arith)))
+
+    argument_below : register_in v.body < 8 → 3 * length t.index.ids + register_in v.body < q.tmps
+    argument_below lt = omega (arith, tmps, lt)
+
+    code_own : (o : Opcode) → v.kind.opcode ≡ o → All IsOwnInst (code_of t o v)
+    code_own opcode.Nop is = All-nil IsOwnInst
+    code_own opcode.Const32 is = move_own (width_of v.ty) (Imm _) (3 * place t.index v.id) tt (home_below v.id)
+    code_own opcode.Const64 is = move_own (width_of v.ty) (Imm _) (3 * place t.index v.id) tt (home_below v.id)
+    code_own opcode.ArgumentReg is =
+        move_own W64 (At (argument t.index (register_in v.body))) (3 * place t.index v.id) (argument_below (argued is)) (home_below v.id)
+    code_own opcode.Trunc is = move_own W32 (arg_of t (child v.children 0)) (3 * place t.index v.id) (arg_own W32 (child v.children 0)) (home_below v.id)
+    code_own opcode.Upsilon is =
+        move_own (width_at t.index (child v.children 0)) (arg_of t (child v.children 0)) (3 * place t.index (phi_in v.body) + 1)
+        (arg_own (width_at t.index (child v.children 0)) (child v.children 0)) (below (phi_in v.body) 1 (omega arith))
+    code_own opcode.Phi is =
+        move_own (width_of v.ty) (At (first_extra t.index v.id)) (3 * place t.index v.id) (below v.id 1 (omega arith)) (home_below v.id)
+    code_own opcode.Mod is = remainder_own op.Div v.kind.chill
+    code_own opcode.UMod is = remainder_own op.UDiv v.kind.chill
+    code_own opcode.RotL is = rotate_left_own (folds t (child v.children 1))
+    code_own opcode.Select is = select_own (condition_of t (child v.children 0)) (condition_own (child v.children 0))
+    code_own opcode.Jump is = all_one IsOwnInst (inst v op.Jump []) (All-nil IsOwn)
+    code_own opcode.Oops is = all_one IsOwnInst (inst v op.Oops []) (All-nil IsOwn)
+    code_own opcode.Branch is =
+        let c = condition_of t (child v.children 0) in
+        all_one IsOwnInst (inst v (op.BranchIf c.test) c.over) (condition_own (child v.children 0))
+    code_own opcode.Switch is = all_one IsOwnInst (inst v (op.Switch (cases_in v.body)) (use_of t (child v.children 0) ∷ [])) (one_own (child v.children 0))
+    code_own opcode.Return is = return_own v.children
+    code_own o is = computes_own (op_of o)
+
+    pub value_own : All IsOwnInst (value_code t v)
+    unfolding value_code
+    value_own = pick (All IsOwnInst) (folds t v.id) [] (code_of t v.kind.opcode v) (All-nil IsOwnInst) (code_own v.kind.opcode refl)
+
+  moves_own : (vs : List Value) (value n : ℕ) → n ≤ 8 → All IsOwnInst (argument_moves t.index vs value n)
+  moves_own vs value zero le = All-nil IsOwnInst
+  moves_own vs value (suc r) le =
+      All-append IsOwnInst (argument_moves t.index vs value r) (if names_argument vs r then argument_move t.index value r ∷ [] else [])
+      (moves_own vs value r (omega (arith, le)))
+      (pick (All IsOwnInst) (names_argument vs r) (argument_move t.index value r ∷ []) []
+      (all_one IsOwnInst (argument_move t.index value r)
+      (all_two IsOwn (use_at W64 (At (register r))) (def_at W64 (argument t.index r)) (inl (omega (arith, le))) (omega (arith, tmps, le))))
+      (All-nil IsOwnInst))
+
+  pub entry_own : (vs : List Value) → All IsOwnInst (entry_of t.index vs).insts
+  unfolding entry_of
+  entry_own vs =
+      let jump : AirInst = record { op = op.Jump; operands = []; value = last_id vs; traps = false } in
+      All-append IsOwnInst (argument_moves t.index vs (last_id vs) 8) (jump ∷ []) (moves_own vs (last_id vs) 8 (omega arith))
+      (all_one IsOwnInst jump (All-nil IsOwn))

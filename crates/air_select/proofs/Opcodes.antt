@@ -1,0 +1,113 @@
+-- Each value, by its opcode: its instructions do what it leads to.
+use Rattle.std.proofs.Common.{◌≡◌, ◌≢◌, ℕ, ◌⊎◌, inl, inr, Bool, true, false, ◌&&◌, List, [], ◌∷◌, Option, Some, None, refl, sym, ap, ◌∙◌, subst}
+use Rattle.std.specs.Prelude.{if◌then◌else◌}
+use Rattle.b3_base.specs.Observed.{Start}
+use Rattle.b3_ir.specs.Naming.{type_of}
+use Rattle.b3_ir.specs.Procedure.{Procedure}
+use Rattle.b3_ir.specs.declared.opcode.Opcode.{Opcode}
+use Rattle.b3_ir.specs.declared.opcode.Opcode.TheVariants as opcode
+use Rattle.b3_ir.specs.declared.value.Value.{Value}
+use Rattle.b3_meaning.specs.Opcodes.{Gives, Outcome, result}
+use Rattle.b3_meaning.specs.Roles.{role_of}
+use Rattle.b3_meaning.specs.Run as b3
+use Rattle.b3_meaning.specs.declared.role.Role.{Role}
+use Rattle.b3_meaning.specs.declared.role.Role.TheVariants as role
+use Rattle.b3_rules.specs.Rules.{types_of}
+use Rattle.air_ir.specs.Meaning.{meaning}
+use Rattle.air_ir.specs.Steps.{Goes, Outcome as Ran, steps}
+use Rattle.air_ir.specs.declared.procedure.AirInst.{AirInst}
+use Rattle.air_select.specs.Contract.{is_built}
+use Rattle.air_select.specs.Foldable.{is_and, is_bit, is_constant}
+use Rattle.air_select.specs.Selected.{Tables, code_of, folds, value_code}
+use Rattle.air_select.specs.Tables.{child, known}
+use Rattle.air_select.proofs.Copied.{argument_does, constant_does, identity_does, phi_does, row_of_role}
+use Rattle.air_select.proofs.Deciding.{comparison_row}
+use Rattle.air_select.proofs.Does.{Does, Here, effect_is, gives_does, here, named, words_here}
+use Rattle.air_select.proofs.Facts.{constant_role}
+use Rattle.air_select.proofs.Instructions.{steps_none}
+use Rattle.air_select.proofs.Leaving.{branch_does, jump_does, return_does, select_does, switch_does}
+use Rattle.air_select.proofs.Plain.{one_op_does}
+use Rattle.air_select.proofs.Related.{folded_related}
+use Rattle.air_select.proofs.Remainders.{mod_does, umod_does}
+use Rattle.air_select.proofs.Rotations.{rotate_does}
+use Rattle.air_select.proofs.Sources.{trunc_does, upsilon_does}
+
+and_role : (o : Opcode) → is_and o ≡ true → role_of o ≡ role.Pure
+and_role opcode.BitAnd e = refl
+and_role _ e = absurd (cc)
+
+first_part : (a b : Bool) → (a && b) ≡ true → a ≡ true
+first_part true b e = refl
+first_part false b e = absurd (cc)
+
+module _ (p : Procedure) (t : Tables) (start : Start) (v : Value) (h : Here p t start v) (junk : List ℕ) where
+  abbrev Wanted : Role → Ran × List ℕ → Type 0
+  Wanted r o = Does p t start v junk (b3.effect_by r start h.st v (types_of p v) (words_here p t start v h)) o
+
+  -- ---- a folded value: it has no instructions
+
+  no_code : folds t v.id ≡ true → (out : Outcome) → Does p t start v junk (b3.gives h.st v.id out) (steps (meaning start) [] h.s junk)
+  no_code gone out =
+      gives_does p t start v h junk out (steps (meaning start) [] h.s junk)
+      (λ w e. (h.s, steps_none start h.s junk, folded_related p t h.sound start h.st h.s h.related v.id v (named p t start v h) w gone))
+
+  no_code_pure : folds t v.id ≡ true → role_of v.kind.opcode ≡ role.Pure → Wanted (role_of v.kind.opcode) (steps (meaning start) [] h.s junk)
+  no_code_pure gone pure =
+      subst (λ (r : Role). Wanted r (steps (meaning start) [] h.s junk)) (sym pure) (no_code gone (result v.kind.opcode v.kind.chill v.ty (words_here p t start v h) (types_of p v)))
+
+  folded_does : folds t v.id ≡ true → Wanted (role_of v.kind.opcode) (steps (meaning start) [] h.s junk)
+  folded_does gone = elim (h.sound.kinds h.block v (here p t start v h) gone) [
+    | inl constant ↦
+        subst (λ (r : Role). Wanted r (steps (meaning start) [] h.s junk)) (sym (constant_role v.kind.opcode constant)) (no_code gone (b3.constant_of v.body))
+    | inr (inl comparison) ↦ no_code_pure gone (comparison_row v.kind.opcode comparison).0
+    | inr (inr bit) ↦
+        no_code_pure gone (and_role v.kind.opcode (first_part (is_and v.kind.opcode)
+        (is_constant (known t.index (child v.children 1)).opcode && is_bit (known t.index (child v.children 1)).word) bit))
+  ]
+
+  -- ---- a value that is not folded
+
+  plain_does : (o : Opcode) → v.kind.opcode ≡ o → is_built o ≡ true → Wanted (role_of o) (steps (meaning start) (code_of t o v) h.s junk)
+  plain_does opcode.Nop eo built = (h.s, steps_none start h.s junk, h.related)
+  plain_does opcode.Const32 eo built = constant_does p t start v h junk (row_of_role p t start v h opcode.Const32 eo)
+  plain_does opcode.Const64 eo built = constant_does p t start v h junk (row_of_role p t start v h opcode.Const64 eo)
+  plain_does opcode.ArgumentReg eo built = argument_does p t start v h junk eo
+  plain_does opcode.Identity eo built = identity_does p t start v h junk eo
+  plain_does opcode.Mod eo built = mod_does p t start v h junk eo
+  plain_does opcode.UMod eo built = umod_does p t start v h junk eo
+  plain_does opcode.RotL eo built = rotate_does p t start v h junk eo
+  plain_does opcode.Trunc eo built = trunc_does p t start v h junk eo
+  plain_does opcode.Select eo built = select_does p t start v h junk eo
+  plain_does opcode.Upsilon eo built = upsilon_does p t start v h junk eo
+  plain_does opcode.Phi eo built = phi_does p t start v h junk
+  plain_does opcode.Jump eo built = jump_does p t start v h junk eo
+  plain_does opcode.Oops eo built = tt
+  plain_does opcode.Branch eo built = branch_does p t start v h junk eo
+  plain_does opcode.Switch eo built = switch_does p t start v h junk eo
+  plain_does opcode.Return eo built = return_does p t start v h junk eo
+  plain_does opcode.FramePointer eo built = absurd (cc)
+  plain_does opcode.SlotBase eo built = absurd (cc)
+  plain_does opcode.Load8Z eo built = absurd (cc)
+  plain_does opcode.Load8S eo built = absurd (cc)
+  plain_does opcode.Load16Z eo built = absurd (cc)
+  plain_does opcode.Load16S eo built = absurd (cc)
+  plain_does opcode.Load eo built = absurd (cc)
+  plain_does opcode.Store8 eo built = absurd (cc)
+  plain_does opcode.Store16 eo built = absurd (cc)
+  plain_does opcode.Store eo built = absurd (cc)
+  plain_does opcode.CCall eo built = absurd (cc)
+  plain_does opcode.Patchpoint eo built = absurd (cc)
+  plain_does opcode.Check eo built = absurd (cc)
+  plain_does opcode.CheckAdd eo built = absurd (cc)
+  plain_does opcode.CheckSub eo built = absurd (cc)
+  plain_does opcode.CheckMul eo built = absurd (cc)
+  plain_does o eo built = one_op_does p t start v h junk o eo refl
+
+  pub value_does : is_built v.kind.opcode ≡ true → Does p t start v junk (b3.effect (type_of p) start h.st v) (steps (meaning start) (value_code t v) h.s junk)
+  unfolding value_code
+  value_does built =
+      subst (λ (e : b3.Effect). Does p t start v junk e (steps (meaning start) (value_code t v) h.s junk)) (sym (effect_is p t start v h)) (go (folds t v.id) refl)
+    where
+      go : (f : Bool) → folds t v.id ≡ f → Wanted (role_of v.kind.opcode) (steps (meaning start) (if f then [] else code_of t v.kind.opcode v) h.s junk)
+      go true e = folded_does e
+      go false e = plain_does v.kind.opcode refl built

@@ -1,0 +1,136 @@
+-- The operands of what is selected are those that the ops take.
+use Rattle.std.proofs.Common.{◌≡◌, ◌≢◌, ℕ, zero, suc, ◌+◌, ◌*◌, ◌-◌, ◌%◌, ◌^◌, ◌<◌, ◌≤◌, ◌⊎◌, inl, inr, Bool, true, false, ◌||◌, List, [], ◌∷◌, ◌++◌, map, Option, Some, None, length, refl, sym, ap, ◌∙◌, subst, arith, nat_eq}
+use Rattle.std.specs.Prelude.{Contains, if◌then◌else◌, slice_get}
+use Rattle.std.proofs.lemmas.Bool.{eqb-true}
+use Rattle.b3_base.specs.BitMask.{bit_mask}
+use Rattle.b3_base.specs.Word.{bits}
+use Rattle.b3_base.specs.declared.word.Width.{Width}
+use Rattle.b3_base.specs.declared.word.Width.TheVariants.{W32, W64}
+use Rattle.b3_ir.specs.Fits.{reported_count}
+use Rattle.b3_ir.specs.Naming.{all_values, type_of, value_named}
+use Rattle.b3_ir.specs.Procedure.{Procedure, values_of}
+use Rattle.b3_ir.specs.Types.{AllowsTypes, AreMore, AreTaken, IsTaken, width_of}
+use Rattle.b3_ir.specs.declared.opcode.Opcode.{Opcode}
+use Rattle.b3_ir.specs.declared.opcode.Opcode.TheVariants as opcode
+use Rattle.b3_ir.specs.declared.opcode.Ty.{Ty}
+use Rattle.b3_ir.specs.declared.opcode.Ty.TheVariants.{Void, Int32, Int64}
+use Rattle.b3_ir.specs.declared.table.More.TheVariants.{NoMore}
+use Rattle.b3_ir.specs.declared.table.Takes.{Takes as Taken}
+use Rattle.b3_ir.specs.declared.table.Takes.TheVariants.{Alike, Any, This}
+use Rattle.b3_ir.specs.declared.value.Value.{Value}
+use Rattle.b3_ir.proofs.Typing.{allowed}
+use Rattle.b3_rules.specs.Rules.{types_of}
+use Rattle.b3_sound.proofs.Distinct.{stands, type_of_value}
+use Rattle.b3_sound.proofs.Kept.{IsKept}
+use Rattle.b3_sound.proofs.Rows.{IsRow, row_by_role}
+use Rattle.air_ir.specs.Forms.{AllFit, Fits, Immediates, NoImmediate, AnyWord, OfSum, OfLogic, OnlyZero, IsImmediate, IsWord, Takes, Word, BitOf, Result, is_short}
+use Rattle.air_ir.specs.declared.operand.Arg.{Arg}
+use Rattle.air_ir.specs.declared.operand.Arg.TheVariants.{At, Imm}
+use Rattle.air_ir.specs.declared.operand.Operand.{Operand}
+use Rattle.air_select.specs.Foldable.{condition_fits, constant_fits, fits, is_comparison, is_constant, is_immediate, is_mask, is_named, second_immediates, some_below}
+use Rattle.air_select.specs.Selected.{Tables, arg_of, folds, use_at, use_of}
+use Rattle.air_select.specs.Tables.{home, known, known_in, width_at, word_in}
+use Rattle.air_select.specs.declared.known.Known.{Known}
+use Rattle.air_select.proofs.Children.{FitsAsCondition, FitsAsConstant, fit_cases}
+use Rattle.air_select.proofs.Facts.{body_below, constant_role}
+use Rattle.air_select.proofs.Returned.{id_found, named_of, stands_somewhere, contains_at}
+use Rattle.air_select.proofs.Setting.{IsSound}
+
+-- ---- immediates
+some_found : (n : ℕ) (test : ℕ → Bool) → some_below n test ≡ true → (k : ℕ) × (k < n) × (test k ≡ true)
+some_found zero test e = absurd cc
+some_found (suc n) test e = by (test n) refl (λ rest. some_found n test rest) e
+  where
+    by : (b : Bool) → test n ≡ b → (some_below n test ≡ true → (k : ℕ) × (k < n) × (test k ≡ true)) → (b || some_below n test) ≡ true
+        → (k : ℕ) × (k < suc n) × (test k ≡ true)
+    by true is rest e = (n, omega arith, is)
+    by false is rest e = let found = rest e in let lt = found.1 in (found.0, omega (arith, lt), found.2)
+
+named_is : (o : Option ℕ) (word : ℕ) → is_named o word ≡ true → o ≡ Some word
+named_is (Some mask) word e = ap Some (eqb-true mask word e)
+named_is None word e = absurd cc
+
+immediate_is : (imm : Immediates) (width : Width) (word : ℕ) → is_immediate imm width word ≡ true → IsImmediate imm width word
+unfolding is_mask
+immediate_is NoImmediate width word e = absurd cc
+immediate_is AnyWord width word e = tt
+immediate_is OfSum width word e = e
+immediate_is OfLogic width word e =
+    let n = some_found 2 (λ n. some_below 64 (λ immr. some_below 64 (λ imms. is_named (bit_mask width n immr imms) word))) e in
+    let immr = some_found 64 (λ immr. some_below 64 (λ imms. is_named (bit_mask width n.0 immr imms) word)) n.2 in
+    let imms = some_found 64 (λ imms. is_named (bit_mask width n.0 immr.0 imms) word) immr.2 in
+    (n.0, immr.0, imms.0, n.1, immr.1, imms.1, named_is (bit_mask width n.0 immr.0 imms.0) word imms.2)
+immediate_is OnlyZero width word e = eqb-true word 0 e
+
+-- which immediates a child may be
+abbrev pub immediates_at : Opcode → ℕ → Immediates
+immediates_at o (suc zero) = second_immediates o
+immediates_at o at = NoImmediate
+
+fits_at : (o : Opcode) (i : ℕ) (width : Width) (word : ℕ) → constant_fits o i width word ≡ true → is_immediate (immediates_at o i) width word ≡ true
+fits_at o zero width word e = e
+fits_at o (suc zero) width word e = e
+fits_at o (suc (suc i)) width word e = e
+
+-- ---- children
+module _ (p : Procedure) (valid : IsKept p) (t : Tables) (sound : IsSound p t) where
+  -- the word of a constant is one of its width
+  pub constant_small : (c : ℕ) → type_of p c ≢ Void → is_constant (known t.index c).opcode ≡ true → (known t.index c).word < 2 ^ bits (width_at t.index c)
+  constant_small c typed const =
+      let named = named_of c (value_named p c) (type_of p c) refl typed in
+      let w = named.0 in
+      let found = id_found c (all_values p) w named.1 in
+      let at = stands_somewhere p w found.0 in
+      let in_b : Contains (values_of p at.0) w = contains_at (values_of p at.0) at.1 w at.2 in
+      let st = stands p at.0 w in_b in
+      let rules = valid.rules at.0 st.0 w st.1 in
+      let is : known t.index c ≡ known_in at.0 w = ap (known t.index) (sym found.1) ∙ sound.is_known at.0 w in_b in
+      let role = constant_role w.kind.opcode (sym (ap (λ (k : Known). is_constant k.opcode) is) ∙ const) in
+      let row = row_by_role w.kind.opcode w.ty (types_of p w) (reported_count w) w.body (allowed w.kind.opcode w.ty (types_of p w) rules.typed) rules.fits.body in
+      let body = body_below (2 ^ bits (width_of w.ty)) w.body (subst (λ q. IsRow q w.ty (types_of p w) w.body) role row) in
+      subst (λ (k : Known). k.word < 2 ^ bits (width_of k.ty)) (sym is) body.1
+
+  module _ (b : ℕ) (v : Value) (here : Contains (values_of p b) v) where
+    -- a child that is no condition is a home or an immediate
+    word_fits : (i c : ℕ) → slice_get v.children i ≡ Some c → ((k : Known) → condition_fits t.index v.kind.opcode i k ≡ false) → type_of p c ≢ Void
+        → IsWord (immediates_at v.kind.opcode i) (width_at t.index c) (arg_of t c)
+    word_fits i c at none typed = by (folds t c) refl
+      where
+        by : (f : Bool) → folds t c ≡ f → IsWord (immediates_at v.kind.opcode i) (width_at t.index c) (if f then Imm (known t.index c).word else At (home t.index c))
+        by false e = tt
+        by true e = elim (fit_cases t b v.kind.opcode i c (sound.uses_fit b i c v here at e)) [
+          | inl constant ↦ (
+            constant_small c typed constant.constant,
+            immediate_is (immediates_at v.kind.opcode i) (width_at t.index c) (known t.index c).word
+            (fits_at v.kind.opcode i (width_at t.index c) (known t.index c).word constant.fits),
+          )
+          | inr condition ↦ absurd (let bad : true ≡ false = sym condition.fits ∙ none (known t.index c) in cc)
+        ]
+
+    pub child_fits : (i c : ℕ) (ty : Ty) → slice_get v.children i ≡ Some c → ((k : Known) → condition_fits t.index v.kind.opcode i k ≡ false) → type_of p c ≡ ty
+        → ty ≢ Void → Fits (Word (width_of ty) (immediates_at v.kind.opcode i)) (use_of t c)
+    child_fits i c ty at none is typed =
+        let typed' : type_of p c ≢ Void = λ e. typed (sym is ∙ e) in
+        let width : width_at t.index c ≡ width_of ty = ap width_of (sound.types c ∙ is) in
+        (refl, width, subst (λ w. IsWord (immediates_at v.kind.opcode i) w (arg_of t c)) width (word_fits i c at none typed'))
+
+-- ---- the children of a row
+pub two_of : (ty : ℕ → Ty) (alike : Ty) (a b : Taken) (cs : List ℕ) → AreTaken alike (a ∷ b ∷ []) NoMore (map ty cs)
+    → (c : ℕ) × (d : ℕ) × (cs ≡ c ∷ d ∷ []) × IsTaken alike a (ty c) × IsTaken alike b (ty d)
+two_of ty alike a b [] taken = absurd taken
+two_of ty alike a b (c ∷ []) taken = absurd taken.1
+two_of ty alike a b (c ∷ d ∷ []) taken = (c, d, refl, taken.0, taken.1.0)
+two_of ty alike a b (c ∷ d ∷ e ∷ cs) taken = absurd (let none = taken.1.1 in cc)
+
+pub one_of : (ty : ℕ → Ty) (alike : Ty) (a : Taken) (cs : List ℕ) → AreTaken alike (a ∷ []) NoMore (map ty cs)
+    → (c : ℕ) × (cs ≡ c ∷ []) × IsTaken alike a (ty c)
+one_of ty alike a [] taken = absurd taken
+one_of ty alike a (c ∷ []) taken = (c, refl, taken.0)
+one_of ty alike a (c ∷ d ∷ cs) taken = absurd (let none = taken.1 in cc)
+
+pub three_of : (ty : ℕ → Ty) (alike : Ty) (a b d : Taken) (cs : List ℕ) → AreTaken alike (a ∷ b ∷ d ∷ []) NoMore (map ty cs)
+    → (c : ℕ) × (e : ℕ) × (f : ℕ) × (cs ≡ c ∷ e ∷ f ∷ []) × IsTaken alike a (ty c) × IsTaken alike b (ty e) × IsTaken alike d (ty f)
+three_of ty alike a b d [] taken = absurd taken
+three_of ty alike a b d (c ∷ cs) taken =
+    let rest = two_of ty alike b d cs taken.1 in
+    (c, rest.0, rest.1, ap (λ (l : List ℕ). c ∷ l) rest.2, taken.0, rest.3, rest.4)

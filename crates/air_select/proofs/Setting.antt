@@ -1,0 +1,28 @@
+-- What the tables say of a procedure, as the proofs need it.
+use Rattle.std.proofs.Common.{◌≡◌, ℕ, ◌<◌, ◌⊎◌, true, false, length, Option, Some}
+use Rattle.std.specs.Prelude.{Contains, slice_get}
+use Rattle.b3_ir.specs.Naming.{type_of, value_named}
+use Rattle.b3_ir.specs.Procedure.{Procedure, values_of}
+use Rattle.b3_ir.specs.declared.value.Value.{Value}
+use Rattle.air_select.specs.Foldable.{fits, is_bit_test, is_comparison, is_constant}
+use Rattle.air_select.specs.Selected.{Tables, folds}
+use Rattle.air_select.specs.Tables.{known, known_in, place}
+
+-- a folded value is a constant, a comparison or the test of a bit
+abbrev pub IsFoldedKind : Tables → ℕ → Value → Type 0
+IsFoldedKind t b v =
+    (is_constant v.kind.opcode ≡ true)
+    ⊎ ((is_comparison v.kind.opcode ≡ true) ⊎ (is_bit_test t.index (known_in b v) ≡ true))
+
+pub record IsSound (p : Procedure) (t : Tables) : Type 0 where
+  -- no two ids have one place, where one of them names a value
+  pub apart : (a b : ℕ) (v : Value) → value_named p a ≡ Some v → place t.index a ≡ place t.index b → a ≡ b
+  pub below : (a : ℕ) (v : Value) → value_named p a ≡ Some v → place t.index a < length t.index.ids
+  -- what is known
+  pub is_known : (b : ℕ) (v : Value) → Contains (values_of p b) v → known t.index v.id ≡ known_in b v
+  pub types : (id : ℕ) → (known t.index id).ty ≡ type_of p id
+  -- a folded value fits in each of its uses, and is of one of three kinds
+  pub uses_fit : (b i id : ℕ) (v : Value) → Contains (values_of p b) v → slice_get v.children i ≡ Some id
+      → folds t id ≡ true
+      → fits t.index (record { id = id; block = b; opcode = v.kind.opcode; at = i }) ≡ true
+  pub kinds : (b : ℕ) (v : Value) → Contains (values_of p b) v → folds t v.id ≡ true → IsFoldedKind t b v

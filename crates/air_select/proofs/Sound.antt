@@ -1,0 +1,223 @@
+-- What selection looks up of a valid procedure is what the proofs need of it.
+use Rattle.std.proofs.Common.{◌≡◌, ◌≢◌, ℕ, zero, suc, ◌+◌, ◌<◌, ◌≤◌, ◌⊎◌, inl, inr, Bool, true, false, ◌&&◌, ◌||◌, List, [], ◌∷◌, ◌++◌, Option, Some, None, length, map, refl, sym, ap, ◌∙◌, subst, arith, nat_eq, ⊎_elim}
+use Rattle.std.specs.Prelude.{Contains, if◌then◌else◌, slice_get, slice_index_or}
+use Rattle.std.specs.List.{flat_map, list_all}
+use Rattle.std.specs.Option.{option_map}
+use Rattle.std.proofs.Math.ListN.{get_or-eq_default}
+use Rattle.std.proofs.lemmas.Bool.{cases_lt, eqb-true}
+use Rattle.std.proofs.lemmas.Bool.Decides.{eqb_tells}
+use Rattle.std.proofs.lemmas.List.{length-map}
+use Rattle.std.proofs.lemmas.List.Elements.{Contains-append_left, Contains-append_right}
+use Rattle.std.proofs.lemmas.Option.{get_or_from_slice_get, slice_get-get_or, slice_get-map, slice_get_within}
+use Rattle.b3_ir.specs.Naming.{all_values, type_of, type_or_void, value_named}
+use Rattle.b3_ir.specs.Procedure.{Block, Procedure, StandsAt, place_among, values_of}
+use Rattle.b3_ir.specs.declared.opcode.Opcode.{Opcode}
+use Rattle.b3_ir.specs.declared.opcode.Opcode.TheVariants as opcode
+use Rattle.b3_ir.specs.declared.value.Value.{Value}
+use Rattle.b3_rules.specs.Valid.{IsValidProcedure}
+use Rattle.b3_sound.proofs.Lists.{contains_cases, contains_head, contains_none, contains_tail}
+use Rattle.air_select.specs.Foldable.{Use, condition_fits, fits, fits_as, is_bit_test, is_comparison, is_constant, is_foldable, uses, uses_by, uses_from, uses_in, uses_of}
+use Rattle.air_select.specs.Selected.{folds, tables}
+use Rattle.air_select.specs.Tables.{Index, ids_of, index_of, known, known_from, known_in, place, unknown}
+use Rattle.air_select.specs.declared.known.Known.{Known}
+use Rattle.air_select.proofs.Places.{at_place, known_get, known_is, known_length, named, not_named, number, row, row_found, same_place, values_in}
+use Rattle.air_select.proofs.Setting.{IsFoldedKind, IsSound}
+
+-- ---- tests
+
+pub both_first : (a b : Bool) → (a && b) ≡ true → a ≡ true
+both_first true b e = refl
+both_first false b e = e
+
+pub both_second : (a b : Bool) → (a && b) ≡ true → b ≡ true
+both_second true b e = e
+both_second false b e = absurd cc
+
+one_of : (a b : Bool) → (a || b) ≡ true → (a ≡ true) ⊎ (b ≡ true)
+one_of true b e = inl refl
+one_of false b e = inr e
+
+-- ---- places
+
+-- an item that a list has stands somewhere in it
+pub stands : (vs : List Value) (v : Value) → Contains vs v → (j : ℕ) × (slice_get vs j ≡ Some v)
+stands vs v has = (has.0, slice_get-get_or vs has.0 v has.1 ∙ ap Some has.2)
+
+named_below : (p : Procedure) (id : ℕ) (v : Value) → value_named p id ≡ Some v → place_among (ids_of p) id < length (ids_of p)
+named_below p id v e =
+    let n = named id (all_values p) v e in
+    omega (arith, n.is, slice_get_within (all_values p) n.place v n.there, length-map (all_values p) (λ (w : Value). w.id))
+
+type_is : (p : Procedure) (id : ℕ) → (known (index_of p) id).ty ≡ type_of p id
+type_is p id = by (value_named p id) refl
+  where
+    zero_more : (n : ℕ) → 0 + n ≡ n
+    zero_more n = omega arith
+
+    by : (o : Option Value) → value_named p id ≡ o → (known (index_of p) id).ty ≡ type_or_void o
+    by (Some v) e =
+        let n = named id (all_values p) v e in
+        let f = row_found p.blocks n.place v n.there in
+        let there : slice_get (known_from 0 p.blocks) n.place ≡ Some (known_in (0 + f.block) v) =
+        ap (slice_get (known_from 0 p.blocks)) (sym f.is) ∙ known_get 0 p.blocks f.block f.place v f.there in
+        ap (λ k. (slice_index_or (known_from 0 p.blocks) k unknown).ty) n.is
+        ∙ ap (λ (k : Known). k.ty) (get_or_from_slice_get (known_from 0 p.blocks) n.place (known_in (0 + f.block) v) unknown there)
+    by None e =
+        ap (λ (k : Known). k.ty)
+        (get_or-eq_default (known_from 0 p.blocks) unknown
+        (omega (arith, not_named id (all_values p) e, known_length 0 p.blocks, length-map (all_values p) (λ (w : Value). w.id))))
+
+-- what is folded is foldable
+pub foldable : (p : Procedure) (id : ℕ) → folds (tables p) id ≡ true → is_foldable p id ≡ true
+foldable p id e =
+    let marks = map (is_foldable p) (ids_of p) in
+    let at = place_among (ids_of p) id in
+    elim (cases_lt at (length (ids_of p))) [
+      | inl less ↦
+          sym (get_or_from_slice_get marks at (is_foldable p id) false
+          (slice_get-map (is_foldable p) (ids_of p) at ∙ ap (option_map (is_foldable p)) (at_place (ids_of p) id less))) ∙ e
+      | inr past ↦
+          let none : slice_index_or marks at false ≡ false = get_or-eq_default marks false (omega (arith, length-map (ids_of p) (is_foldable p))) in
+          absurd (let bad : true ≡ false = sym e ∙ none in cc)
+    ]
+
+-- ---- the uses of a procedure
+
+use_by : (block : ℕ) (op : Opcode) (at : ℕ) (children : List ℕ) (i id : ℕ) → slice_get children i ≡ Some id
+    → Contains (uses_from block op at children) (record { id = id; block = block; opcode = op; at = at + i })
+use_by block op at [] i id e = absurd cc
+use_by block op at (c ∷ children) zero id e =
+    let same : c ≡ id = cc in
+    let here : at ≡ at + 0 = omega arith in
+    let rest = uses_from block op (suc at) children in
+    let u : Use = record { id = c; block = block; opcode = op; at = at } in
+    let as_it_is : u ≡ record { id = id; block = block; opcode = op; at = at + 0 } =
+    ap (λ n. record { id = n; block = block; opcode = op; at = at }) same ∙ ap (λ n. record { id = id; block = block; opcode = op; at = n }) here in
+    subst (λ (w : Use). Contains (u ∷ rest) w) as_it_is (contains_head u rest)
+use_by block op at (c ∷ children) (suc i) id e =
+    let next : suc at + i ≡ at + suc i = omega arith in
+    contains_tail (record { id = c; block = block; opcode = op; at = at }) (uses_from block op (suc at) children) (record { id = id; block = block; opcode = op; at = at + suc i })
+    (subst (λ n. Contains (uses_from block op (suc at) children) (record { id = id; block = block; opcode = op; at = n })) next
+    (use_by block op (suc at) children i id e))
+
+use_in_block : (block : ℕ) (vs : List Value) (v : Value) (u : Use) → Contains vs v → Contains (uses_by block v) u → Contains (flat_map (uses_by block) vs) u
+use_in_block block [] v u has is = absurd (contains_none v has)
+use_in_block block (w ∷ vs) v u has is =
+    ⊎_elim
+    (λ (same : w ≡ v). Contains-append_left (uses_by block w) (flat_map (uses_by block) vs) u (subst (λ (x : Value). Contains (uses_by block x) u) (sym same) is))
+    (λ (more : Contains vs v). Contains-append_right (uses_by block w) (flat_map (uses_by block) vs) u (use_in_block block vs v u more is))
+    (contains_cases w vs v has)
+
+use_in : (n : ℕ) (blocks : List Block) (b : ℕ) (v : Value) (u : Use) → Contains (values_in blocks b) v → Contains (uses_by (n + b) v) u → Contains (uses_in n blocks) u
+use_in n [] b v u has is = absurd (contains_none v has)
+use_in n (x ∷ blocks) zero v u has is =
+    let here : n + 0 ≡ n = omega arith in
+    Contains-append_left (flat_map (uses_by n) x.values) (uses_in (suc n) blocks) u
+    (use_in_block n x.values v u has (subst (λ m. Contains (uses_by m v) u) here is))
+use_in n (x ∷ blocks) (suc b) v u has is =
+    let next : n + suc b ≡ suc n + b = omega arith in
+    Contains-append_right (flat_map (uses_by n) x.values) (uses_in (suc n) blocks) u
+    (use_in (suc n) blocks b v u has (subst (λ m. Contains (uses_by m v) u) next is))
+
+-- each use of a value whose uses all pass a test passes it
+each_passes : (test : Use → Bool) (us : List Use) (id : ℕ) (u : Use) → list_all test (uses_of us id) ≡ true → Contains us u → u.id ≡ id → test u ≡ true
+each_passes test [] id u all has is = absurd (contains_none u has)
+each_passes test (w ∷ us) id u all has is =
+    ⊎_elim
+    (λ (yes : (nat_eq w.id id ≡ true) × (w.id ≡ id)).
+    let now : (test w && list_all test (uses_of us id)) ≡ true = rw yes.0 at all in
+    ⊎_elim
+    (λ (same : w ≡ u). ap test (sym same) ∙ both_first (test w) (list_all test (uses_of us id)) now)
+    (λ (more : Contains us u). each_passes test us id u (both_second (test w) (list_all test (uses_of us id)) now) more is)
+    (contains_cases w us u has))
+    (λ (no : (nat_eq w.id id ≡ false) × (w.id ≢ id)).
+    let now : list_all test (uses_of us id) ≡ true = rw no.0 at all in
+    ⊎_elim
+    (λ (same : w ≡ u). absurd (no.1 (ap (λ (x : Use). x.id) same ∙ is)))
+    (λ (more : Contains us u). each_passes test us id u now more is)
+    (contains_cases w us u has))
+    (eqb_tells w.id id)
+
+-- the uses of a value are of its id
+its_id : (us : List Use) (id : ℕ) (u : Use) (rest : List Use) → uses_of us id ≡ u ∷ rest → u.id ≡ id
+its_id [] id u rest e = absurd cc
+its_id (w ∷ us) id u rest e =
+    ⊎_elim
+    (λ (yes : (nat_eq w.id id ≡ true) × (w.id ≡ id)).
+    let now : w ∷ uses_of us id ≡ u ∷ rest = rw yes.0 at e in
+    let same : w ≡ u = cc in
+    ap (λ (x : Use). x.id) (sym same) ∙ yes.1)
+    (λ (no : (nat_eq w.id id ≡ false) × (w.id ≢ id)). its_id us id u rest (rw no.0 at e))
+    (eqb_tells w.id id)
+
+-- what fits as a condition compares or tests a bit
+pub condition_kind : (x : Index) (op : Opcode) (at : ℕ) (k : Known) → condition_fits x op at k ≡ true → (is_comparison k.opcode ≡ true) ⊎ (is_bit_test x k ≡ true)
+condition_kind x opcode.Branch zero k e = one_of (is_comparison k.opcode) (is_bit_test x k) e
+condition_kind x opcode.Branch (suc at) k e = absurd cc
+condition_kind x opcode.Select zero k e = inl e
+condition_kind x opcode.Select (suc at) k e = absurd cc
+condition_kind x _ at k e = absurd cc
+
+-- what fits in a use and is no constant
+kind_of_fit : (x : Index) (k : Known) (u : Use) → fits_as x k u ≡ true
+    → (is_constant k.opcode ≡ true) ⊎ ((is_comparison k.opcode ≡ true) ⊎ (is_bit_test x k ≡ true))
+kind_of_fit x k u e = by (is_constant k.opcode) refl
+  where
+    by : (b : Bool) → is_constant k.opcode ≡ b → (is_constant k.opcode ≡ true) ⊎ ((is_comparison k.opcode ≡ true) ⊎ (is_bit_test x k ≡ true))
+    by true is = inl is
+    by false is =
+        let now : (nat_eq u.block k.block && condition_fits x u.opcode u.at k) ≡ true = rw is at e in
+        inr (condition_kind x u.opcode u.at k (both_second (nat_eq u.block k.block) (condition_fits x u.opcode u.at k) now))
+
+one_use : (us : List Use) → length us ≡ 1 → (u : Use) × (us ≡ u ∷ [])
+one_use [] e = absurd (omega arith)
+one_use (u ∷ []) e = (u, refl)
+one_use (u ∷ w ∷ us) e = absurd (omega arith)
+
+-- a foldable value is of one of three kinds
+pub foldable_kind : (x : Index) (us : List Use) (id : ℕ) (k : Known) → known x id ≡ k
+    → (list_all (fits x) (uses_of us id) && (is_constant (known x id).opcode || nat_eq (length (uses_of us id)) 1)) ≡ true
+    → (is_constant k.opcode ≡ true) ⊎ ((is_comparison k.opcode ≡ true) ⊎ (is_bit_test x k ≡ true))
+foldable_kind x us id k is_k e =
+    let mine = uses_of us id in
+    let all = both_first (list_all (fits x) mine) (is_constant (known x id).opcode || nat_eq (length mine) 1) e in
+    let kind = both_second (list_all (fits x) mine) (is_constant (known x id).opcode || nat_eq (length mine) 1) e in
+    ⊎_elim
+    (λ (constant : is_constant (known x id).opcode ≡ true). inl (ap (λ (w : Known). is_constant w.opcode) (sym is_k) ∙ constant))
+    (λ (one : nat_eq (length mine) 1 ≡ true).
+    let single = one_use mine (eqb-true (length mine) 1 one) in
+    let u : Use = single.0 in
+    let pass : (fits x u && true) ≡ true = subst (λ l. list_all (fits x) l ≡ true) single.1 all in
+    let id_is : u.id ≡ id = its_id us id u [] single.1 in
+    let fit : fits_as x k u ≡ true = sym (ap (λ n. fits_as x (known x n) u) id_is ∙ ap (λ w. fits_as x w u) is_k) ∙ both_first (fits x u) true pass in
+    kind_of_fit x k u fit)
+    (one_of (is_constant (known x id).opcode) (nat_eq (length mine) 1) kind)
+
+-- ---- the whole
+
+pub sound : (p : Procedure) → IsValidProcedure p → IsSound p (tables p)
+sound p valid = record {
+  apart = λ a b v e same. same_place (ids_of p) a b same (named_below p a v e);
+  below = λ a v e. named_below p a v e;
+  is_known = known_as;
+  types = type_is p;
+  uses_fit = λ b i id v has e folded.
+      let u : Use = record { id = id; block = b; opcode = v.kind.opcode; at = i } in
+      let all = foldable p id folded in
+      let there : Contains (uses p) u =
+      use_in 0 p.blocks b v u has
+      (subst (λ n. Contains (uses_by n v) u) (zero_more b) (subst (λ n. Contains (uses_by b v) (record { id = id; block = b; opcode = v.kind.opcode; at = n })) (zero_less i)
+      (use_by b v.kind.opcode 0 v.children i id e))) in
+      each_passes (fits (index_of p)) (uses p) id u
+      (both_first (list_all (fits (index_of p)) (uses_of (uses p) id)) (is_constant (known (index_of p) id).opcode || nat_eq (length (uses_of (uses p) id)) 1) all) there refl;
+  kinds = λ b v has folded. foldable_kind (index_of p) (uses p) v.id (known_in b v) (known_as b v has) (foldable p v.id folded);
+}
+  where
+    zero_more : (n : ℕ) → n ≡ 0 + n
+    zero_more n = omega arith
+
+    zero_less : (n : ℕ) → 0 + n ≡ n
+    zero_less n = omega arith
+
+    known_as : (b : ℕ) (v : Value) → Contains (values_of p b) v → known (index_of p) v.id ≡ known_in b v
+    known_as b v has = let at = stands (values_of p b) v has in known_is p valid b at.0 v at.1

@@ -1,0 +1,324 @@
+-- The procedure of Air that is selected for a procedure of B3.
+use Rattle.std.specs.Prelude.{ℕ, zero, suc, ◌+◌, ◌-◌, ◌*◌, ◌%◌, Bool, true, false, if◌then◌else◌, List, [], ◌∷◌, ◌++◌, map, Option, Some, None, slice_index_or}
+use Rattle.std.specs.List.{flat_map, list_any}
+use Rattle.std.specs.Prelude.{nat_eq, ◌&&◌}
+use Rattle.b3_base.specs.Word.{bits}
+use Rattle.b3_base.specs.declared.word.Width.{Width}
+use Rattle.b3_base.specs.declared.word.Width.TheVariants.{W32, W64}
+use Rattle.b3_ir.specs.Naming.{all_values}
+use Rattle.b3_ir.specs.Procedure.{Block, Procedure, values_of}
+use Rattle.b3_ir.specs.Types.{width_of}
+use Rattle.b3_ir.specs.declared.opcode.Opcode.{Opcode}
+use Rattle.b3_ir.specs.declared.opcode.Opcode.TheVariants as opcode
+use Rattle.b3_ir.specs.declared.opcode.Ty.{Ty}
+use Rattle.b3_ir.specs.declared.opcode.Ty.TheVariants.{Int32}
+use Rattle.b3_ir.specs.declared.procedure.SlotLine.{SlotLine}
+use Rattle.b3_ir.specs.declared.value.Body.{Body}
+use Rattle.b3_ir.specs.declared.value.Body.TheVariants.{Argument, Cases, Target}
+use Rattle.b3_ir.specs.declared.value.Value.{Value}
+use Rattle.b3_rules.specs.Paths.{successors_in}
+use Rattle.b3_rules.specs.Rules.{first_return}
+use Rattle.stackmap.specs.declared.site.Returns.{Returns}
+use Rattle.stackmap.specs.declared.site.Returns.TheVariants as returns
+use Rattle.a64_inst.specs.declared.inst.Cond.{Cond}
+use Rattle.a64_inst.specs.declared.inst.Cond.TheVariants.{Eq, Ne, Hs, Lo, Hi, Ls, Ge, Lt, Gt, Le}
+use Rattle.air_ir.specs.declared.op.AirOp.{AirOp}
+use Rattle.air_ir.specs.declared.op.AirOp.TheVariants as op
+use Rattle.air_ir.specs.declared.op.Test.{Test}
+use Rattle.air_ir.specs.declared.op.Test.TheVariants.{Compare, NonZero, Bit}
+use Rattle.air_ir.specs.declared.operand.Home.{Home}
+use Rattle.air_ir.specs.declared.operand.Home.TheVariants.{Reg}
+use Rattle.air_ir.specs.declared.operand.Arg.{Arg}
+use Rattle.air_ir.specs.declared.operand.Arg.TheVariants.{At, Imm}
+use Rattle.air_ir.specs.declared.operand.Role.TheVariants.{Use, Def}
+use Rattle.air_ir.specs.declared.operand.Operand.{Operand}
+use Rattle.air_ir.specs.declared.procedure.AirBlock.{AirBlock}
+use Rattle.air_ir.specs.declared.procedure.AirInst.{AirInst}
+use Rattle.air_ir.specs.declared.procedure.AirProc.{AirProc}
+use Rattle.air_select.specs.Foldable.{bit_of, is_comparison, is_foldable}
+use Rattle.air_select.specs.Tables.{Index, argument, child, first_extra, home, ids_of, index_of, known, location, place, second_extra, tmp_count, width_at, word_in}
+
+-- what selection looks up: of each id its place and what is known of it, and whether its value is folded
+pub record Tables : Type 0 where
+  pub index : Index
+  pub folds : List Bool
+
+abbrev pub tables : Procedure → Tables
+tables p = record { index = index_of p; folds = map (is_foldable p) (ids_of p) }
+
+abbrev pub folds : Tables → ℕ → Bool
+folds t id = slice_index_or t.folds (place t.index id) false
+
+-- ---- the rows of opcodes
+
+-- the condition of a comparison
+abbrev pub condition : Opcode → Cond
+condition opcode.Equal = Eq
+condition opcode.LessThan = Lt
+condition opcode.GreaterThan = Gt
+condition opcode.LessEqual = Le
+condition opcode.GreaterEqual = Ge
+condition opcode.Above = Hi
+condition opcode.Below = Lo
+condition opcode.AboveEqual = Hs
+condition opcode.BelowEqual = Ls
+condition _ = Ne
+
+-- the op of an opcode that is one instruction over its children: where they are two that are compared, their test
+abbrev pub op_of : Opcode → AirOp
+op_of opcode.Add = op.Add
+op_of opcode.Sub = op.Sub
+op_of opcode.Mul = op.Mul
+op_of opcode.BitAnd = op.And
+op_of opcode.BitOr = op.Or
+op_of opcode.BitXor = op.Xor
+op_of opcode.Neg = op.Neg
+op_of opcode.Div = op.Div
+op_of opcode.UDiv = op.UDiv
+op_of opcode.Shl = op.Lsl
+op_of opcode.SShr = op.Asr
+op_of opcode.ZShr = op.Lsr
+op_of opcode.RotR = op.Ror
+op_of opcode.Clz = op.Clz
+op_of opcode.SExt8 = op.SExt8
+op_of opcode.SExt16 = op.SExt16
+op_of opcode.SExt32 = op.SExt32
+op_of opcode.ZExt32 = op.ZExt32
+op_of opcode.Identity = op.Move
+op_of other = op.SetIf (Compare (condition other))
+
+-- ---- operands
+
+abbrev pub use_at : Width → Arg → Operand
+use_at width arg = record { role = Use; width = width; arg = arg }
+
+abbrev pub def_at : Width → Home → Operand
+def_at width to = record { role = Def; width = width; arg = At to }
+
+-- the register of a number
+abbrev pub register : ℕ → Home
+register r = Reg (record { 0 = r })
+
+-- the amount of a rotation right that is one left by this amount
+abbrev pub turned : Width → ℕ → ℕ
+turned width amount = (bits width - amount % bits width) % bits width
+
+abbrev pub register_in : Body → ℕ
+register_in (Argument reg) = reg.0
+register_in _ = 0
+
+abbrev pub phi_in : Body → ℕ
+phi_in (Target phi) = phi
+phi_in _ = 0
+
+abbrev pub cases_in : Body → List ℕ
+cases_in (Cases cases targets) = cases
+cases_in _ = []
+
+-- ---- instructions
+
+abbrev pub inst : Value → AirOp → List Operand → AirInst
+inst v op operands = record { op = op; operands = operands; value = v.id; traps = false }
+
+abbrev pub move : Value → Width → Arg → Home → AirInst
+move v width from to = inst v op.Move (use_at width from ∷ def_at width to ∷ [])
+
+abbrev pub copy_of : Value → Width × Arg × Home → AirInst
+copy_of v c = move v c.0 c.1 c.2
+
+-- a test, and the operands that it is over
+pub record Condition : Type 0 where
+  pub test : Test
+  pub over : List Operand
+
+-- block b of B3 is block b + 1 of Air; only the last value of a block names successors
+abbrev pub targets_of : Value → List ℕ
+targets_of v = map (λ b. b + 1) (successors_in v.body)
+
+module _ (t : Tables) where
+  -- a folded constant stands as its word in its use, and any other value in its home
+  abbrev pub arg_of : ℕ → Arg
+  arg_of id = if folds t id then Imm (known t.index id).word else At (home t.index id)
+
+  abbrev pub use_of : ℕ → Operand
+  use_of id = use_at (width_at t.index id) (arg_of id)
+
+  -- the result of a value
+  abbrev pub result_of : Value → Operand
+  result_of v = def_at (width_of v.ty) (home t.index v.id)
+
+  -- ---- conditions
+
+  -- a folded condition is the test of its comparison, or of its bit
+  abbrev pub folded_condition : ℕ → Condition
+  folded_condition id =
+      let k = known t.index id in
+      if is_comparison k.opcode
+      then record { test = Compare (condition k.opcode); over = use_of k.first ∷ use_of k.second ∷ [] }
+      else record { test = Bit (bit_of (known t.index k.second).word); over = use_of k.first ∷ [] }
+
+  abbrev pub condition_of : ℕ → Condition
+  condition_of id =
+      if folds t id then folded_condition id else record { test = NonZero; over = use_of id ∷ [] }
+
+  -- ---- values
+
+  -- one instruction over the children
+  abbrev pub computes : Value → AirOp → List AirInst
+  computes v op = inst v op (map use_of v.children ++ result_of v ∷ []) ∷ []
+
+  -- a quotient, and the dividend less its product with the divisor
+  abbrev pub quotient_of : Value → AirOp → AirInst
+  quotient_of v divide = inst v divide (
+      use_of (child v.children 0) ∷ use_of (child v.children 1)
+      ∷ def_at (width_of v.ty) (first_extra t.index v.id) ∷ [])
+
+  abbrev pub rest_into : Value → Home → AirInst
+  rest_into v to = inst v op.MulSub (
+      use_at (width_of v.ty) (At (first_extra t.index v.id)) ∷ use_of (child v.children 1)
+      ∷ use_of (child v.children 0) ∷ def_at (width_of v.ty) to ∷ [])
+
+  -- the remainder, and 0 where the divisor is 0: the quotient is 0 there
+  abbrev pub chosen_rest : Value → AirInst
+  chosen_rest v = inst v (op.SelectIf NonZero) (
+      use_of (child v.children 1) ∷ use_at (width_of v.ty) (At (second_extra t.index v.id))
+      ∷ use_at (width_of v.ty) (At (first_extra t.index v.id)) ∷ result_of v ∷ [])
+
+  abbrev pub remainder : Value → AirOp → List AirInst
+  remainder v divide =
+      if v.kind.chill
+      then quotient_of v divide ∷ rest_into v (second_extra t.index v.id) ∷ chosen_rest v ∷ []
+      else quotient_of v divide ∷ rest_into v (home t.index v.id) ∷ []
+
+  -- a rotation left is one right by the negative of the amount
+  abbrev pub rotate_by : Value → Arg → AirInst
+  rotate_by v amount = inst v op.Ror (use_of (child v.children 0) ∷ use_at W32 amount ∷ result_of v ∷ [])
+
+  abbrev pub negative_amount : Value → AirInst
+  negative_amount v =
+      inst v op.Neg (use_of (child v.children 1) ∷ def_at W32 (first_extra t.index v.id) ∷ [])
+
+  abbrev pub rotate_left : Value → List AirInst
+  rotate_left v =
+      let amount = child v.children 1 in
+      if folds t amount
+      then rotate_by v (Imm (turned (width_of v.ty) (known t.index amount).word)) ∷ []
+      else negative_amount v ∷ rotate_by v (At (first_extra t.index v.id)) ∷ []
+
+  abbrev pub select_on : Value → Condition → List AirInst
+  select_on v c = inst v (op.SelectIf c.test) (
+      c.over ++ use_of (child v.children 1) ∷ use_of (child v.children 2) ∷ result_of v ∷ []) ∷ []
+
+  abbrev pub branch_on : Value → Condition → List AirInst
+  branch_on v c = inst v (op.BranchIf c.test) c.over ∷ []
+
+  -- a word is returned in x0
+  abbrev pub return_of : Value → List ℕ → List AirInst
+  return_of v [] = inst v op.Return [] ∷ []
+  return_of v (c ∷ cs) =
+      move v (width_at t.index c) (arg_of c) (register 0)
+      ∷ inst v op.Return (use_at (width_at t.index c) (At (register 0)) ∷ []) ∷ []
+
+  -- the width, the source and the destination of a value that copies a word: the low half of a child is copied at
+  -- 32 bits, an Upsilon's child goes to the location of its Phi, and a Phi has what stands in its location
+  abbrev pub copied : Opcode → Value → Width × Arg × Home
+  copied opcode.ArgumentReg v = (W64, At (argument t.index (register_in v.body)), home t.index v.id)
+  copied opcode.Trunc v = (W32, arg_of (child v.children 0), home t.index v.id)
+  copied opcode.Upsilon v = (
+    width_at t.index (child v.children 0),
+    arg_of (child v.children 0),
+    location t.index (phi_in v.body),
+  )
+  copied opcode.Phi v = (width_of v.ty, At (location t.index v.id), home t.index v.id)
+  copied other v = (width_of v.ty, Imm (word_in v.body), home t.index v.id)
+
+  -- the instructions of a value, by its opcode
+  abbrev pub code_of : Opcode → Value → List AirInst
+  code_of opcode.Nop v = []
+  code_of opcode.Const32 v = copy_of v (copied opcode.Const32 v) ∷ []
+  code_of opcode.Const64 v = copy_of v (copied opcode.Const64 v) ∷ []
+  code_of opcode.ArgumentReg v = copy_of v (copied opcode.ArgumentReg v) ∷ []
+  code_of opcode.Trunc v = copy_of v (copied opcode.Trunc v) ∷ []
+  code_of opcode.Upsilon v = copy_of v (copied opcode.Upsilon v) ∷ []
+  code_of opcode.Phi v = copy_of v (copied opcode.Phi v) ∷ []
+  code_of opcode.Mod v = remainder v op.Div
+  code_of opcode.UMod v = remainder v op.UDiv
+  code_of opcode.RotL v = rotate_left v
+  code_of opcode.Select v = select_on v (condition_of (child v.children 0))
+  code_of opcode.Jump v = inst v op.Jump [] ∷ []
+  code_of opcode.Oops v = inst v op.Oops [] ∷ []
+  code_of opcode.Branch v = branch_on v (condition_of (child v.children 0))
+  code_of opcode.Switch v = inst v (op.Switch (cases_in v.body)) (use_of (child v.children 0) ∷ []) ∷ []
+  code_of opcode.Return v = return_of v v.children
+  code_of other v = computes v (op_of other)
+
+  -- a folded value has none
+  unfoldable pub value_code : Value → List AirInst
+  value_code v = if folds t v.id then [] else code_of v.kind.opcode v
+
+  -- ---- blocks
+
+  unfoldable pub block_code : Block → AirBlock
+  block_code b = record { insts = flat_map value_code b.values; targets = flat_map targets_of b.values }
+
+-- ---- the entry
+
+abbrev pub names_register : ℕ → Opcode → Body → Bool
+names_register r opcode.ArgumentReg (Argument reg) = nat_eq reg.0 r
+names_register r op body = false
+
+-- some value is the argument in this register
+abbrev pub names_argument : List Value → ℕ → Bool
+names_argument vs r = list_any (λ (v : Value). names_register r v.kind.opcode v.body) vs
+
+abbrev pub entry_inst : ℕ → AirOp → List Operand → AirInst
+entry_inst value op operands = record { op = op; operands = operands; value = value; traps = false }
+
+abbrev pub argument_move : Index → ℕ → ℕ → AirInst
+argument_move x value r =
+    entry_inst value op.Move (use_at W64 (At (register r)) ∷ def_at W64 (argument x r) ∷ [])
+
+-- the arguments below a register that are named, each put into its temporary
+abbrev pub argument_moves : Index → List Value → ℕ → ℕ → List AirInst
+argument_moves x vs value zero = []
+argument_moves x vs value (suc r) =
+    argument_moves x vs value r ++ (if names_argument vs r then argument_move x value r ∷ [] else [])
+
+-- the id of the last of some values
+abbrev pub last_id : List Value → ℕ
+last_id [] = 0
+last_id (v ∷ []) = v.id
+last_id (v ∷ w ∷ vs) = last_id (w ∷ vs)
+
+-- what runs once, on the way to block 0 of B3, whose terminal it is made for
+unfoldable pub entry_of : Index → List Value → AirBlock
+entry_of x vs = record {
+  insts = argument_moves x vs (last_id vs) 8 ++ entry_inst (last_id vs) op.Jump [] ∷ [];
+  targets = 1 ∷ [];
+}
+
+-- ---- the whole
+
+abbrev pub returns_type : Ty → Returns
+returns_type Int32 = returns.W32
+returns_type _ = returns.W64
+
+abbrev pub returns_child : Index → List ℕ → Returns
+returns_child x [] = returns.Nothing
+returns_child x (c ∷ cs) = returns_type (known x c).ty
+
+-- what the first Return returns, nothing where there is none
+abbrev pub returns_by : Index → Option Value → Returns
+returns_by x (Some v) = returns_child x v.children
+returns_by x None = returns.Nothing
+
+unfoldable pub selected_by : Tables → Procedure → AirProc
+selected_by t p = record {
+  blocks = entry_of t.index (values_of p 0) ∷ map (block_code t) p.blocks;
+  tmps = tmp_count t.index;
+  slots = map (λ (slot : SlotLine). slot.bytes) p.slots;
+  returns = returns_by t.index (first_return (all_values p));
+}
+
+abbrev pub selected : Procedure → AirProc
+selected p = selected_by (tables p) p
