@@ -1,6 +1,7 @@
 -- How the code of blocks grows by that of one instruction more, or one block.
 use Rattle.std.proofs.Common.{◌≡◌, ℕ, zero, suc, ◌+◌, ◌<◌, ◌≤◌, List, [], ◌∷◌, ◌++◌, Some, refl, sym, ap, ◌∙◌, subst, arith, length, drop, append_assoc, append-nil}
 use Rattle.std.specs.Prelude.{slice_get, sum_by}
+use Rattle.std.proofs.lemmas.List.Sums.{sum_by-cons}
 use Rattle.a64_inst.specs.declared.item.Item.{Item}
 use Rattle.a64_inst.specs.declared.item.Item.TheVariants.{Label}
 use Rattle.air_ir.specs.declared.frame.Frame.{Frame}
@@ -61,4 +62,4 @@ blocks_done f blocks b label code whole left le =
 pub labels_left : (blocks : List AirBlock) (b : ℕ) (block : AirBlock) → slice_get blocks b ≡ Some block
     → sum_by block_labels (drop b blocks) ≡ block_labels block + sum_by block_labels (drop (b + 1) blocks)
 labels_left blocks b block there =
-    ap (sum_by block_labels) (dropped blocks b block there) ∙ ap (λ n. block_labels block + sum_by block_labels (drop n blocks)) (one_more b)
+    ap (sum_by block_labels) (dropped blocks b block there) ∙ sum_by-cons block_labels block (drop (suc b) blocks) ∙ ap (λ n. block_labels block + sum_by block_labels (drop n blocks)) (one_more b)

@@ -1,6 +1,22 @@
-use Rattle.std.proofs.Common.{arith}
+use Rattle.std.proofs.Common.{◌≡◌, ◌+◌, ◌++◌, ap, subst, sym, ◌∙◌, arith}
+use Rattle.a64_emit.specs.Code.{blocks_items}
 use Rattle.a64_emit.proofs.BlockPushing.{blocks_done, blocks_next, labels_left}
 use Rattle.a64_emit.proofs.procedure.push_blocks.Goals as goal
 
+pub block_labels-label-requires : goal.block_labels-label-requires
+block_labels-label-requires c = omega (arith, labels_left c.args.p.now.blocks c.loop-b.b c.get-block.result.now c.get-block.ensures, c.requires.labels, c.loop-b.invariant.labels)
+
+pub overflow_add-label : goal.overflow_add-label
+overflow_add-label c =
+    omega (arith, labels_left c.args.p.now.blocks c.loop-b.b c.get-block.result.now c.get-block.ensures, c.requires.labels, c.loop-b.invariant.labels, c.block_labels-label.ensures)
+
 pub loop-b-preserved : goal.loop-b-preserved
-loop-b-preserved c = ?
+loop-b-preserved c = record {
+  labels = omega (arith, labels_left c.args.p.now.blocks c.loop-b.b c.get-block.result.now c.get-block.ensures, c.loop-b.invariant.labels, c.block_labels-label.ensures);
+  whole = rw c.block_labels-label.ensures
+      (blocks_next c.args.frame.now c.args.p.now.blocks c.loop-b.b c.loop-b.label c.get-block.result.now c.loop-b.code c.push.new.self c.push_block.new.code _
+      c.loop-b.invariant.whole c.get-block.ensures c.in_ok-push.ensures.ok c.in_ok-push_block.ensures);
+}
+
+pub returns : goal.returns
+returns c = blocks_done c.args.frame.now c.args.p.now.blocks c.loop-b.b c.loop-b.label c.loop-b.code _ c.loop-b.invariant.whole (omega (arith, c.len-count.ensures))
