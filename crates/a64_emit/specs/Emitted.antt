@@ -78,7 +78,7 @@ Lands z from (At b s) k c =
 Lands z from (Stopped seen) k c = IsStopped z from seen k c
 Lands z from Lost k c = Unit {0}
 
--- n items, each farther on than the one before, lead to an item from which the run lands; each moment is proper
+-- some items, each farther on than the one before, lead to an item from which the run lands; each moment is proper
 pub record Leads (z : Setting) (from : World) (next : Config) (k : ℕ) (c : Machine) : Type 0 where
   pub items : ℕ
   pub some : 1 ≤ items
@@ -119,14 +119,14 @@ first_state z answers = record {
 abbrev pub IsSettingOf : AirProc → Frame → List Item → Setting → Type 0
 IsSettingOf p frame code z = (z.procedure ≡ p) × (z.frame ≡ frame) × (z.code ≡ code) × IsSet z
 
--- code is that of a procedure with a frame: its labels are right and those below the number of blocks are the blocks', and
--- words stand behind each; it has no marks; it is no longer than the procedure weighs; and from the first item on it does
+-- code is that of a procedure with a frame: its labels are right and those below the number of blocks are the blocks', in
+-- order, and words stand behind each; it has no marks; it is no longer than the procedure weighs; and from the first item on it does
 -- what the entry does, and from each other block's label on what that block does
 pub record IsCodeOfAir (p : AirProc) (frame : Frame) (code : List Item) : Type 0 where
   pub labelled : IsWellLabelled code
   pub labels : length p.blocks ≤ label_count code
-  pub behind : (long : Set) (b : ℕ) → b < length p.blocks → place code long (position_of code b) < place code long (length code)
   pub rising : (b c : ℕ) → b < c → c < length p.blocks → position_of code b < position_of code c
+  pub behind : (long : Set) (b : ℕ) → b < length p.blocks → place code long (position_of code b) < place code long (length code)
   pub unmarked : mark_count code ≡ 0
   pub light : most_words code ≤ weight p
   pub entry : (z : Setting) (answers : List Answer) (c : Machine) → IsSettingOf p frame code z → Begins z c
