@@ -127,7 +127,6 @@ pub record IsCodeOfAir (p : AirProc) (frame : Frame) (code : List Item) : Type 0
   pub labels : length p.blocks ≤ label_count code
   pub rising : (b c : ℕ) → b < c → c < length p.blocks → position_of code b < position_of code c
   pub behind : (long : Set) (b : ℕ) → b < length p.blocks → place code long (position_of code b) < place code long (length code)
-  pub rising : (b c : ℕ) → b < c → c < length p.blocks → position_of code b < position_of code c
   pub unmarked : mark_count code ≡ 0
   pub light : most_words code ≤ weight p
   pub entry : (z : Setting) (answers : List Answer) (c : Machine) → IsSettingOf p frame code z → Begins z c
