@@ -34,3 +34,4 @@ pub mod BlockPushing
 pub mod Sizes
 pub mod Weights
 pub mod Light
+pub mod Sample
