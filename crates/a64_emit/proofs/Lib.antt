@@ -35,3 +35,4 @@ pub mod Sizes
 pub mod Weights
 pub mod Light
 pub mod WholeCode
+pub mod Sample
