@@ -34,3 +34,5 @@ pub mod BlockPushing
 pub mod Sizes
 pub mod Weights
 pub mod Light
+pub mod WholeCode
+pub mod Sample

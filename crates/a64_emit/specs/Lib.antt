@@ -8,3 +8,4 @@ pub mod Built
 pub mod Setting
 pub mod Related
 pub mod Emitted
+pub mod Sample

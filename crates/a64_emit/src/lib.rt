@@ -3,6 +3,8 @@
 
 mod computing;
 mod constants;
+#[cfg(test)]
+mod emission_tests;
 mod insts;
 mod places;
 mod procedure;

@@ -1,0 +1,106 @@
+-- The procedure that the tests emit is well formed.
+use Rattle.std.proofs.Common.{◌≡◌, ℕ, ◌+◌, ◌*◌, ◌^◌, ◌<◌, ◌≤◌, true, inl, List, [], ◌∷◌, Some, None, length, refl, arith}
+use Rattle.std.specs.Prelude.{All}
+use Rattle.std.proofs.lemmas.List.Elements.{All-cons, All-nil}
+use Rattle.b3_base.specs.declared.word.Width.TheVariants.{W64}
+use Rattle.air_ir.specs.Forms.{AllFit, AnyWord, Result, Takes, Word}
+use Rattle.air_ir.specs.Kinds.{target_count}
+use Rattle.air_ir.specs.Weight.{weight}
+use Rattle.air_ir.specs.WellFormed.{IsGoodBlock, IsGoodInst, IsWellFormed, NamesOwn}
+use Rattle.air_ir.specs.declared.op.AirOp.TheVariants as op
+use Rattle.air_ir.specs.declared.operand.Arg.{Arg}
+use Rattle.air_ir.specs.declared.operand.Arg.TheVariants.{At, Imm}
+use Rattle.air_ir.specs.declared.operand.Home.{Home}
+use Rattle.air_ir.specs.declared.operand.Home.TheVariants.{Spill}
+use Rattle.air_ir.specs.declared.operand.Operand.{Operand}
+use Rattle.air_ir.specs.declared.operand.Role.TheVariants.{Use, Def}
+use Rattle.air_ir.specs.declared.procedure.AirBlock.{AirBlock}
+use Rattle.air_ir.specs.declared.procedure.AirInst.{AirInst}
+use Rattle.a64_emit.specs.Built.{IsBuilt, is_built}
+use Rattle.a64_emit.specs.Sample.{entry, inst, last, made, procedure, used, x0}
+
+abbrev Names : Operand → Type 0
+Names o = NamesOwn procedure o.role o.arg
+
+constant_fits : AllFit (Word W64 AnyWord ∷ Result W64 ∷ []) (used (Imm 7) ∷ made (At (Spill 0)) ∷ [])
+unfolding AllFit
+constant_fits = ((refl, refl, (omega arith, tt)), ((refl, refl, tt), tt))
+
+copy_fits : AllFit (Word W64 AnyWord ∷ Result W64 ∷ []) (used (At (Spill 0)) ∷ made x0 ∷ [])
+unfolding AllFit
+copy_fits = ((refl, refl, tt), ((refl, refl, tt), tt))
+
+none_fit : AllFit [] []
+unfolding AllFit
+none_fit = tt
+
+constant_good : IsGoodInst procedure (inst op.Move (used (Imm 7) ∷ made (At (Spill 0)) ∷ []))
+constant_good = record {
+  operands = (W64, W64, constant_fits);
+  names = All-cons Names (used (Imm 7)) (made (At (Spill 0)) ∷ []) tt (All-cons Names (made (At (Spill 0))) [] tt (All-nil Names));
+}
+
+jump_good : IsGoodInst procedure (inst op.Jump [])
+jump_good = record { operands = (W64, W64, none_fit); names = All-nil Names }
+
+copy_good : IsGoodInst procedure (inst op.Move (used (At (Spill 0)) ∷ made x0 ∷ []))
+copy_good = record {
+  operands = (W64, W64, copy_fits);
+  names = All-cons Names (used (At (Spill 0))) (made x0 ∷ []) tt (All-cons Names (made x0) [] (inl (omega arith)) (All-nil Names));
+}
+
+return_good : IsGoodInst procedure (inst op.Return (used x0 ∷ []))
+return_good = record { operands = refl; names = All-cons Names (used x0) [] (inl (omega arith)) (All-nil Names) }
+
+abbrev IsBody : AirInst → Type 0
+IsBody i = target_count i.op ≡ None
+
+abbrev IsTarget : ℕ → Type 0
+IsTarget target = (0 < target) × (target < length procedure.blocks)
+
+entry_good : IsGoodBlock procedure entry
+entry_good = record {
+  body = inst op.Move (used (Imm 7) ∷ made (At (Spill 0)) ∷ []) ∷ [];
+  last = inst op.Jump [];
+  parts = refl;
+  inner = All-cons IsBody (inst op.Move (used (Imm 7) ∷ made (At (Spill 0)) ∷ [])) [] refl (All-nil IsBody);
+  ends = refl;
+  targets = All-cons IsTarget 1 [] (omega arith, omega arith) (All-nil IsTarget);
+  insts = All-cons (IsGoodInst procedure) (inst op.Move (used (Imm 7) ∷ made (At (Spill 0)) ∷ [])) (inst op.Jump [] ∷ []) constant_good
+      (All-cons (IsGoodInst procedure) (inst op.Jump []) [] jump_good (All-nil (IsGoodInst procedure)));
+}
+
+last_good : IsGoodBlock procedure last
+last_good = record {
+  body = inst op.Move (used (At (Spill 0)) ∷ made x0 ∷ []) ∷ [];
+  last = inst op.Return (used x0 ∷ []);
+  parts = refl;
+  inner = All-cons IsBody (inst op.Move (used (At (Spill 0)) ∷ made x0 ∷ [])) [] refl (All-nil IsBody);
+  ends = refl;
+  targets = All-nil IsTarget;
+  insts = All-cons (IsGoodInst procedure) (inst op.Move (used (At (Spill 0)) ∷ made x0 ∷ [])) (inst op.Return (used x0 ∷ []) ∷ []) copy_good
+      (All-cons (IsGoodInst procedure) (inst op.Return (used x0 ∷ [])) [] return_good (All-nil (IsGoodInst procedure)));
+}
+
+pub sample_good : IsWellFormed procedure
+sample_good = record {
+  entry = omega arith;
+  blocks = All-cons (IsGoodBlock procedure) entry (last ∷ []) entry_good (All-cons (IsGoodBlock procedure) last [] last_good (All-nil (IsGoodBlock procedure)));
+}
+
+abbrev IsBuiltInst : AirInst → Type 0
+IsBuiltInst i = is_built i.op ≡ true
+
+abbrev IsBuiltBlock : AirBlock → Type 0
+IsBuiltBlock b = All IsBuiltInst b.insts
+
+pub sample_built : IsBuilt procedure
+sample_built =
+    All-cons IsBuiltBlock entry (last ∷ [])
+    (All-cons IsBuiltInst (inst op.Move (used (Imm 7) ∷ made (At (Spill 0)) ∷ [])) (inst op.Jump [] ∷ []) refl (All-cons IsBuiltInst (inst op.Jump []) [] refl (All-nil IsBuiltInst)))
+    (All-cons IsBuiltBlock last []
+    (All-cons IsBuiltInst (inst op.Move (used (At (Spill 0)) ∷ made x0 ∷ [])) (inst op.Return (used x0 ∷ []) ∷ []) refl (All-cons IsBuiltInst (inst op.Return (used x0 ∷ [])) [] refl (All-nil IsBuiltInst)))
+    (All-nil IsBuiltBlock))
+
+pub sample_light : weight procedure < 2 ^ 24
+sample_light = omega arith

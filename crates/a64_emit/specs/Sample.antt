@@ -1,0 +1,39 @@
+-- No public clause cites this module. The procedure that the tests emit.
+use Rattle.std.specs.Prelude.{false, List, [], ◌∷◌}
+use Rattle.b3_base.specs.declared.word.Width.TheVariants.{W64}
+use Rattle.stackmap.specs.declared.site.Returns.TheVariants as returns
+use Rattle.air_ir.specs.declared.op.AirOp.{AirOp}
+use Rattle.air_ir.specs.declared.op.AirOp.TheVariants as op
+use Rattle.air_ir.specs.declared.operand.Arg.{Arg}
+use Rattle.air_ir.specs.declared.operand.Arg.TheVariants.{At, Imm}
+use Rattle.air_ir.specs.declared.operand.Home.TheVariants.{Reg, Spill}
+use Rattle.air_ir.specs.declared.operand.Operand.{Operand}
+use Rattle.air_ir.specs.declared.operand.Role.TheVariants.{Use, Def}
+use Rattle.air_ir.specs.declared.procedure.AirBlock.{AirBlock}
+use Rattle.air_ir.specs.declared.procedure.AirInst.{AirInst}
+use Rattle.air_ir.specs.declared.procedure.AirProc.{AirProc}
+
+abbrev pub used : Arg → Operand
+used arg = record { role = Use; width = W64; arg = arg }
+
+abbrev pub made : Arg → Operand
+made arg = record { role = Def; width = W64; arg = arg }
+
+abbrev pub x0 : Arg
+x0 = At (Reg (record { 0 = 0 }))
+
+abbrev pub inst : AirOp → List Operand → AirInst
+inst op operands = record { op = op; operands = operands; value = 0; traps = false }
+
+abbrev pub moves : Arg → Arg → AirInst
+moves from to = inst op.Move (used from ∷ made to ∷ [])
+
+-- 7 is put in a spill place, and the second block returns it
+abbrev pub entry : AirBlock
+entry = record { insts = inst op.Move (used (Imm 7) ∷ made (At (Spill 0)) ∷ []) ∷ inst op.Jump [] ∷ []; targets = 1 ∷ [] }
+
+abbrev pub last : AirBlock
+last = record { insts = inst op.Move (used (At (Spill 0)) ∷ made x0 ∷ []) ∷ inst op.Return (used x0 ∷ []) ∷ []; targets = [] }
+
+abbrev pub procedure : AirProc
+procedure = record { blocks = entry ∷ last ∷ []; tmps = 0; slots = []; returns = returns.W64 }

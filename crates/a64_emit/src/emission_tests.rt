@@ -1,0 +1,118 @@
+//! That a procedure is emitted with ample memory.
+
+ghost use Rattle.std.specs.Prelude.{◌≡◌, IfOk};
+ghost use Rattle.a64_emit.specs.Sample as sample;
+
+use crate::emit;
+use a64_inst::{AccessKind, Inst, Item};
+use air_frame::layout;
+use air_ir::{
+    AirBlock, AirBlocks, AirInst, AirInsts, AirOp, AirProc, Arg, Home, Operand, Operands, Role,
+};
+use b3_base::{Ids, NoMemory, Width};
+use b3_ir::Reg;
+use stackmap::Returns;
+use std::alloc::Global;
+use std::test::Fail;
+
+const X0: Arg = Arg::At(Home::Reg(Reg(0)));
+
+const SPILL_0: Arg = Arg::At(Home::Spill(0));
+
+fn used(arg: Arg) -> Operand
+    ensures { result ≡ sample.used arg }
+{
+    Operand {
+        role: Role::Use,
+        width: Width::W64,
+        arg,
+    }
+}
+
+fn moves(alloc: Global, from: Arg, to: Arg) -> Result<AirInst, NoMemory>
+    ensures { IfOk result (λ i. i ≡ sample.moves from to) }
+{
+    let mut operands = Operands::new(alloc);
+    operands.push(used(from))?;
+    operands.push(Operand {
+        role: Role::Def,
+        width: Width::W64,
+        arg: to,
+    })?;
+    Ok(AirInst {
+        op: AirOp::Move,
+        operands,
+        value: 0,
+        traps: false,
+    })
+}
+
+fn entry(alloc: Global) -> Result<AirBlock, NoMemory>
+    ensures { IfOk result (λ b. b ≡ sample.entry) }
+{
+    let mut insts = AirInsts::new(alloc);
+    insts.push(moves(alloc, Arg::Imm(7), SPILL_0)?)?;
+    insts.push(AirInst {
+        op: AirOp::Jump,
+        operands: Operands::new(alloc),
+        value: 0,
+        traps: false,
+    })?;
+    let mut targets = Ids::new(alloc);
+    targets.push(1)?;
+    Ok(AirBlock { insts, targets })
+}
+
+fn last(alloc: Global) -> Result<AirBlock, NoMemory>
+    ensures { IfOk result (λ b. b ≡ sample.last) }
+{
+    let mut insts = AirInsts::new(alloc);
+    insts.push(moves(alloc, SPILL_0, X0)?)?;
+    let mut operands = Operands::new(alloc);
+    operands.push(used(X0))?;
+    insts.push(AirInst {
+        op: AirOp::Return,
+        operands,
+        value: 0,
+        traps: false,
+    })?;
+    Ok(AirBlock {
+        insts,
+        targets: Ids::new(alloc),
+    })
+}
+
+/// 7 is put in a spill place, and the second block returns it.
+fn procedure(alloc: Global) -> Result<AirProc, NoMemory>
+    ensures { IfOk result (λ p. p ≡ sample.procedure) }
+{
+    let mut blocks = AirBlocks::new(alloc);
+    blocks.push(entry(alloc)?)?;
+    blocks.push(last(alloc)?)?;
+    Ok(AirProc {
+        blocks,
+        tmps: 0,
+        slots: Ids::new(alloc),
+        returns: Returns::W64,
+    })
+}
+
+#[test]
+fn a_procedure_of_two_blocks_is_emitted(rt: HostRuntime) -> Result<(), Fail> {
+    let p = procedure(rt.alloc())?;
+    let frame = layout(rt.alloc(), &p)?;
+    let emitted = emit(rt.alloc(), &p, &frame)?;
+    // three instructions enter and three leave; the jump to the next block takes none
+    assert_eq!(rt; emitted.code.len(), 11);
+    assert_eq!(rt; *emitted.code.get(3), Item::Label(0));
+    assert_eq!(rt; *emitted.code.get(6), Item::Label(1));
+    let loads = Inst::Access {
+        kind: AccessKind::LdrX,
+        rt: 0,
+        rn: 31,
+        units: 1,
+    };
+    assert_eq!(rt; *emitted.code.get(7), Item::Plain(loads));
+    assert!(rt; emitted.sites.is_empty());
+    Ok(())
+}
