@@ -2,20 +2,15 @@
 use Rattle.std.proofs.Common.{◌≡◌, ◌≢◌, ℕ, zero, suc, ◌+◌, ◌-◌, ◌<◌, ◌≤◌, ◌⊎◌, inl, inr, Bool, true, false, ◌&&◌, not, List, [], ◌∷◌, ◌++◌, Option, Some, None, length, refl, sym, ap, ◌∙◌, subst, arith, nat_eq, eq-eqb, ⊎_elim}
 use Rattle.std.specs.Prelude.{min, nat_le, slice_get}
 use Rattle.std.specs.List.{flat_map, list_all}
-use Rattle.std.proofs.lemmas.Bool.{and_parts, cases_lt, eqb-true}
+use Rattle.std.proofs.lemmas.Bool.{and_parts, cases_lt}
 use Rattle.std.proofs.lemmas.Bool.Decides.{eqb_tells, nat_tests}
 use Rattle.b3_ir.specs.Names.{IsName, begins_name, may_stand_in_name}
 use Rattle.b3_ir.specs.Procedure.{Block, Procedure}
-use Rattle.b3_ir.specs.Types.{same_type}
-use Rattle.b3_ir.specs.declared.opcode.Opcode.{Opcode}
-use Rattle.b3_ir.specs.declared.opcode.Opcode.TheVariants.{Return}
-use Rattle.b3_ir.specs.declared.opcode.Ty.{Ty}
-use Rattle.b3_ir.specs.declared.opcode.Ty.TheVariants.{Void, Int32, Int64}
 use Rattle.b3_ir.specs.declared.procedure.SlotLine.{SlotLine}
 use Rattle.b3_ir.specs.declared.value.Value.{Value}
-use Rattle.b3_supported.specs.Forms.{IsForm, has_code}
-use Rattle.b3_supported.specs.Lines.{blocks_line, has_child, header_line, heading_line, is_form, is_name, lesser, module_line, procedure_line, slots_line, unless, value_line, values_line}
-use Rattle.b3_supported.specs.Faults.{IsOdd, IsOddHeader, IsOddHeading, IsOddIn, IsOddSlot, IsOddValue}
+use Rattle.b3_supported.specs.Forms.{has_code}
+use Rattle.b3_supported.specs.Lines.{blocks_line, header_line, is_name, lesser, module_line, procedure_line, slots_line, unless, value_line, values_line}
+use Rattle.b3_supported.specs.Faults.{IsOdd, IsOddHeader, IsOddIn, IsOddSlot, IsOddValue}
 
 -- ---- the least line of which something holds
 
@@ -66,69 +61,39 @@ name_passes name h =
     let short : nat_le (length name) 255 ≡ true = grind (arith, nat_tests, h.short) in
     rw (short, h.begin, h.all) refl
 
-no_int32 : (ty : Ty) → not (same_type ty Int32) ≡ true → ty ≢ Int32
-no_int32 Void e = λ is. cc
-no_int32 Int32 e = cc
-no_int32 Int64 e = λ is. cc
-
-passes_type : (ty : Ty) → ty ≢ Int32 → not (same_type ty Int32) ≡ true
-passes_type Void h = refl
-passes_type Int32 h = absurd (h refl)
-passes_type Int64 h = refl
-
-returned : (children : List ℕ) → has_child Return children ≡ true → 0 < length children
-returned [] e = cc
-returned (i ∷ children) e = omega arith
-
-child_passes : (op : Opcode) (children : List ℕ) → (op ≡ Return → 0 < length children) → has_child op children ≡ true
-child_passes Return [] h = absurd (let some = h refl in omega arith)
-child_passes Return (i ∷ children) h = refl
-child_passes _ children h = refl
-
-pub form_tested : (v : Value) → is_form v ≡ true → IsForm v
-form_tested v e =
-    let all = and_parts (has_code v.kind.opcode && not (same_type v.ty Int32)) (has_child v.kind.opcode v.children) e in
-    let front = and_parts (has_code v.kind.opcode) (not (same_type v.ty Int32)) all.0 in
-    record { coded = front.0; no_int32 = no_int32 v.ty front.1; child = λ op. returned v.children (subst (λ o. has_child o v.children ≡ true) op all.1) }
-
-pub form_passes : (v : Value) → IsForm v → is_form v ≡ true
-form_passes v h = rw (h.coded, passes_type v.ty h.no_int32, child_passes v.kind.opcode v.children h.child) refl
-
 -- ---- values
 
--- a value that is odd stands among some, the first of which is value k
-record OddAmong (k : ℕ) (vs : List Value) (line : ℕ) : Type 0 where
+abbrev OddHere : Value → ℕ → Type 0
+OddHere v line = (v.line ≡ line) × (has_code v.kind.opcode ≡ false)
+
+-- a value that is odd stands among some
+record OddAmong (vs : List Value) (line : ℕ) : Type 0 where
   pub place : ℕ
   pub value : Value
   pub there : slice_get vs place ≡ Some value
   pub on_line : value.line ≡ line
-  pub odd : ¬ (IsForm value) ⊎ (k + place ≡ 256)
+  pub odd : has_code value.kind.opcode ≡ false
 
-moved : (X : Type 0) (m n : ℕ) → m ≡ n → X ⊎ (m ≡ 256) → X ⊎ (n ≡ 256)
-moved X m n e h = ⊎_elim (λ (x : X). inl x) (λ (is : m ≡ 256). inr (sym e ∙ is)) h
+value_least : (v : Value) → IsLeast (OddHere v) (value_line v)
+value_least v = one_least (has_code v.kind.opcode) v.line (has_code v.kind.opcode ≡ false) (λ good bad. cc) (λ bad. bad)
 
-value_least : (k : ℕ) (v : Value) → IsLeast (λ line. (v.line ≡ line) × (¬ (IsForm v) ⊎ (k ≡ 256))) (value_line k v)
-value_least k v = one_least (is_form v && not (nat_eq k 256)) v.line (¬ (IsForm v) ⊎ (k ≡ 256)) (passes (is_form v) (IsForm v) k 256 (form_tested v)) (fails (is_form v) (IsForm v) k 256 (form_passes v))
-
-among_first : (k : ℕ) (v : Value) (vs : List Value) (line : ℕ) → ((v.line ≡ line) × (¬ (IsForm v) ⊎ (k ≡ 256))) ⊎ OddAmong (k + 1) vs line → OddAmong k (v ∷ vs) line
-among_first k v vs line h =
+among_first : (v : Value) (vs : List Value) (line : ℕ) → OddHere v line ⊎ OddAmong vs line → OddAmong (v ∷ vs) line
+among_first v vs line h =
     ⊎_elim
-    (λ (here : (v.line ≡ line) × (¬ (IsForm v) ⊎ (k ≡ 256))). record { place = 0; value = v; there = refl; on_line = here.0; odd = moved (¬ (IsForm v)) k (k + 0) (omega arith) here.1 })
-    (λ (more : OddAmong (k + 1) vs line). record { place = suc more.place; value = more.value; there = more.there; on_line = more.on_line; odd = moved (¬ (IsForm more.value)) (k + 1 + more.place) (k + suc more.place) (omega arith) more.odd }) h
+    (λ (here : OddHere v line). record { place = 0; value = v; there = refl; on_line = here.0; odd = here.1 })
+    (λ (more : OddAmong vs line). record { place = suc more.place; value = more.value; there = more.there; on_line = more.on_line; odd = more.odd }) h
 
-among_split : (k : ℕ) (v : Value) (vs : List Value) (line place : ℕ) (w : Value) → slice_get (v ∷ vs) place ≡ Some w → w.line ≡ line → ¬ (IsForm w) ⊎ (k + place ≡ 256) → ((v.line ≡ line) × (¬ (IsForm v) ⊎ (k ≡ 256))) ⊎ OddAmong (k + 1) vs line
-among_split k v vs line zero w there on odd =
-    let same : w ≡ v = cc in
-    inl (ap (λ (x : Value). x.line) (sym same) ∙ on, subst (λ (x : Value). ¬ (IsForm x) ⊎ (k ≡ 256)) same (moved (¬ (IsForm w)) (k + 0) k (omega arith) odd))
-among_split k v vs line (suc place) w there on odd = inr (record { place = place; value = w; there = there; on_line = on; odd = moved (¬ (IsForm w)) (k + suc place) (k + 1 + place) (omega arith) odd })
+among_split : (v : Value) (vs : List Value) (line place : ℕ) (w : Value) → slice_get (v ∷ vs) place ≡ Some w → w.line ≡ line → has_code w.kind.opcode ≡ false → OddHere v line ⊎ OddAmong vs line
+among_split v vs line zero w there on odd = let same : w ≡ v = cc in inl (subst (λ (x : Value). OddHere x line) same (on, odd))
+among_split v vs line (suc place) w there on odd = inr (record { place = place; value = w; there = there; on_line = on; odd = odd })
 
-values_least : (k : ℕ) (vs : List Value) → IsLeast (OddAmong k vs) (values_line k vs)
+values_least : (vs : List Value) → IsLeast (OddAmong vs) (values_line vs)
 unfolding values_line
-values_least k [] = λ line odd. let e : slice_get [] odd.place ≡ Some odd.value = odd.there in cc
-values_least k (v ∷ vs) =
-    least_as (λ line. ((v.line ≡ line) × (¬ (IsForm v) ⊎ (k ≡ 256))) ⊎ OddAmong (k + 1) vs line) (OddAmong k (v ∷ vs)) (lesser (value_line k v) (values_line (k + 1) vs))
-    (among_first k v vs) (λ line h. among_split k v vs line h.place h.value h.there h.on_line h.odd)
-    (lesser_least (λ line. (v.line ≡ line) × (¬ (IsForm v) ⊎ (k ≡ 256))) (OddAmong (k + 1) vs) (value_line k v) (values_line (k + 1) vs) (value_least k v) (values_least (k + 1) vs))
+values_least [] = λ line odd. let e : slice_get [] odd.place ≡ Some odd.value = odd.there in cc
+values_least (v ∷ vs) =
+    least_as (λ line. OddHere v line ⊎ OddAmong vs line) (OddAmong (v ∷ vs)) (lesser (value_line v) (values_line vs))
+    (among_first v vs) (λ line h. among_split v vs line h.place h.value h.there h.on_line h.odd)
+    (lesser_least (OddHere v) (OddAmong vs) (value_line v) (values_line vs) (value_least v) (values_least vs))
 
 -- ---- values of several blocks
 
@@ -146,92 +111,32 @@ get_within [] b n x lt e = absurd (omega arith)
 get_within (y ∷ a) b zero x lt e = e
 get_within (y ∷ a) b (suc n) x lt e = get_within a b n x (omega arith) e
 
-among_both : (k : ℕ) (a b : List Value) (line : ℕ) → OddAmong k a line ⊎ OddAmong (k + length a) b line → OddAmong k (a ++ b) line
-among_both k a b line h =
+among_both : (a b : List Value) (line : ℕ) → OddAmong a line ⊎ OddAmong b line → OddAmong (a ++ b) line
+among_both a b line h =
     ⊎_elim
-    (λ (one : OddAmong k a line). record { place = one.place; value = one.value; there = get_front a b one.place one.value one.there; on_line = one.on_line; odd = one.odd })
-    (λ (one : OddAmong (k + length a) b line). record {
-      place = length a + one.place;
-      value = one.value;
-      there = get_behind a b one.place ∙ one.there;
-      on_line = one.on_line;
-      odd = moved (¬ (IsForm one.value)) (k + length a + one.place) (k + (length a + one.place)) (omega arith) one.odd;
-    }) h
+    (λ (one : OddAmong a line). record { place = one.place; value = one.value; there = get_front a b one.place one.value one.there; on_line = one.on_line; odd = one.odd })
+    (λ (one : OddAmong b line). record { place = length a + one.place; value = one.value; there = get_behind a b one.place ∙ one.there; on_line = one.on_line; odd = one.odd }) h
 
-among_either : (k : ℕ) (a b : List Value) (line : ℕ) → OddAmong k (a ++ b) line → OddAmong k a line ⊎ OddAmong (k + length a) b line
-among_either k a b line one =
+among_either : (a b : List Value) (line : ℕ) → OddAmong (a ++ b) line → OddAmong a line ⊎ OddAmong b line
+among_either a b line one =
     elim (cases_lt one.place (length a)) [
       | inl less ↦ inl (record { place = one.place; value = one.value; there = get_within a b one.place one.value less one.there; on_line = one.on_line; odd = one.odd })
       | inr past ↦
           let m : ℕ = one.place - length a in
           let split : length a + m ≡ one.place = omega arith in
-          inr (record {
-            place = m;
-            value = one.value;
-            there = sym (get_behind a b m) ∙ ap (slice_get (a ++ b)) split ∙ one.there;
-            on_line = one.on_line;
-            odd = moved (¬ (IsForm one.value)) (k + one.place) (k + length a + m) (omega arith) one.odd;
-          })
+          inr (record { place = m; value = one.value; there = sym (get_behind a b m) ∙ ap (slice_get (a ++ b)) split ∙ one.there; on_line = one.on_line; odd = one.odd })
     ]
-
--- ---- blocks
 
 abbrev row_of : List Block → List Value
 row_of blocks = flat_map (λ (b : Block). b.values) blocks
 
--- a heading that is odd stands among some, the first of which is that of block b
-record OddHeading (b : ℕ) (blocks : List Block) (line : ℕ) : Type 0 where
-  pub place : ℕ
-  pub block : Block
-  pub there : slice_get blocks place ≡ Some block
-  pub on_line : block.line ≡ line
-  pub odd : b + place ≡ 64
-
-heading_least : (b : ℕ) (block : Block) → IsLeast (λ line. (block.line ≡ line) × (b ≡ 64)) (heading_line b block)
-heading_least b block =
-    one_least (not (nat_eq b 64)) block.line (b ≡ 64) (λ good same. let yes : nat_eq b 64 ≡ true = eq-eqb b 64 same in let bad : false ≡ true = rw yes at good in cc) (is_most (nat_eq b 64) (eqb-true b 64))
-  where
-    is_most : (t : Bool) → (t ≡ true → b ≡ 64) → not t ≡ false → b ≡ 64
-    is_most true told e = told refl
-    is_most false told e = cc
-
-headings_split : (b : ℕ) (x : Block) (blocks : List Block) (line place : ℕ) (block : Block) → slice_get (x ∷ blocks) place ≡ Some block → block.line ≡ line → b + place ≡ 64 → ((x.line ≡ line) × (b ≡ 64)) ⊎ OddHeading (b + 1) blocks line
-headings_split b x blocks line zero block there on odd = let same : block ≡ x = cc in inl (ap (λ (s : Block). s.line) (sym same) ∙ on, omega arith)
-headings_split b x blocks line (suc place) block there on odd = inr (record { place = place; block = block; there = there; on_line = on; odd = omega arith })
-
-abbrev OddBlocks : ℕ → ℕ → List Block → ℕ → Type 0
-OddBlocks b k blocks line = OddHeading b blocks line ⊎ OddAmong k (row_of blocks) line
-
-abbrev OddParts : ℕ → ℕ → Block → List Block → ℕ → Type 0
-OddParts b k x blocks line = ((x.line ≡ line) × (b ≡ 64)) ⊎ (OddAmong k x.values line ⊎ OddBlocks (b + 1) (k + length x.values) blocks line)
-
-parts_join : (b k : ℕ) (x : Block) (blocks : List Block) (line : ℕ) → OddParts b k x blocks line → OddBlocks b k (x ∷ blocks) line
-parts_join b k x blocks line h =
-    ⊎_elim
-    (λ (here : (x.line ≡ line) × (b ≡ 64)). inl (record { place = 0; block = x; there = refl; on_line = here.0; odd = omega (arith, here.1) }))
-    (λ (more : OddAmong k x.values line ⊎ OddBlocks (b + 1) (k + length x.values) blocks line). ⊎_elim
-    (λ (one : OddAmong k x.values line). inr (among_both k x.values (row_of blocks) line (inl one)))
-    (λ (rest : OddBlocks (b + 1) (k + length x.values) blocks line). ⊎_elim
-    (λ (head : OddHeading (b + 1) blocks line). inl (record { place = suc head.place; block = head.block; there = head.there; on_line = head.on_line; odd = omega (arith, head.odd) }))
-    (λ (one : OddAmong (k + length x.values) (row_of blocks) line). inr (among_both k x.values (row_of blocks) line (inr one))) rest) more) h
-
-parts_split : (b k : ℕ) (x : Block) (blocks : List Block) (line : ℕ) → OddBlocks b k (x ∷ blocks) line → OddParts b k x blocks line
-parts_split b k x blocks line h =
-    ⊎_elim
-    (λ (head : OddHeading b (x ∷ blocks) line). ⊎_elim
-    (λ (here : (x.line ≡ line) × (b ≡ 64)). inl here) (λ (more : OddHeading (b + 1) blocks line). inr (inr (inl more)))
-    (headings_split b x blocks line head.place head.block head.there head.on_line head.odd))
-    (λ (one : OddAmong k (x.values ++ row_of blocks) line). ⊎_elim
-    (λ (front : OddAmong k x.values line). inr (inl front)) (λ (behind : OddAmong (k + length x.values) (row_of blocks) line). inr (inr (inr behind)))
-    (among_either k x.values (row_of blocks) line one)) h
-
-blocks_least : (b k : ℕ) (blocks : List Block) → IsLeast (OddBlocks b k blocks) (blocks_line b k blocks)
+blocks_least : (blocks : List Block) → IsLeast (OddAmong (row_of blocks)) (blocks_line blocks)
 unfolding blocks_line
-blocks_least b k [] = λ line odd. ⊎_elim (λ (h : OddHeading b [] line). absurd (let e = h.there in cc)) (λ (h : OddAmong k [] line). absurd (let e = h.there in cc)) odd
-blocks_least b k (x ∷ blocks) =
-    least_as (OddParts b k x blocks) (OddBlocks b k (x ∷ blocks)) (lesser (heading_line b x) (lesser (values_line k x.values) (blocks_line (b + 1) (k + length x.values) blocks))) (parts_join b k x blocks) (parts_split b k x blocks)
-    (lesser_least (λ line. (x.line ≡ line) × (b ≡ 64)) (λ line. OddAmong k x.values line ⊎ OddBlocks (b + 1) (k + length x.values) blocks line) (heading_line b x) (lesser (values_line k x.values) (blocks_line (b + 1) (k + length x.values) blocks)) (heading_least b x)
-    (lesser_least (OddAmong k x.values) (OddBlocks (b + 1) (k + length x.values) blocks) (values_line k x.values) (blocks_line (b + 1) (k + length x.values) blocks) (values_least k x.values) (blocks_least (b + 1) (k + length x.values) blocks)))
+blocks_least [] = λ line odd. let e : slice_get [] odd.place ≡ Some odd.value = odd.there in cc
+blocks_least (x ∷ blocks) =
+    least_as (λ line. OddAmong x.values line ⊎ OddAmong (row_of blocks) line) (OddAmong (row_of (x ∷ blocks))) (lesser (values_line x.values) (blocks_line blocks))
+    (among_both x.values (row_of blocks)) (among_either x.values (row_of blocks))
+    (lesser_least (OddAmong x.values) (OddAmong (row_of blocks)) (values_line x.values) (blocks_line blocks) (values_least x.values) (blocks_least blocks))
 
 -- ---- slots
 
@@ -262,34 +167,30 @@ header_least : (k : ℕ) (p : Procedure) → IsLeast (λ line. (p.line ≡ line)
 header_least k p = one_least (is_name p.name && not (nat_eq k 256)) p.line (¬ (IsName p.name) ⊎ (k ≡ 256)) (passes (is_name p.name) (IsName p.name) k 256 (name_tested p.name)) (fails (is_name p.name) (IsName p.name) k 256 (name_passes p.name))
 
 abbrev OddPieces : ℕ → Procedure → ℕ → Type 0
-OddPieces k p line = ((p.line ≡ line) × (¬ (IsName p.name) ⊎ (k ≡ 256))) ⊎ (OddSlot p.slots line ⊎ OddBlocks 0 0 p.blocks line)
+OddPieces k p line = ((p.line ≡ line) × (¬ (IsName p.name) ⊎ (k ≡ 256))) ⊎ (OddSlot p.slots line ⊎ OddAmong (row_of p.blocks) line)
 
 pieces_join : (k : ℕ) (p : Procedure) (line : ℕ) → OddPieces k p line → IsOddIn k p line
 pieces_join k p line h =
     ⊎_elim
     (λ (here : (p.line ≡ line) × (¬ (IsName p.name) ⊎ (k ≡ 256))). inl (record { on_line = here.0; odd = here.1 }))
-    (λ (more : OddSlot p.slots line ⊎ OddBlocks 0 0 p.blocks line). ⊎_elim
+    (λ (more : OddSlot p.slots line ⊎ OddAmong (row_of p.blocks) line). ⊎_elim
     (λ (s : OddSlot p.slots line). inr (inl (record { place = s.place; slot = s.slot; there = s.there; on_line = s.on_line })))
-    (λ (rest : OddBlocks 0 0 p.blocks line). ⊎_elim
-    (λ (head : OddHeading 0 p.blocks line). let at : head.place ≡ 64 = omega (arith, head.odd) in inr (inr (inl (record { block = head.block; there = ap (slice_get p.blocks) (sym at) ∙ head.there; on_line = head.on_line }))))
-    (λ (one : OddAmong 0 (row_of p.blocks) line). inr (inr (inr (record { place = one.place; value = one.value; there = one.there; on_line = one.on_line; odd = moved (¬ (IsForm one.value)) (0 + one.place) one.place (omega arith) one.odd })))) rest) more) h
+    (λ (one : OddAmong (row_of p.blocks) line). inr (inr (record { place = one.place; value = one.value; there = one.there; on_line = one.on_line; odd = one.odd }))) more) h
 
 pieces_split : (k : ℕ) (p : Procedure) (line : ℕ) → IsOddIn k p line → OddPieces k p line
 pieces_split k p line h =
     ⊎_elim
     (λ (here : IsOddHeader k p line). inl (here.on_line, here.odd))
-    (λ (more : IsOddSlot p line ⊎ (IsOddHeading p line ⊎ IsOddValue p line)). ⊎_elim
+    (λ (more : IsOddSlot p line ⊎ IsOddValue p line). ⊎_elim
     (λ (s : IsOddSlot p line). inr (inl (record { place = s.place; slot = s.slot; there = s.there; on_line = s.on_line })))
-    (λ (rest : IsOddHeading p line ⊎ IsOddValue p line). ⊎_elim
-    (λ (head : IsOddHeading p line). inr (inr (inl (record { place = 64; block = head.block; there = head.there; on_line = head.on_line; odd = omega arith }))))
-    (λ (one : IsOddValue p line). inr (inr (inr (record { place = one.place; value = one.value; there = one.there; on_line = one.on_line; odd = moved (¬ (IsForm one.value)) one.place (0 + one.place) (omega arith) one.odd })))) rest) more) h
+    (λ (one : IsOddValue p line). inr (inr (record { place = one.place; value = one.value; there = one.there; on_line = one.on_line; odd = one.odd }))) more) h
 
 procedure_least : (k : ℕ) (p : Procedure) → IsLeast (IsOddIn k p) (procedure_line k p)
 unfolding procedure_line
 procedure_least k p =
-    least_as (OddPieces k p) (IsOddIn k p) (lesser (header_line k p) (lesser (slots_line p.slots) (blocks_line 0 0 p.blocks))) (pieces_join k p) (pieces_split k p)
-    (lesser_least (λ line. (p.line ≡ line) × (¬ (IsName p.name) ⊎ (k ≡ 256))) (λ line. OddSlot p.slots line ⊎ OddBlocks 0 0 p.blocks line) (header_line k p) (lesser (slots_line p.slots) (blocks_line 0 0 p.blocks)) (header_least k p)
-    (lesser_least (OddSlot p.slots) (OddBlocks 0 0 p.blocks) (slots_line p.slots) (blocks_line 0 0 p.blocks) (slots_least p.slots) (blocks_least 0 0 p.blocks)))
+    least_as (OddPieces k p) (IsOddIn k p) (lesser (header_line k p) (lesser (slots_line p.slots) (blocks_line p.blocks))) (pieces_join k p) (pieces_split k p)
+    (lesser_least (λ line. (p.line ≡ line) × (¬ (IsName p.name) ⊎ (k ≡ 256))) (λ line. OddSlot p.slots line ⊎ OddAmong (row_of p.blocks) line) (header_line k p) (lesser (slots_line p.slots) (blocks_line p.blocks)) (header_least k p)
+    (lesser_least (OddSlot p.slots) (OddAmong (row_of p.blocks)) (slots_line p.slots) (blocks_line p.blocks) (slots_least p.slots) (blocks_least p.blocks)))
 
 -- ---- modules
 

@@ -5,7 +5,7 @@ use Rattle.std.proofs.Math.Seq.{drop-cons}
 use Rattle.b3_ir.specs.Procedure.{Block, Procedure}
 use Rattle.b3_ir.specs.declared.procedure.SlotLine.{SlotLine}
 use Rattle.b3_ir.specs.declared.value.Value.{Value}
-use Rattle.b3_supported.specs.Lines.{blocks_line, heading_line, lesser, module_line, procedure_line, slots_line, value_line, values_line}
+use Rattle.b3_supported.specs.Lines.{blocks_line, lesser, module_line, procedure_line, slots_line, value_line, values_line}
 
 pub lesser_assoc : (a b c : Option ℕ) → lesser (lesser a b) c ≡ lesser a (lesser b c)
 lesser_assoc None b c = refl
@@ -32,13 +32,13 @@ pub slots_step : (slots rest : List SlotLine) (slot : SlotLine) → slots ≡ sl
 unfolding slots_line
 slots_step slots rest slot is = ap slots_line is
 
-pub values_step : (k : ℕ) (vs rest : List Value) (v : Value) → vs ≡ v ∷ rest → values_line k vs ≡ lesser (value_line k v) (values_line (k + 1) rest)
+pub values_step : (vs rest : List Value) (v : Value) → vs ≡ v ∷ rest → values_line vs ≡ lesser (value_line v) (values_line rest)
 unfolding values_line
-values_step k vs rest v is = ap (values_line k) is
+values_step vs rest v is = ap values_line is
 
-pub blocks_step : (b k : ℕ) (blocks rest : List Block) (block : Block) → blocks ≡ block ∷ rest → blocks_line b k blocks ≡ lesser (lesser (heading_line b block) (values_line k block.values)) (blocks_line (b + 1) (k + length block.values) rest)
+pub blocks_step : (blocks rest : List Block) (block : Block) → blocks ≡ block ∷ rest → blocks_line blocks ≡ lesser (values_line block.values) (blocks_line rest)
 unfolding blocks_line
-blocks_step b k blocks rest block is = ap (blocks_line b k) is ∙ sym (lesser_assoc (heading_line b block) (values_line k block.values) (blocks_line (b + 1) (k + length block.values) rest))
+blocks_step blocks rest block is = ap blocks_line is
 
 pub module_step : (k : ℕ) (ps rest : List Procedure) (p : Procedure) → ps ≡ p ∷ rest → module_line k ps ≡ lesser (procedure_line k p) (module_line (k + 1) rest)
 unfolding module_line
@@ -48,13 +48,13 @@ pub slots_end : (slots : List SlotLine) → slots ≡ [] → slots_line slots �
 unfolding slots_line
 slots_end slots is = ap slots_line is
 
-pub values_end : (k : ℕ) (vs : List Value) → vs ≡ [] → values_line k vs ≡ None
+pub values_end : (vs : List Value) → vs ≡ [] → values_line vs ≡ None
 unfolding values_line
-values_end k vs is = ap (values_line k) is
+values_end vs is = ap values_line is
 
-pub blocks_end : (b k : ℕ) (blocks : List Block) → blocks ≡ [] → blocks_line b k blocks ≡ None
+pub blocks_end : (blocks : List Block) → blocks ≡ [] → blocks_line blocks ≡ None
 unfolding blocks_line
-blocks_end b k blocks is = ap (blocks_line b k) is
+blocks_end blocks is = ap blocks_line is
 
 pub module_end : (k : ℕ) (ps : List Procedure) → ps ≡ [] → module_line k ps ≡ None
 unfolding module_line

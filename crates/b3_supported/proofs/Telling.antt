@@ -4,20 +4,19 @@ use Rattle.std.specs.Prelude.{All, IfSome, slice_get, slice_index_or}
 use Rattle.std.specs.Option.{option_map}
 use Rattle.std.proofs.lemmas.Bool.{cases_lt}
 use Rattle.std.proofs.lemmas.List.{length-map}
-use Rattle.std.proofs.lemmas.List.Concat.{length-flat_map}
 use Rattle.std.proofs.lemmas.List.Elements.{All-get_or, All-weaker}
 use Rattle.std.proofs.lemmas.Option.{get_or_from_slice_get, slice_get-get_or, slice_get-map, slice_get_within}
 use Rattle.b3_ir.specs.Names.{IsName}
 use Rattle.b3_ir.specs.Naming.{all_values}
-use Rattle.b3_ir.specs.Procedure.{AllFit, Block, Procedure, total}
+use Rattle.b3_ir.specs.Procedure.{AllFit, Procedure}
 use Rattle.b3_ir.specs.declared.procedure.SlotLine.{SlotLine}
 use Rattle.b3_ir.specs.declared.value.Value.{Value}
 use Rattle.b3_rules.specs.Valid.{IsValid}
-use Rattle.b3_supported.specs.Forms.{HasForms, IsForm}
-use Rattle.b3_supported.specs.Lines.{is_form, is_name}
-use Rattle.b3_supported.specs.Faults.{HaveForms, IsFaultLine, IsOdd, IsOddHeader, IsOddHeading, IsOddSlot, IsOddValue}
+use Rattle.b3_supported.specs.Forms.{HasCode, HasForms, has_code}
+use Rattle.b3_supported.specs.Lines.{is_name}
+use Rattle.b3_supported.specs.Faults.{HaveForms, IsFaultLine, IsOdd, IsOddHeader, IsOddSlot, IsOddValue}
 use Rattle.b3_supported.specs.Supported.{AreSupported, IsSupported, names_of}
-use Rattle.b3_supported.proofs.Least.{IsLeast, form_passes, form_tested, name_passes, name_tested}
+use Rattle.b3_supported.proofs.Least.{IsLeast, name_passes, name_tested}
 
 get_some : {X : Type 0} (xs : List X) (k : ℕ) → k < length xs → (x : X) × (slice_get xs k ≡ Some x)
 get_some [] k lt = absurd (omega arith)
@@ -26,9 +25,6 @@ get_some (x ∷ xs) (suc k) lt = get_some xs k (omega arith)
 
 all_at : {X : Type 0} (P : X → Type 0) (xs : List X) (k : ℕ) (x : X) → All P xs → slice_get xs k ≡ Some x → P x
 all_at P xs k x all there = subst P (get_or_from_slice_get xs k x x there) (All-get_or P xs k x (slice_get_within xs k x there) all)
-
-count_is : (p : Procedure) → length (all_values p) ≡ total p
-count_is p = length-flat_map (λ (b : Block). b.values) p.blocks
 
 -- ---- where no part is odd, all have forms
 module _ (ps : List Procedure) (none : (line : ℕ) → ¬ (IsOdd ps line)) where
@@ -47,44 +43,16 @@ module _ (ps : List Procedure) (none : (line : ℕ) → ¬ (IsOdd ps line)) wher
         by [] e = e
         by (slot ∷ slots) e = absurd (none slot.line (record { place = k; procedure = p; there = there; part = inr (inl (record { place = 0; slot = slot; there = ap (λ (l : List SlotLine). slice_get l 0) e; on_line = refl })) }))
 
-    form_at : (i : ℕ) (v : Value) → slice_get (all_values p) i ≡ Some v → IsForm v
-    form_at i v at = by (is_form v) refl
+    code_at : (i : ℕ) (v : Value) → slice_get (all_values p) i ≡ Some v → HasCode v
+    code_at i v at = by (has_code v.kind.opcode) refl
       where
-        by : (b : Bool) → is_form v ≡ b → IsForm v
-        by true e = form_tested v e
+        by : (b : Bool) → has_code v.kind.opcode ≡ b → HasCode v
+        by true e = e
         by false e =
-            absurd (none v.line (record {
-              place = k;
-              procedure = p;
-              there = there;
-              part = inr (inr (inr (record { place = i; value = v; there = at; on_line = refl; odd = inl (λ form. let bad : false ≡ true = sym e ∙ form_passes v form in cc) })));
-            }))
-
-    few_blocks : length p.blocks ≤ 64
-    few_blocks =
-        elim (cases_lt 64 (length p.blocks)) [
-          | inl less ↦
-              let block = get_some p.blocks 64 less in
-              absurd (none block.0.line (record { place = k; procedure = p; there = there; part = inr (inr (inl (record { block = block.0; there = block.1; on_line = refl }))) }))
-          | inr back ↦ back
-        ]
-
-    few_values : total p ≤ 256
-    few_values =
-        elim (cases_lt 256 (length (all_values p))) [
-          | inl less ↦
-              let value = get_some (all_values p) 256 less in
-              absurd (none value.0.line (record { place = k; procedure = p; there = there; part = inr (inr (inr (record { place = 256; value = value.0; there = value.1; on_line = refl; odd = inr refl }))) }))
-          | inr back ↦ omega (arith, count_is p)
-        ]
+            absurd (none v.line (record { place = k; procedure = p; there = there; part = inr (inr (record { place = i; value = v; there = at; on_line = refl; odd = e })) }))
 
     forms_at : HasForms p
-    forms_at = record {
-      slots = no_slots;
-      values = λ i d lt. form_at i (slice_index_or (all_values p) i d) (slice_get-get_or (all_values p) i d lt);
-      few_values = few_values;
-      few_blocks = few_blocks;
-    }
+    forms_at = record { slots = no_slots; values = λ i d lt. code_at i (slice_index_or (all_values p) i d) (slice_get-get_or (all_values p) i d lt) }
 
   few_procedures : length ps ≤ 256
   few_procedures =
@@ -111,13 +79,10 @@ none_odd ps have line odd =
     (λ (header : IsOddHeader odd.place p line). ⊎_elim
     (λ (no : ¬ (IsName p.name)). no (all_at (λ (q : Procedure). IsName q.name) ps odd.place p have.names odd.there))
     (λ (last : odd.place ≡ 256). omega (arith, have.few, slice_get_within ps odd.place p odd.there)) header.odd)
-    (λ (more : IsOddSlot p line ⊎ (IsOddHeading p line ⊎ IsOddValue p line)). ⊎_elim
+    (λ (more : IsOddSlot p line ⊎ IsOddValue p line). ⊎_elim
     (λ (s : IsOddSlot p line). let e : slice_get [] s.place ≡ Some s.slot = subst (λ (l : List SlotLine). slice_get l s.place ≡ Some s.slot) forms.slots s.there in cc)
-    (λ (rest : IsOddHeading p line ⊎ IsOddValue p line). ⊎_elim
-    (λ (head : IsOddHeading p line). omega (arith, forms.few_blocks, slice_get_within p.blocks 64 head.block head.there))
-    (λ (one : IsOddValue p line). ⊎_elim
-    (λ (no : ¬ (IsForm one.value)). no (all_at IsForm (all_values p) one.place one.value forms.values one.there))
-    (λ (last : one.place ≡ 256). omega (arith, forms.few_values, count_is p, slice_get_within (all_values p) one.place one.value one.there)) one.odd) rest) more) odd.part
+    (λ (one : IsOddValue p line). let good : has_code one.value.kind.opcode ≡ true = all_at HasCode (all_values p) one.place one.value forms.values one.there in
+    let odd : has_code one.value.kind.opcode ≡ false = one.odd in cc) more) odd.part
 
 -- ---- what the answer tells
 pub none_tells : (ps : List Procedure) (o : Option ℕ) → IsLeast (IsOdd ps) o → (o ≡ None) ↔ HaveForms ps

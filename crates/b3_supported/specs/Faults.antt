@@ -1,11 +1,11 @@
 -- The lines of the parts of procedures that have no form.
-use Rattle.std.specs.Prelude.{◌≡◌, ℕ, ◌≤◌, ◌⊎◌, List, Some, length, slice_get, All}
+use Rattle.std.specs.Prelude.{◌≡◌, ℕ, ◌≤◌, ◌⊎◌, false, List, Some, length, slice_get, All}
 use Rattle.b3_ir.specs.Names.{IsName}
 use Rattle.b3_ir.specs.Naming.{all_values}
-use Rattle.b3_ir.specs.Procedure.{Block, Procedure}
+use Rattle.b3_ir.specs.Procedure.{Procedure}
 use Rattle.b3_ir.specs.declared.procedure.SlotLine.{SlotLine}
 use Rattle.b3_ir.specs.declared.value.Value.{Value}
-use Rattle.b3_supported.specs.Forms.{HasForms, IsForm}
+use Rattle.b3_supported.specs.Forms.{HasForms, has_code}
 
 -- on this line stands the header of procedure k, which has no name or is the 257th
 pub record IsOddHeader (k : ℕ) (p : Procedure) (line : ℕ) : Type 0 where
@@ -19,23 +19,17 @@ pub record IsOddSlot (p : Procedure) (line : ℕ) : Type 0 where
   pub there : slice_get p.slots place ≡ Some slot
   pub on_line : slot.line ≡ line
 
--- on this line stands the heading of the 65th block
-pub record IsOddHeading (p : Procedure) (line : ℕ) : Type 0 where
-  pub block : Block
-  pub there : slice_get p.blocks 64 ≡ Some block
-  pub on_line : block.line ≡ line
-
--- on this line stands a value, counted over the blocks, that has no form or is the 257th
+-- on this line stands a value whose opcode has no code
 pub record IsOddValue (p : Procedure) (line : ℕ) : Type 0 where
   pub place : ℕ
   pub value : Value
   pub there : slice_get (all_values p) place ≡ Some value
   pub on_line : value.line ≡ line
-  pub odd : ¬ (IsForm value) ⊎ (place ≡ 256)
+  pub odd : has_code value.kind.opcode ≡ false
 
 -- on this line stands an odd part of procedure k
 abbrev pub IsOddIn : ℕ → Procedure → ℕ → Type 0
-IsOddIn k p line = IsOddHeader k p line ⊎ IsOddSlot p line ⊎ IsOddHeading p line ⊎ IsOddValue p line
+IsOddIn k p line = IsOddHeader k p line ⊎ IsOddSlot p line ⊎ IsOddValue p line
 
 -- on this line stands an odd part of one of the procedures
 pub record IsOdd (ps : List Procedure) (line : ℕ) : Type 0 where

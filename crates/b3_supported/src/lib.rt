@@ -1,4 +1,4 @@
-//! Which procedures are supported: those whose values, blocks and slots are of the forms that have code.
+//! Which procedures are supported: valid ones that have no slots, and all of whose values have code.
 #![tactic(auto)]
 
 mod faults;

@@ -1,17 +1,14 @@
 //! The least lines on which odd parts stand.
 
-ghost use Rattle.std.specs.Prelude.{◌≡◌, ◌+◌, ◌*◌, ◌<◌, ◌≤◌, length, slice_index_or};
-ghost use Rattle.b3_ir.specs.Procedure.{no_block, values_of};
+ghost use Rattle.std.specs.Prelude.{◌≡◌, ◌<◌, length};
+ghost use Rattle.b3_ir.specs.Procedure.{values_of};
 ghost use Rattle.b3_supported.specs.Lines as lines;
 
-use crate::forms::is_form;
+use crate::forms::has_code;
 use b3_ir::{Proc, Value, is_name};
 
-/// How many procedures there may be, and how many values in each.
+/// How many procedures there may be.
 const MOST: u64 = 256;
-
-/// How many blocks a procedure may have.
-const MOST_BLOCKS: usize = 64;
 
 /// The lesser of two lines, where they are there.
 pub(crate) fn lesser(a: Option<u32>, b: Option<u32>) -> Option<u32>
@@ -56,64 +53,36 @@ fn slots_line(p: &Proc) -> Option<u32>
     line
 }
 
-/// The line of a heading, where it is odd.
-fn heading_line(p: &Proc, block: usize) -> Option<u32>
+/// The line of a value, where its opcode has no code.
+fn value_line(value: &Value) -> Option<u32>
+    ensures { result ≡ lines.value_line value.now }
+{
+    unless(has_code(value.kind.opcode), value.line)
+}
+
+/// The lesser of a line and the least line of an odd value of a block.
+fn with_values(p: &Proc, block: usize, before: Option<u32>) -> Option<u32>
     requires { block < length p.now.procedure.blocks }
-    ensures { result ≡ lines.heading_line block (slice_index_or p.now.procedure.blocks block no_block) }
+    ensures { result ≡ lines.lesser before (lines.values_line (values_of p.now.procedure block)) }
 {
-    unless(block != MOST_BLOCKS, p.block(block).line)
-}
-
-/// The line of value `k`, where it is odd.
-fn value_line(value: &Value, k: u64) -> Option<u32>
-    ensures { result ≡ lines.value_line k value.now }
-{
-    unless(is_form(value) && k != MOST, value.line)
-}
-
-/// What was seen so far: how many values, and the least line of an odd part.
-#[derive(Clone, Copy)]
-struct Seen {
-    values: u64,
-    line: Option<u32>,
-}
-
-/// The same with the values of a block.
-fn with_values(p: &Proc, block: usize, before: Seen) -> Seen
-    requires there { block < length p.now.procedure.blocks }
-    // No block has more than 2^32 values.
-    requires small { before.values ≤ 4294967296 * block }
-    ensures values { result.values ≡ before.values + length (values_of p.now.procedure block) }
-    ensures line { result.line ≡ lines.lesser before.line
-        (lines.values_line before.values (values_of p.now.procedure block)) }
-{
-    p.whole();
-    let mut values = before.values;
-    let mut line = before.line;
+    let mut line = before;
     let mut at = p.first(block);
     while let Some(node) = at {
-        line = lesser(line, value_line(p.value(node), values));
-        values += 1;
+        line = lesser(line, value_line(p.value(node)));
         at = p.next(node);
     }
-    Seen { values, line }
+    line
 }
 
-/// The least line of an odd heading or value.
+/// The least line of an odd value.
 fn blocks_line(p: &Proc) -> Option<u32>
-    ensures { result ≡ lines.blocks_line 0 0 p.now.procedure.blocks }
+    ensures { result ≡ lines.blocks_line p.now.procedure.blocks }
 {
-    p.whole();
-    let mut seen = Seen {
-        values: 0,
-        line: None,
-    };
+    let mut line = None;
     for block in 0..p.blocks() {
-        let line = lesser(seen.line, heading_line(p, block));
-        let values = seen.values;
-        seen = with_values(p, block, Seen { values, line });
+        line = with_values(p, block, line);
     }
-    seen.line
+    line
 }
 
 /// The least line of an odd part of procedure `k`.

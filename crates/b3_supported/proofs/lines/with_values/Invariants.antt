@@ -1,4 +1,4 @@
-use Rattle.std.proofs.Common.{◌≡◌, ◌+◌, length, IfSome}
+use Rattle.std.proofs.Common.{◌≡◌, length, IfSome}
 use Rattle.b3_ir.specs.Procedure.{IsIn, values_from, values_of}
 use Rattle.b3_supported.specs.Lines.{lesser, values_line}
 use Rattle.b3_supported.proofs.lines.with_values.Given as goal
@@ -6,8 +6,7 @@ use Rattle.b3_supported.proofs.lines.with_values.Given as goal
 abbrev pub invariant-loop-at : goal.invariant-loop-at
 invariant-loop-at l = record {
   there : IfSome l.at (λ node. IsIn l.p node l.block);
-  count : l.values + length (values_from l.p l.block l.at) ≡ l.fn.before.values + length (values_of l.p.procedure l.block);
-  same : lesser l.line (values_line l.values (values_from l.p l.block l.at)) ≡ lesser l.fn.before.line (values_line l.fn.before.values (values_of l.p.procedure l.block));
+  same : lesser l.line (values_line (values_from l.p l.block l.at)) ≡ lesser l.fn.before (values_line (values_of l.p.procedure l.block));
 }
 
 abbrev pub decreases-loop-at : goal.decreases-loop-at
