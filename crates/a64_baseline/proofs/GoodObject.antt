@@ -1,7 +1,8 @@
 -- The object of procedures is good, and is their code.
 use Rattle.std.proofs.Common.{◌≡◌, ◌≢◌, ℕ, Some, subst, suc, ◌+◌, ◌*◌, ◌^◌, ◌<◌, ◌≤◌, List, [], ◌∷◌, length, refl, sym, ap, ◌∙◌, arith, length-append}
-use Rattle.std.specs.Prelude.{All, AllPairs, map, slice_get, sum_by}
+use Rattle.std.specs.Prelude.{All, AllPairs, map, slice_get, slice_index_or, sum_by}
 use Rattle.std.specs.List.{flat_map}
+use Rattle.std.specs.Option.{option_map}
 use Rattle.std.proofs.lemmas.List.Elements.{All-cons, All-get_or, All-head, All-map, All-nil, All-tail, All-weaker}
 use Rattle.std.proofs.lemmas.List.{length-map}
 use Rattle.std.proofs.lemmas.List.Concat.{length-flat_map}
@@ -11,7 +12,7 @@ use Rattle.b3_ir.specs.Names.{IsName}
 use Rattle.b3_ir.specs.Procedure.{Procedure, values_by_block}
 use Rattle.b3_meaning.specs.Keeps.{Keeps}
 use Rattle.b3_meaning.proofs.Keeping.{keeps_itself}
-use Rattle.b3_supported.specs.Supported.{AreSupported, IsSupported}
+use Rattle.b3_supported.specs.Supported.{AreSupported, IsSupported, names_of as procedure_names}
 use Rattle.exit_table.specs.Good.{IsGoodFrame}
 use Rattle.exit_table.specs.declared.tables.FrameRow.{FrameRow}
 use Rattle.exit_table.specs.declared.tables.SiteRow.{SiteRow}
@@ -149,5 +150,17 @@ each_code ps all k p q symbol frame there also its own =
       sites = λ j row listed within. absurd (nothing_listed j row listed);
     }
 
-pub object_is_code : (ps : List Procedure) → IsValid ps → AreSupported ps → All (λ w. w < 2 ^ 32) (flat_map words_of ps) → IsCodeOf ps ps (object_of ps)
-object_is_code ps valid all narrow = record { valid = valid; good = object_good ps all narrow; names = their_names 0 ps; count = refl; each = each_code ps all }
+-- supported procedures are those of a valid module
+all_valid : (ps : List Procedure) → AreSupported ps → IsValid ps
+all_valid ps all = record {
+  names = λ k p there j q also less same. all.distinct j k [] less (subst (λ n. k < n) (sym (length-map ps (λ (r : Procedure). r.name))) (slice_get_within ps k p there))
+      (its_name j q also ∙ same ∙ sym (its_name k p there));
+  each = λ k p there. (one_of ps k p all.each there).valid;
+}
+  where
+    its_name : (k : ℕ) (p : Procedure) → slice_get ps k ≡ Some p → slice_index_or (procedure_names ps) k [] ≡ p.name
+    its_name k p there =
+        get_or_from_slice_get (procedure_names ps) k p.name [] (slice_get-map (λ (q : Procedure). q.name) ps k ∙ ap (option_map (λ (q : Procedure). q.name)) there)
+
+pub object_is_code : (ps : List Procedure) → AreSupported ps → All (λ w. w < 2 ^ 32) (flat_map words_of ps) → IsCodeOf ps ps (object_of ps)
+object_is_code ps all narrow = record { valid = all_valid ps all; good = object_good ps all narrow; names = their_names 0 ps; count = refl; each = each_code ps all }

@@ -4,7 +4,6 @@ ghost use Rattle.std.specs.Prelude.{◌≡◌, ◌+◌, ◌*◌, ◌<◌, ◌≤
 ghost use Rattle.a64_inst.specs.WellFormed.{IsWellFormed};
 ghost use Rattle.a64_word.specs.Word.{word};
 ghost use Rattle.b3_ir.specs.Procedure.{procedures};
-ghost use Rattle.b3_rules.specs.Valid.{IsValid};
 ghost use Rattle.b3_supported.specs.Supported.{AreSupported, IsSupported};
 ghost use Rattle.a64_run.specs.CodeOf.{IsCodeOf};
 ghost use Rattle.elf_obj.specs.Size.{size_bound};
@@ -25,7 +24,7 @@ use std::alloc::Global;
 /// most 134,217,728 bytes. It is refused for want of memory alone.
 pub fn module_object(alloc: Global, module_: &Module) -> Result<Object, NoMemory>
     requires { AreSupported (procedures module_.now) }
-    ensures code { IsValid (procedures module_.now) → IfOk result (IsCodeOf (procedures module_.now) (procedures module_.now)) }
+    ensures code { IfOk result (IsCodeOf (procedures module_.now) (procedures module_.now)) }
     ensures small { IfOk result (λ o. size_bound o ≤ 134217728) }
 {
     joined_object(alloc, module_)

@@ -118,8 +118,7 @@ pub(crate) struct Made {
 
 /// The object of a module, and its file. It is refused for want of memory alone.
 pub(crate) fn module_file(alloc: Global, module_: &Module) -> Result<Made, NoMemory>
-    requires valid { IsValid (procedures module_.now) }
-    requires supported { AreSupported (procedures module_.now) }
+    requires { AreSupported (procedures module_.now) }
     ensures { IfOk result (λ made. IsFileWith (procedures module_.now) made.object made.file) }
 {
     let object = module_object(alloc, module_)?;

@@ -15,10 +15,10 @@ is_meant : (c : goal.After-joined_object) → IfOk c.joined_object.result (λ o.
 is_meant c = grind (arith, c.joined_object.ensures.object, c.joined_object.ensures.narrow)
 
 pub returns-clause-code : goal.returns-clause-code
-returns-clause-code c = λ valid.
+returns-clause-code c =
     let ps = procedures c.args.module_.now in
     IfOk-weaker c.joined_object.result (λ o. (o ≡ object_of ps) × All (λ word. word < 2 ^ 32) o.text) (IsCodeOf ps ps)
-    (λ o h. subst (IsCodeOf ps ps) (sym h.0) (object_is_code ps valid c.requires (subst (λ (x : Object). All (λ word. word < 2 ^ 32) x.text) h.0 h.1))) (is_meant c)
+    (λ o h. subst (IsCodeOf ps ps) (sym h.0) (object_is_code ps c.requires (subst (λ (x : Object). All (λ word. word < 2 ^ 32) x.text) h.0 h.1))) (is_meant c)
 
 pub returns-clause-small : goal.returns-clause-small
 returns-clause-small c =
