@@ -48,8 +48,8 @@ pub has_input : (call : Call) (command : Command) (input : List ℕ) → reads_i
     → length input ≤ limit_of command → HasReadInput (reads_input command) (limit_of command) call input
 has_input call command input reads whole small = subst (λ b. HasReadInput b (limit_of command) call input) (sym reads) (whole, small)
 
-pub no_input : (call : Call) (command : Command) → reads_input command ≡ false → HasReadInput (reads_input command) (limit_of command) call []
-no_input call command reads = subst (λ b. HasReadInput b (limit_of command) call []) (sym reads) refl
+pub no_input : (call : Call) (command : Command) (input : List ℕ) → reads_input command ≡ false → input ≡ [] → HasReadInput (reads_input command) (limit_of command) call input
+no_input call command input reads none = subst (λ b. HasReadInput b (limit_of command) call input) (sym reads) none
 
 -- a command that reads no input takes no trial
 pub no_trial_either : (call : Call) (command : Command) → reads_input command ≡ false → HasReadTrial (takes_trial command) call []

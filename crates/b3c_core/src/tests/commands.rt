@@ -22,7 +22,19 @@ fn an_object_is_written(rt: HostRuntime) -> Result<(), Fail> {
 
 #[test]
 fn words_that_name_no_command_are_refused(rt: HostRuntime) -> Result<(), Fail> {
-    for line in ["", "frob", "compile x", "eval", "run x y", "gen 0"] {
+    for line in [
+        "",
+        "frob",
+        "compile x",
+        "eval",
+        "run x y",
+        "gen",
+        "gen x",
+        "gen +1",
+        "gen 1 2",
+        "gen 4294967296",
+        "gen 00000000001",
+    ] {
         let mut words = Seq::new(rt.alloc());
         for word in line.split_whitespace() {
             words.push(word)?;
@@ -30,6 +42,22 @@ fn words_that_name_no_command_are_refused(rt: HostRuntime) -> Result<(), Fail> {
         let called = call(rt.alloc(), words.as_slice(), ADD_ONE.as_bytes(), "")?;
         assert_eq!(rt; called.status, 2);
         assert_eq!(rt; called.err.bytes(), b"b3c: usage\n".as_slice());
+        assert_eq!(rt; called.out.bytes(), b"".as_slice());
+    }
+    Ok(())
+}
+
+#[test]
+fn a_generated_text_is_made_and_compiled(rt: HostRuntime) -> Result<(), Fail> {
+    // The first value without code: a BitXor, a BitAnd, and a Mul.
+    for (number, line) in [
+        ("0", "b3c: line 19: not built\n"),
+        ("0000000001", "b3c: line 18: not built\n"),
+        ("4294967295", "b3c: line 20: not built\n"),
+    ] {
+        let called = call(rt.alloc(), &["gen", number], b"no text", "no trial")?;
+        assert_eq!(rt; called.status, 10);
+        assert_eq!(rt; called.err.bytes(), line.as_bytes());
         assert_eq!(rt; called.out.bytes(), b"".as_slice());
     }
     Ok(())

@@ -14,3 +14,7 @@ returns-in-Ok-print-clause-output c =
 pub returns-in-Ok-run_file-clause-output : goal.returns-in-Ok-run_file-clause-output
 returns-in-Ok-run_file-clause-output c =
     subst (λ (command : Command). output_of command c.args.bytes.now c.args.trial.now c.in-Ok-run_file.shown) (sym c.in-Run.is) c.in-Ok-run_file.ensures.run
+
+pub returns-in-Ok-generate_object-clause-output : goal.returns-in-Ok-generate_object-clause-output
+returns-in-Ok-generate_object-clause-output c =
+    subst (λ (command : Command). output_of command c.args.bytes.now c.args.trial.now c.in-Ok-generate_object.summary) (sym c.in-Gen.is) c.in-Ok-generate_object.ensures.summary

@@ -1,6 +1,6 @@
 use Rattle.std.proofs.Common.{◌≡◌, [], true, false, refl, sym, subst, ◌∙◌, arith, rules}
-use Rattle.b3c_core.specs.Tool.{Call, HasReadTrial, takes_trial}
-use Rattle.b3c_core.proofs.Endings.{ended_after}
+use Rattle.b3c_core.specs.Tool.{Call, HasReadTrial, reads_input, takes_trial}
+use Rattle.b3c_core.proofs.Endings.{ended_after, has_input, no_input, no_trial_either}
 use Rattle.b3c_core.proofs.tool.run_words.Goals as goal
 
 pub returns-then-not-takes_trial-clause-ended : goal.returns-then-not-takes_trial-clause-ended
@@ -16,15 +16,16 @@ returns-then-not-takes_trial-clause-ended g c =
       trial_faults = g.T.Source.faults c.args.trial.now;
       trial_faults' = g.T.Source.faults c.args.trial.now;
       held = g.K.Sink.held c.args.out.now;
-      held' = g.K.Sink.held c.answer_to.new.out;
+      held' = g.K.Sink.held c.answer_to-then-not-takes_trial.new.out;
       output_faults = g.K.Sink.faults c.args.out.now;
-      output_faults' = g.K.Sink.faults c.answer_to.new.out;
+      output_faults' = g.K.Sink.faults c.answer_to-then-not-takes_trial.new.out;
     } in
     let flag : takes_trial c.in-Some.command ≡ false = search rules in
-    ended_after call c.answer_to-2.result c.in-Some.command c.in-Ok.bytes [] (sym c.command_of.ensures ∙ c.in-Some.is)
+    let reads : reads_input c.in-Some.command ≡ true = search rules in
+    ended_after call c.answer_to-then-not-takes_trial.result c.in-Some.command c.in-Ok.bytes [] (sym c.command_of.ensures ∙ c.in-Some.is)
     (has_input call c.in-Some.command c.in-Ok.bytes reads (record { all = c.in-Ok.ensures.all; end = c.in-Ok.ensures.end }) (omega (arith, c.in-Ok.ensures.bound, c.limit.ensures)))
     (subst (λ takes. HasReadTrial takes call []) (sym flag) refl)
-    (c.answer_to.ensures.answered call refl refl refl refl)
+    (c.answer_to-then-not-takes_trial.ensures.answered call refl refl refl refl)
 
 pub returns-in-Ok-read_all-clause-ended : goal.returns-in-Ok-read_all-clause-ended
 returns-in-Ok-read_all-clause-ended g c =
@@ -44,8 +45,31 @@ returns-in-Ok-read_all-clause-ended g c =
       output_faults' = g.K.Sink.faults c.answer_to-in-Ok-read_all.new.out;
     } in
     let flag : takes_trial c.in-Some.command ≡ true = search rules in
-    ended_after call c.answer_to-in-Ok-read_all.result c.in-Some.command c.in-Ok.bytes c.as_slice.result.now (sym c.command_of.ensures ∙ c.in-Some.is) (record { all = c.in-Ok.ensures.all; end = c.in-Ok.ensures.end })
-    (omega (arith, c.in-Ok.ensures.bound, c.limit.ensures))
+    let reads : reads_input c.in-Some.command ≡ true = search rules in
+    ended_after call c.answer_to-in-Ok-read_all.result c.in-Some.command c.in-Ok.bytes c.as_slice.result.now (sym c.command_of.ensures ∙ c.in-Some.is)
+    (has_input call c.in-Some.command c.in-Ok.bytes reads (record { all = c.in-Ok.ensures.all; end = c.in-Ok.ensures.end }) (omega (arith, c.in-Ok.ensures.bound, c.limit.ensures)))
     (subst (λ takes. HasReadTrial takes call c.as_slice.result.now) (sym flag)
     (subst (HasReadTrial true call) (sym c.as_slice.ensures) (record { all = c.in-Ok-read_all.ensures.all; end = c.in-Ok-read_all.ensures.end }, c.in-Ok-read_all.ensures.bound)))
     (c.answer_to-in-Ok-read_all.ensures.answered call refl refl refl refl)
+
+pub returns-then-not-reads_input-clause-ended : goal.returns-then-not-reads_input-clause-ended
+returns-then-not-reads_input-clause-ended g c =
+    let call : Call = record {
+      words = c.args.words.now;
+      left = g.S.Source.left c.args.input.now;
+      left' = g.S.Source.left c.args.input.now;
+      input_faults = g.S.Source.faults c.args.input.now;
+      input_faults' = g.S.Source.faults c.args.input.now;
+      trial_left = g.T.Source.left c.args.trial.now;
+      trial_left' = g.T.Source.left c.args.trial.now;
+      trial_faults = g.T.Source.faults c.args.trial.now;
+      trial_faults' = g.T.Source.faults c.args.trial.now;
+      held = g.K.Sink.held c.args.out.now;
+      held' = g.K.Sink.held c.answer_to-then-not-reads_input.new.out;
+      output_faults = g.K.Sink.faults c.args.out.now;
+      output_faults' = g.K.Sink.faults c.answer_to-then-not-reads_input.new.out;
+    } in
+    let reads : reads_input c.in-Some.command ≡ false = search rules in
+    ended_after call c.answer_to-then-not-reads_input.result c.in-Some.command c.new.result [] (sym c.command_of.ensures ∙ c.in-Some.is)
+    (no_input call c.in-Some.command c.new.result reads c.new.ensures) (no_trial_either call c.in-Some.command reads)
+    (c.answer_to-then-not-reads_input.ensures.answered call refl refl refl refl)
