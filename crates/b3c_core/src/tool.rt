@@ -67,9 +67,8 @@ pub fn run_tool<S: Source, T: Source, K: Sink, E: Sink>(
     ensures nothing_written { result ≢ 0 → result ≢ 4 → out.new ≡ out.old }
 
     // A text within the limits is printed; it is compiled where it is valid and all of it is supported, and evaluated
-    // where the trial may begin in each of its objects; a good object is run where the trial may begin in it; the text
-    // that is made from a number is compiled where it is valid and all of it is supported: unless memory is wanted,
-    // where nothing failed.
+    // where the trial may begin in each of its objects; a good object is run where the trial may begin in it; and the
+    // text that is made from a number is compiled: unless memory is wanted, where nothing failed.
     ensures compiles { spec.command_of words.now ≡ Some Command.Compile
         → (Rose (S.faults input.old) (S.faults input.new) → ⊥) → (Rose (K.faults out.old) (K.faults out.new) → ⊥)
         → (procedures : List Procedure) (text : List ℕ) → S.left input.old ≡ Some text → IsTextOf text procedures → IsValid procedures
