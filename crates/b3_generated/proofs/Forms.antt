@@ -1,5 +1,5 @@
 -- The values of a made procedure by their ids, 0 to 516, whatever their lines.
-use Rattle.std.proofs.Common.{◌≡◌, ◌≢◌, ℕ, zero, suc, ◌+◌, ◌*◌, ◌/◌, ◌%◌, ◌-◌, ◌^◌, ◌<◌, ◌≤◌, ◌⊎◌, inl, inr, Bool, true, false, List, [], ◌∷◌, ◌++◌, Some, None, length, refl, sym, ap, ◌∙◌, subst, arith, nat_eq, nat_lt, if◌then◌else◌}
+use Rattle.std.proofs.Common.{◌≡◌, ℕ, zero, suc, ◌+◌, ◌%◌, ◌-◌, ◌^◌, ◌<◌, ◌≤◌, ◌⊎◌, inl, inr, Bool, true, false, List, [], ◌∷◌, ◌++◌, Some, length, refl, sym, ap, ◌∙◌, subst, arith, nat_eq, nat_lt, if◌then◌else◌}
 use Rattle.std.specs.Prelude.{slice_get}
 use Rattle.std.proofs.lemmas.Bool.{eq-eqb}
 use Rattle.std.proofs.lemmas.Bool.Decides.{nat_tests}
@@ -9,7 +9,7 @@ use Rattle.b3_ir.specs.declared.opcode.Opcode.TheVariants as op
 use Rattle.b3_ir.specs.declared.value.Value.{Value}
 use Rattle.b3_module.specs.Canonical.{lined_values, rows_of_value}
 use Rattle.b3_trial.specs.Generated.{child_before, drawn, next_state, opcode_of, state_behind}
-use Rattle.b3_generated.specs.Made.{argument, arguments, branch, constant, entry, jump, less, loop_values, operation, operations, phi, return_value, upsilon, value_on}
+use Rattle.b3_generated.specs.Made.{argument, arguments, branch, constant, entry, jump, less, loop_values, operation, operations, phi, return_value, upsilon}
 
 -- an id below another whose value has a word: all but the two at the end of block 0
 abbrev pub IsWordBelow : ℕ → ℕ → Type 0
@@ -144,7 +144,7 @@ unfolding operations
 operations_formed zero state i line low high = tt
 operations_formed (suc count) state i line low high = (
   IsOperation line (drawn state % 6) (child_before i (drawn (next_state state))) (child_before i (drawn (next_state (next_state state))))
-  low (omega arith) (child_formed i (drawn (next_state state)) low) (child_formed i (drawn (next_state (next_state state))) low) refl,
+      low (omega arith) (child_formed i (drawn (next_state state)) low) (child_formed i (drawn (next_state (next_state state))) low) refl,
   operations_formed count (state_behind 3 state) (i + 1) (line + 1) (omega arith) (omega arith),
 )
 
@@ -164,19 +164,23 @@ entry_formed line word small =
     let cut = lined_both line (arguments 8 0) rest in
     let counted : 8 ≡ 0 + length (lined_values line (arguments 8 0)) = omega (arith, lined_length line (arguments 8 0), arguments_count 8 0) in
     subst (AllForms 0) (sym cut.1)
-    (forms_both 0 8 (lined_values line (arguments 8 0)) (lined_values cut.0 rest) (arguments_formed 8 0 line (omega arith)) counted
-    (IsConstant cut.0 1 (omega arith) (omega arith) (omega arith) refl,
-    (IsConstant (cut.0 + 1) word (omega arith) (omega arith) small refl,
-    (IsFirst (cut.0 + 1 + 1) refl refl, (IsJump (cut.0 + 1 + 1 + 1) refl refl, tt)))))
+    (forms_both 0 8 (lined_values line (arguments 8 0)) (lined_values cut.0 rest) (arguments_formed 8 0 line (omega arith)) counted (
+      IsConstant cut.0 1 (omega arith) (omega arith) (omega arith) refl,
+      (
+        IsConstant (cut.0 + 1) word (omega arith) (omega arith) small refl,
+        (IsFirst (cut.0 + 1 + 1) refl refl, (IsJump (cut.0 + 1 + 1 + 1) refl refl, tt)),
+      ),
+    ))
 
 pub loop_formed : (line state : ℕ) → AllForms 12 (lined_values line (loop_values state))
 loop_formed line state =
     let rest : List Value = upsilon 0 513 512 ∷ less 0 ∷ branch 0 ∷ [] in
     let cut = lined_both (line + 1) (operations 500 state 13) rest in
     let counted : 513 ≡ 13 + length (lined_values (line + 1) (operations 500 state 13)) =
-    omega (arith, lined_length (line + 1) (operations 500 state 13), operations_count 500 state 13) in
-    (IsPhi line refl refl,
-    subst (AllForms 13) (sym cut.1)
-    (forms_both 13 513 (lined_values (line + 1) (operations 500 state 13)) (lined_values cut.0 rest)
-    (operations_formed 500 state 13 (line + 1) (omega arith) (omega arith)) counted
-    (IsNext cut.0 refl refl, (IsLess (cut.0 + 1) refl refl, (IsBranch (cut.0 + 1 + 1) refl refl, tt)))))
+    omega (arith, lined_length (line + 1) (operations 500 state 13), operations_count 500 state 13) in (
+      IsPhi line refl refl,
+      subst (AllForms 13) (sym cut.1)
+          (forms_both 13 513 (lined_values (line + 1) (operations 500 state 13)) (lined_values cut.0 rest)
+          (operations_formed 500 state 13 (line + 1) (omega arith) (omega arith)) counted
+          (IsNext cut.0 refl refl, (IsLess (cut.0 + 1) refl refl, (IsBranch (cut.0 + 1 + 1) refl refl, tt)))),
+    )

@@ -1,5 +1,5 @@
 -- The made module is valid, within the limits and supported, and the generated text spells it.
-use Rattle.std.proofs.Common.{◌≡◌, ◌≢◌, ℕ, zero, suc, ◌+◌, ◌*◌, ◌^◌, ◌<◌, ◌≤◌, true, List, [], ◌∷◌, ◌++◌, Some, length, refl, sym, ap, ◌∙◌, subst, arith}
+use Rattle.std.proofs.Common.{◌≡◌, ℕ, zero, suc, ◌+◌, ◌<◌, ◌≤◌, List, [], ◌∷◌, ◌++◌, Some, length, refl, sym, ap, ◌∙◌, subst, arith}
 use Rattle.std.specs.Prelude.{All, codes, slice_get, slice_index_or}
 use Rattle.std.specs.Fmt.{decimal}
 use Rattle.std.specs.List.{AllByRecursion}
@@ -15,19 +15,18 @@ use Rattle.b3_ir.specs.declared.opcode.Ty.TheVariants.{Int64}
 use Rattle.b3_ir.specs.declared.value.Body.TheVariants.{Plain}
 use Rattle.b3_ir.specs.declared.value.Value.{Value}
 use Rattle.b3_module.specs.Canonical.{lined, lined_procedure, lined_values, rows_of_block, rows_of_procedure}
-use Rattle.b3_module.specs.Limits.{KeepsLimits, operands}
+use Rattle.b3_module.specs.Limits.{operands}
 use Rattle.b3_module.specs.TextModules.{IsTextModule, IsTextProcedure}
 use Rattle.b3_module.specs.Texts.{Spells}
 use Rattle.b3_print.specs.Printed.{canonical}
 use Rattle.b3_rules.specs.Valid.{IsValid, IsValidProcedure}
 use Rattle.b3_supported.specs.Faults.{HaveForms}
 use Rattle.b3_supported.specs.Forms.{HasCode, HasForms}
-use Rattle.b3_supported.specs.Supported.{AreSupported}
 use Rattle.b3_supported.proofs.Telling.{supported}
-use Rattle.b3_trial.specs.Generated.{drawn, generated, next_state, state_behind}
+use Rattle.b3_trial.specs.Generated.{drawn, next_state, state_behind}
 use Rattle.b3_generated.specs.Laws.{IsGoodText}
 use Rattle.b3_generated.specs.Made.{arguments, block_of, branch, constant, entry, jump, less, loop_values, module_of, operations, procedure_of, procedures_from, return_value, upsilon, value_on}
-use Rattle.b3_generated.proofs.Forms.{AllForms, Cases, Form, IsReturn, arguments_count, by_form, by_opcode, drawn_small, entry_formed, lined_length, loop_formed, operations_count}
+use Rattle.b3_generated.proofs.Forms.{AllForms, Form, IsReturn, arguments_count, by_form, by_opcode, drawn_small, entry_formed, lined_length, loop_formed, operations_count}
 use Rattle.b3_generated.proofs.Limits.{HasParts, keeps_limits, three_count, three_inner}
 use Rattle.b3_generated.proofs.Names.{name_good, name_tells}
 use Rattle.b3_generated.proofs.Texts.{generated_is_canonical, procedure_listed}

@@ -1,5 +1,5 @@
 -- The made module keeps the limits: its parts are few.
-use Rattle.std.proofs.Common.{◌≡◌, ℕ, zero, suc, ◌+◌, ◌*◌, ◌<◌, ◌≤◌, Bool, true, false, List, [], ◌∷◌, ◌++◌, Some, length, refl, sym, ap, ◌∙◌, subst, arith, nat_le, if◌then◌else◌}
+use Rattle.std.proofs.Common.{◌≡◌, ℕ, suc, ◌+◌, ◌*◌, ◌≤◌, Bool, true, false, List, [], ◌∷◌, ◌++◌, Some, length, refl, sym, ap, subst, arith, nat_le, if◌then◌else◌}
 use Rattle.std.specs.Prelude.{All, map, slice_get, sum_by}
 use Rattle.std.specs.List.{flat_map}
 use Rattle.std.proofs.lemmas.List.{length-append, length-map}
@@ -8,7 +8,7 @@ use Rattle.std.proofs.lemmas.List.Elements.{All-cons, All-nil, All-weaker}
 use Rattle.std.proofs.lemmas.List.Sums.{sum_by-append, sum_by-cons, sum_by-le}
 use Rattle.b3_ir.specs.Procedure.{Block, Procedure}
 use Rattle.b3_ir.specs.declared.value.Value.{Value}
-use Rattle.b3_module.specs.Limits.{Computed, Header, Heading, KeepsLimits, Part, Passes, Placed, Slot, counted, most, operands, part_of_slot, part_of_value, parts_of, parts_of_block, parts_of_values, placed, up_to}
+use Rattle.b3_module.specs.Limits.{Computed, Header, Heading, KeepsLimits, Part, Placed, Slot, counted, most, operands, part_of_slot, part_of_value, parts_of, parts_of_block, parts_of_values, placed, up_to}
 use Rattle.b3_module.specs.declared.fault.LimitName.{LimitName}
 use Rattle.b3_module.specs.declared.fault.LimitName.TheVariants as limits
 
@@ -134,5 +134,12 @@ three_inner a b c x y z =
     (parts_both (parts_of_block b) (parts_of_block c ++ []) (block_inner b y) (parts_both (parts_of_block c) [] (block_inner c z) (All-nil _)))
 
 pub three_count : (a b c : Block) → length (flat_map parts_of_block (a ∷ b ∷ c ∷ [])) ≡ 3 + length a.values + length b.values + length c.values
-three_count a b c = omega (arith, length-append (parts_of_block a) (parts_of_block b ++ (parts_of_block c ++ [])), length-append (parts_of_block b) (parts_of_block c ++ []),
-    length-append (parts_of_block c) [], length-map a.values part_of_value, length-map b.values part_of_value, length-map c.values part_of_value)
+three_count a b c = omega (
+  arith,
+  length-append (parts_of_block a) (parts_of_block b ++ (parts_of_block c ++ [])),
+  length-append (parts_of_block b) (parts_of_block c ++ []),
+  length-append (parts_of_block c) [],
+  length-map a.values part_of_value,
+  length-map b.values part_of_value,
+  length-map c.values part_of_value,
+)

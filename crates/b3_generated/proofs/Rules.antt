@@ -1,25 +1,19 @@
 -- A made procedure keeps each rule.
-use Rattle.std.proofs.Common.{◌≡◌, ◌≢◌, ℕ, zero, suc, ◌+◌, ◌-◌, ◌^◌, ◌<◌, ◌≤◌, ◌⊎◌, inl, inr, true, false, List, [], ◌∷◌, ◌++◌, Option, Some, None, length, refl, sym, ap, ◌∙◌, subst, arith, take, ⊎_elim}
+use Rattle.std.proofs.Common.{◌≡◌, ◌≢◌, ℕ, zero, suc, ◌<◌, ◌≤◌, ◌⊎◌, inl, inr, true, List, [], ◌∷◌, Option, Some, refl, sym, ap, subst, arith, take, ⊎_elim}
 use Rattle.std.specs.Prelude.{All, Contains, slice_get}
-use Rattle.std.proofs.lemmas.Bool.{cases_lt}
 use Rattle.std.proofs.lemmas.List.Elements.{All-cons, All-nil}
 use Rattle.std.proofs.lemmas.Option.{get_or_from_slice_get, slice_get_within}
-use Rattle.b3_ir.specs.Naming.{all_values, type_of, value_named}
-use Rattle.b3_ir.specs.Procedure.{Block, Procedure, StandsAt, values_of}
 use Rattle.b3_ir.specs.Table.{is_terminal}
-use Rattle.b3_ir.specs.Types.{allows_types}
 use Rattle.b3_ir.specs.declared.opcode.Opcode.{Opcode}
 use Rattle.b3_ir.specs.declared.opcode.Opcode.TheVariants as op
 use Rattle.b3_ir.specs.declared.opcode.Ty.{Ty}
-use Rattle.b3_ir.specs.declared.opcode.Ty.TheVariants.{Int32, Int64, Void}
+use Rattle.b3_ir.specs.declared.opcode.Ty.TheVariants.{Int64}
 use Rattle.b3_ir.specs.declared.value.Stackmap.{Stackmap}
 use Rattle.b3_ir.specs.declared.value.Value.{Value}
 use Rattle.stackmap.specs.Registers.{stackmap_in}
-use Rattle.b3_rules.specs.Paths.{IsCoveredAt, IsPath, IsSuccessor, successors_in}
-use Rattle.b3_rules.specs.Rules.{AreCasesOf, CoversUses, HasNewId, HasSizes, IsArgumentAt, IsArgumentIn, IsBlockNumber, IsEarlier, IsId, IsLast, IsTyped, KnowsBlocks, KnowsIds, KnowsSlot, NamesId, ReturnsAlike, SuitsPhi, first_return, first_type, if_return, types_of}
-use Rattle.b3_trial.specs.Generated.{opcode_of}
-use Rattle.b3_generated.proofs.Forms.{AllForms, Cases, Form, IsWordBelow, by_form, by_opcode, id_of}
-use Rattle.b3_generated.proofs.Values.{IsMade, Named, below_limit, count_of, few_blocks, form_of, less_typed, limit, limit_start, made, start, stands, value_at, word_typed}
+use Rattle.b3_rules.specs.Paths.{successors_in}
+use Rattle.b3_rules.specs.Rules.{AreCasesOf, HasSizes, IsArgumentIn, first_return, if_return}
+use Rattle.b3_generated.proofs.Forms.{Form, by_form, by_opcode}
 
 pub contains_at : {X : Type 0} (xs : List X) (k : ℕ) (x : X) → slice_get xs k ≡ Some x → Contains xs x
 contains_at xs k x there = (k, slice_get_within xs k x there, get_or_from_slice_get xs k x x there)

@@ -1,26 +1,24 @@
 -- The generated text is the canonical text of the made module, which is one that a text can spell.
-use Rattle.std.proofs.Common.{◌≡◌, ◌≢◌, ℕ, zero, suc, ◌+◌, ◌*◌, ◌-◌, ◌/◌, ◌%◌, ◌^◌, ◌<◌, ◌≤◌, inl, inr, true, false, List, [], ◌∷◌, ◌++◌, length, refl, sym, ap, ◌∙◌, subst, arith, append_assoc, lit<, lit≤}
+use Rattle.std.proofs.Common.{◌≡◌, ℕ, zero, suc, ◌+◌, ◌%◌, ◌^◌, ◌<◌, ◌≤◌, List, [], ◌∷◌, ◌++◌, refl, sym, ap, ◌∙◌, arith, append_assoc}
 use Rattle.std.specs.Prelude.{All, codes}
 use Rattle.std.specs.Fmt.{decimal}
 use Rattle.std.specs.List.{AllByRecursion, flat_map}
 use Rattle.std.proofs.lemmas.List.Elements.{All-cons, All-nil}
 use Rattle.b3_ir.specs.Names.{IsName}
-use Rattle.b3_ir.specs.Procedure.{Block, Procedure}
 use Rattle.b3_ir.specs.declared.opcode.Opcode.{Opcode}
 use Rattle.b3_ir.specs.declared.opcode.Opcode.TheVariants as op
 use Rattle.b3_ir.specs.declared.opcode.Ty.TheVariants.{Int64}
 use Rattle.b3_ir.specs.declared.value.Body.TheVariants.{Plain}
 use Rattle.b3_ir.specs.declared.value.Value.{Value}
-use Rattle.b3_rows.specs.Listed.{IsListedValue, IsNumber}
-use Rattle.b3_rows.specs.Written.{line_of_row}
+use Rattle.b3_rows.specs.Listed.{IsNumber}
 use Rattle.b3_rows.specs.declared.row.Row.{Row}
 use Rattle.b3_rows.specs.declared.row.Row.TheVariants.{Header, Heading}
-use Rattle.b3_module.specs.Canonical.{canonical_rows, rows_of_block, rows_of_procedure, rows_of_value}
-use Rattle.b3_module.specs.TextModules.{IsBegunProcedure, IsTextBlock, IsTextModule, IsTextProcedure, IsTextValue}
+use Rattle.b3_module.specs.Canonical.{canonical_rows, rows_of_procedure, rows_of_value}
+use Rattle.b3_module.specs.TextModules.{IsTextProcedure, IsTextValue}
 use Rattle.b3_print.specs.Printed.{canonical, line_text, text_of}
 use Rattle.b3_trial.specs.Generated as generated
 use Rattle.b3_trial.specs.Generated.{child_before, drawn, next_state, opcode_of, state_behind}
-use Rattle.b3_generated.specs.Made.{argument, arguments, block_of, branch, constant, entry, jump, less, loop_values, module_of, operation, operations, phi, procedure_of, procedures_from, return_value, upsilon, value_on}
+use Rattle.b3_generated.specs.Made.{argument, arguments, branch, constant, entry, jump, less, loop_values, module_of, operation, operations, phi, procedure_of, procedures_from, return_value, upsilon, value_on}
 use Rattle.b3_generated.proofs.Forms.{IsWordBelow, by_opcode, child_formed, drawn_small}
 
 -- ---- the same text
@@ -199,20 +197,27 @@ unfolding operations
 operations_listed zero state i low high = tt
 operations_listed (suc count) state i low high = (
   operation_listed i (drawn state % 6) (child_before i (drawn (next_state state))) (child_before i (drawn (next_state (next_state state))))
-  (omega arith) (child_formed i (drawn (next_state state)) low) (child_formed i (drawn (next_state (next_state state))) low),
+      (omega arith) (child_formed i (drawn (next_state state)) low) (child_formed i (drawn (next_state (next_state state))) low),
   operations_listed count (state_behind 3 state) (i + 1) (omega arith) (omega arith),
 )
 
 entry_listed : (word : ℕ) → word < 2 ^ 32 → AllByRecursion IsTextValue (entry word)
 entry_listed word small =
-    values_joined (arguments 8 0) (constant 0 8 1 ∷ constant 0 9 word ∷ upsilon 0 10 0 ∷ jump 0 ∷ []) (arguments_listed 8 0 (omega arith))
-    (constant_listed 8 1 (omega arith) (omega arith), (constant_listed 9 word (omega arith) small,
-    (upsilon_listed 10 0 (omega arith) (omega arith), (jump_listed, tt))))
+    values_joined (arguments 8 0) (constant 0 8 1 ∷ constant 0 9 word ∷ upsilon 0 10 0 ∷ jump 0 ∷ []) (arguments_listed 8 0 (omega arith)) (
+      constant_listed 8 1 (omega arith) (omega arith),
+      (
+        constant_listed 9 word (omega arith) small,
+        (upsilon_listed 10 0 (omega arith) (omega arith), (jump_listed, tt)),
+      ),
+    )
 
 loop_listed : (state : ℕ) → AllByRecursion IsTextValue (loop_values state)
-loop_listed state = (phi_listed, values_joined (operations 500 state 13) (upsilon 0 513 512 ∷ less 0 ∷ branch 0 ∷ [])
-    (operations_listed 500 state 13 (omega arith) (omega arith))
-    (upsilon_listed 513 512 (omega arith) (omega arith), (less_listed, (branch_listed, tt))))
+loop_listed state = (
+  phi_listed,
+  values_joined (operations 500 state 13) (upsilon 0 513 512 ∷ less 0 ∷ branch 0 ∷ [])
+      (operations_listed 500 state 13 (omega arith) (omega arith))
+      (upsilon_listed 513 512 (omega arith) (omega arith), (less_listed, (branch_listed, tt))),
+)
 
 pub procedure_listed : (state k : ℕ) → IsName (codes "g" ++ decimal k) → IsTextProcedure (procedure_of state k)
 procedure_listed state k name = record {
@@ -221,8 +226,10 @@ procedure_listed state k name = record {
     slots = tt;
     blocks = (
       record { number = omega arith; values = entry_listed (drawn state) (drawn_small state) },
-      (record { number = omega arith; values = loop_listed (next_state state) },
-      (record { number = omega arith; values = (return_listed, tt) }, tt)),
+      (
+        record { number = omega arith; values = loop_listed (next_state state) },
+        (record { number = omega arith; values = (return_listed, tt) }, tt),
+      ),
     );
   };
   some = omega arith;

@@ -1,32 +1,29 @@
 -- A made procedure is valid.
-use Rattle.std.proofs.Common.{◌≡◌, ◌≢◌, ℕ, zero, suc, ◌+◌, ◌-◌, ◌^◌, ◌<◌, ◌≤◌, ◌⊎◌, inl, inr, Bool, true, false, List, [], ◌∷◌, ◌++◌, Option, Some, None, length, refl, sym, ap, ◌∙◌, subst, arith, take, ⊎_elim}
-use Rattle.std.specs.Prelude.{All, Contains, slice_get}
+use Rattle.std.proofs.Common.{◌≡◌, ◌≢◌, ℕ, zero, suc, ◌+◌, ◌-◌, ◌<◌, ◌≤◌, ◌⊎◌, inl, inr, Bool, true, List, [], ◌∷◌, Some, length, refl, sym, ap, ◌∙◌, subst, arith, take, ⊎_elim}
+use Rattle.std.specs.Prelude.{Contains, slice_get}
 use Rattle.std.proofs.lemmas.Bool.{cases_lt}
 use Rattle.std.proofs.lemmas.List.Elements.{All-nil, All-weaker}
-use Rattle.std.proofs.lemmas.Option.{slice_get_within}
-use Rattle.b3_ir.specs.Naming.{all_values, type_of, value_named}
+use Rattle.b3_ir.specs.Naming.{all_values, type_of}
 use Rattle.b3_ir.specs.Procedure.{Block, Procedure, StandsAt, values_of}
 use Rattle.b3_ir.specs.Table.{is_terminal}
 use Rattle.b3_ir.specs.Types.{allows_types}
 use Rattle.b3_ir.specs.declared.opcode.Opcode.{Opcode}
 use Rattle.b3_ir.specs.declared.opcode.Opcode.TheVariants as op
 use Rattle.b3_ir.specs.declared.opcode.Ty.{Ty}
-use Rattle.b3_ir.specs.declared.opcode.Ty.TheVariants.{Int32, Int64, Void}
+use Rattle.b3_ir.specs.declared.opcode.Ty.TheVariants.{Int32, Int64}
 use Rattle.b3_ir.specs.declared.procedure.SlotLine.{SlotLine}
 use Rattle.b3_ir.specs.declared.value.Body.TheVariants.{Target}
 use Rattle.b3_ir.specs.declared.value.Stackmap.{Stackmap}
 use Rattle.b3_ir.specs.declared.value.Value.{Value}
-use Rattle.stackmap.specs.Registers.{stackmap_in}
 use Rattle.stackmap.specs.Rules.{FixesApart, HasRegisters, NamesConstraints, NamesRegisters}
-use Rattle.b3_rules.specs.Paths.{HasRun, IsCoveredAt, IsPath, IsSuccessor, successors_in}
-use Rattle.b3_rules.specs.Rules.{CoversUses, HasNewId, IsArgumentAt, IsBlockNumber, IsEarlier, IsId, IsLast, IsTyped, KnowsBlocks, KnowsIds, KnowsSlot, NamesId, OfStackmap, ReturnsAlike, SuitsPhi, first_return, first_type, types_of}
-use Rattle.b3_rules.specs.Valid.{Header, HeaderKeeps, HeadingAt, HeadingKeeps, IsPartOf, IsValidProcedure, Keeps, Part, SlotAt, SlotKeeps, ValueAt, ValueKeeps}
+use Rattle.b3_rules.specs.Paths.{IsCoveredAt, IsPath, IsSuccessor, successors_in}
+use Rattle.b3_rules.specs.Rules.{CoversUses, HasNewId, IsArgumentAt, IsBlockNumber, IsId, IsLast, IsTyped, KnowsBlocks, KnowsIds, KnowsSlot, OfStackmap, ReturnsAlike, SuitsPhi, first_type, types_of}
+use Rattle.b3_rules.specs.Valid.{Header, HeaderKeeps, HeadingAt, HeadingKeeps, IsValidProcedure, SlotAt, SlotKeeps, ValueAt, ValueKeeps}
 use Rattle.b3_rules.specs.declared.rule.Rule.{Rule}
 use Rattle.b3_rules.specs.declared.rule.Rule.TheVariants as rule
-use Rattle.b3_trial.specs.Generated.{opcode_of}
-use Rattle.b3_generated.proofs.Forms.{AllForms, Cases, Form, IsWordBelow, by_form, by_opcode, form_at, id_of}
+use Rattle.b3_generated.proofs.Forms.{Form, IsWordBelow, by_form, by_opcode, form_at, id_of}
 use Rattle.b3_generated.proofs.Values.{IsMade, Named, all_forms, below_limit, block_on, count_of, few_blocks, form_of, less_typed, limit, limit_start, made, start, stands, value_at, word_typed}
-use Rattle.b3_generated.proofs.Rules.{Ends, Leads, arguments_first, contains_at, ends, in_one, in_two, leads, lesser, no_cases, no_map, one_of, phi_there, return_at, return_last, sizes, take_at, terminal, two_of}
+use Rattle.b3_generated.proofs.Rules.{Ends, Leads, arguments_first, contains_at, ends, leads, lesser, no_cases, no_map, one_of, phi_there, return_at, sizes, take_at, terminal, two_of}
 
 module _ (name : List ℕ) (line la lb lc : ℕ) (first second third : List Value) (is : IsMade first second third) where
   abbrev p : Procedure
@@ -263,14 +260,18 @@ module _ (name : List ℕ) (line la lb lc : ℕ) (first second third : List Valu
         | inl before ↦
             let at = block_of_id b x few before in
             let c = at.0 in
-            let v = stands_at c at.1 (omega (arith, at.2)) (omega (arith, at.3, at.4)) in
-            (v.0, id_of (start c + at.1) v.0 (at_form c at.1 v.0 v.1) ∙ at.3,
-            inr (c, passes passed b c path at.2, contains_at (values_of p c) at.1 v.0 v.1))
+            let v = stands_at c at.1 (omega (arith, at.2)) (omega (arith, at.3, at.4)) in (
+              v.0,
+              id_of (start c + at.1) v.0 (at_form c at.1 v.0 v.1) ∙ at.3,
+              inr (c, passes passed b c path at.2, contains_at (values_of p c) at.1 v.0 v.1),
+            )
         | inr here ↦
             let m : ℕ = x - start b in
-            let v = stands_at b m few (omega arith) in
-            (v.0, id_of (start b + m) v.0 (at_form b m v.0 v.1) ∙ omega arith,
-            inl (contains_at (take j (values_of p b)) m v.0 (take_at (values_of p b) j m v.0 (omega arith) v.1)))
+            let v = stands_at b m few (omega arith) in (
+              v.0,
+              id_of (start b + m) v.0 (at_form b m v.0 v.1) ∙ omega arith,
+              inl (contains_at (take j (values_of p b)) m v.0 (take_at (values_of p b) j m v.0 (omega arith) v.1)),
+            )
       ]
 
   covers : (b j : ℕ) (v : Value) → StandsAt p b j v → CoversUses p b j v

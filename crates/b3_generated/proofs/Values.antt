@@ -1,14 +1,13 @@
 -- Where the values of a made procedure stand, and what their ids name.
-use Rattle.std.proofs.Common.{◌≡◌, ◌≢◌, ℕ, zero, suc, ◌+◌, ◌-◌, ◌<◌, ◌≤◌, ◌⊎◌, inl, inr, true, false, List, [], ◌∷◌, ◌++◌, Option, Some, None, length, refl, sym, ap, ◌∙◌, subst, arith, ⊎_elim}
+use Rattle.std.proofs.Common.{◌≡◌, ℕ, zero, suc, ◌+◌, ◌<◌, ◌≤◌, ◌⊎◌, List, [], ◌∷◌, ◌++◌, Some, length, refl, ap, ◌∙◌, subst, arith, ⊎_elim}
 use Rattle.std.specs.Prelude.{slice_get}
 use Rattle.std.proofs.Math.ListN.{length-append}
-use Rattle.std.proofs.lemmas.Bool.{cases_lt}
 use Rattle.std.proofs.lemmas.Option.{slice_get_within}
 use Rattle.b3_ir.specs.Naming.{all_values, type_of, type_or_void, value_named, with_id}
 use Rattle.b3_ir.specs.Procedure.{Block, Procedure, StandsAt, values_of}
 use Rattle.b3_ir.specs.declared.opcode.Ty.TheVariants.{Int32, Int64}
 use Rattle.b3_ir.specs.declared.value.Value.{Value}
-use Rattle.b3_generated.proofs.Forms.{AllForms, Cases, Form, by_form, form_at, forms_both, id_of, named}
+use Rattle.b3_generated.proofs.Forms.{AllForms, Form, by_form, form_at, forms_both, named}
 
 -- the id of the first value of a block, and the one behind that of the last
 abbrev pub start : ℕ → ℕ
