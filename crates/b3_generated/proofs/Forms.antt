@@ -22,7 +22,8 @@ pub data Form (i : ℕ) (v : Value) : Type 0 where
   IsFirst : (line : ℕ) (at : i ≡ 10) (is : v ≡ upsilon line 10 0) → Form i v
   IsJump : (line : ℕ) (at : i ≡ 11) (is : v ≡ jump line) → Form i v
   IsPhi : (line : ℕ) (at : i ≡ 12) (is : v ≡ phi line) → Form i v
-  IsOperation : (line number x y : ℕ) (low : 13 ≤ i) (high : i < 513) (first : IsWordBelow i x) (second : IsWordBelow i y) (is : v ≡ operation line i number x y) → Form i v
+  IsOperation : (line number x y : ℕ) (low : 13 ≤ i) (high : i < 513)
+      (first : IsWordBelow i x) (second : IsWordBelow i y) (is : v ≡ operation line i number x y) → Form i v
   IsNext : (line : ℕ) (at : i ≡ 513) (is : v ≡ upsilon line 513 512) → Form i v
   IsLess : (line : ℕ) (at : i ≡ 514) (is : v ≡ less line) → Form i v
   IsBranch : (line : ℕ) (at : i ≡ 515) (is : v ≡ branch line) → Form i v

@@ -49,7 +49,8 @@ fits = by_form (λ i v. Fits v) (record {
   operations = λ line i number x y low high first second.
       by_opcode (λ (o : Opcode). Fits (value_on line Int64 i o (x ∷ y ∷ []) Plain))
       (record { body = tt; chill = refl; traps = refl }) (record { body = tt; chill = refl; traps = refl }) (record { body = tt; chill = refl; traps = refl })
-      (record { body = tt; chill = refl; traps = refl }) (record { body = tt; chill = refl; traps = refl }) (record { body = tt; chill = refl; traps = refl }) number;
+      (record { body = tt; chill = refl; traps = refl }) (record { body = tt; chill = refl; traps = refl })
+      (record { body = tt; chill = refl; traps = refl }) number;
   next = λ line. record { body = tt; chill = refl; traps = refl };
   less = λ line. record { body = tt; chill = refl; traps = refl };
   branch = λ line. record { body = refl; chill = refl; traps = refl };
@@ -179,7 +180,8 @@ procedures_count (suc count) state k = ap suc (procedures_count count (state_beh
 procedures_listed : (count state k : ℕ) → k + count < 1000 → AllByRecursion IsTextProcedure (procedures_from count state k)
 unfolding procedures_from
 procedures_listed zero state k few = tt
-procedures_listed (suc count) state k few = (procedure_listed state k (name_good k (omega arith)), procedures_listed count (state_behind 1501 state) (k + 1) (omega arith))
+procedures_listed (suc count) state k few =
+    (procedure_listed state k (name_good k (omega arith)), procedures_listed count (state_behind 1501 state) (k + 1) (omega arith))
 
 module _ (n : ℕ) where
   abbrev ps : List Procedure

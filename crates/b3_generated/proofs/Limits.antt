@@ -77,9 +77,11 @@ procedure_counted which line p has =
     (All-weaker (λ (x : Placed). IsInner x.part) (λ (x : Placed). at_line which line x ≤ each which)
     (λ x is. if_counted (nat_le x.line line) (counted which x.part) (each which) (inner_counted which x.part is)) inner has.inner) in
     let front : at_line which line header ≤ 1 = if_counted (nat_le p.line line) (counted which Header) 1 (header_counted which) in
-    let whole : sum_by (at_line which line) (header ∷ inner) ≡ at_line which line header + sum_by (at_line which line) inner = sum_by-cons (at_line which line) header inner in
+    let whole : sum_by (at_line which line) (header ∷ inner) ≡ at_line which line header + sum_by (at_line which line) inner =
+    sum_by-cons (at_line which line) header inner in
     subst (λ parts. sum_by (at_line which line) parts ≤ 1 + 520 * each which) (sym same)
-    (bounded (length inner) (each which) (at_line which line header) (sum_by (at_line which line) inner) (sum_by (at_line which line) (header ∷ inner)) has.count sum front whole)
+    (bounded (length inner) (each which) (at_line which line header) (sum_by (at_line which line) inner)
+    (sum_by (at_line which line) (header ∷ inner)) has.count sum front whole)
   where
     bounded : (n e a s w : ℕ) → n ≡ 520 → s ≤ n * e → a ≤ 1 → w ≡ a + s → w ≤ 1 + 520 * e
     bounded n e a s w is le one sum = let more : s ≤ 520 * e = subst (λ m. s ≤ m * e) is le in omega arith
@@ -92,7 +94,8 @@ text_counted which line (p ∷ ps) has =
     let rest : up_to which line (flat_map parts_of ps) ≤ length ps * (1 + 520 * each which) = text_counted which line ps (λ k q there. has (suc k) q there) in
     let both : up_to which line (parts_of p ++ flat_map parts_of ps) ≡ up_to which line (parts_of p) + up_to which line (flat_map parts_of ps) =
     sum_by-append (at_line which line) (parts_of p) (flat_map parts_of ps) in
-    added (length ps) (1 + 520 * each which) (up_to which line (parts_of p)) (up_to which line (flat_map parts_of ps)) (up_to which line (parts_of p ++ flat_map parts_of ps)) first rest both
+    added (length ps) (1 + 520 * each which) (up_to which line (parts_of p)) (up_to which line (flat_map parts_of ps))
+    (up_to which line (parts_of p ++ flat_map parts_of ps)) first rest both
   where
     added : (n c a b w : ℕ) → a ≤ c → b ≤ n * c → w ≡ a + b → w ≤ (suc n) * c
     added n c a b w le more sum = simp suc-mul (omega arith)
@@ -116,18 +119,22 @@ module _ (ps : List Procedure) (few : length ps ≤ 16) (has : (k : ℕ) (p : Pr
 
 -- ---- the parts of blocks
 
-parts_both : (a b : List Placed) → All (λ (x : Placed). IsInner x.part) a → All (λ (x : Placed). IsInner x.part) b → All (λ (x : Placed). IsInner x.part) (a ++ b)
+parts_both : (a b : List Placed) → All (λ (x : Placed). IsInner x.part) a → All (λ (x : Placed). IsInner x.part) b
+    → All (λ (x : Placed). IsInner x.part) (a ++ b)
 parts_both [] b x y = y
-parts_both (part ∷ a) b x y = All-cons (λ (x : Placed). IsInner x.part) part (a ++ b) (x 0 part (omega arith)) (parts_both a b (λ k d lt. x (suc k) d (omega arith)) y)
+parts_both (part ∷ a) b x y = All-cons (λ (x : Placed). IsInner x.part) part (a ++ b) (x 0 part (omega arith))
+    (parts_both a b (λ k d lt. x (suc k) d (omega arith)) y)
 
 values_inner : (vs : List Value) → All (λ (v : Value). operands v ≤ 2) vs → All (λ (x : Placed). IsInner x.part) (parts_of_values vs)
 values_inner [] h = All-nil _
-values_inner (v ∷ vs) h = All-cons (λ (x : Placed). IsInner x.part) (part_of_value v) (parts_of_values vs) (h 0 v (omega arith)) (values_inner vs (λ k d lt. h (suc k) d (omega arith)))
+values_inner (v ∷ vs) h = All-cons (λ (x : Placed). IsInner x.part) (part_of_value v) (parts_of_values vs) (h 0 v (omega arith))
+    (values_inner vs (λ k d lt. h (suc k) d (omega arith)))
 
 pub block_inner : (b : Block) → All (λ (v : Value). operands v ≤ 2) b.values → All (λ (x : Placed). IsInner x.part) (parts_of_block b)
 block_inner b h = All-cons (λ (x : Placed). IsInner x.part) (placed b.line Heading) (parts_of_values b.values) tt (values_inner b.values h)
 
-pub three_inner : (a b c : Block) → All (λ (v : Value). operands v ≤ 2) a.values → All (λ (v : Value). operands v ≤ 2) b.values → All (λ (v : Value). operands v ≤ 2) c.values
+pub three_inner : (a b c : Block) → All (λ (v : Value). operands v ≤ 2) a.values → All (λ (v : Value). operands v ≤ 2) b.values
+    → All (λ (v : Value). operands v ≤ 2) c.values
     → All (λ (x : Placed). IsInner x.part) (flat_map parts_of_block (a ∷ b ∷ c ∷ []))
 three_inner a b c x y z =
     parts_both (parts_of_block a) (parts_of_block b ++ (parts_of_block c ++ [])) (block_inner a x)

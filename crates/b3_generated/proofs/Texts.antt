@@ -33,7 +33,8 @@ generated_both = text_both
 
 rows_both : (a b : List Value) → flat_map rows_of_value (a ++ b) ≡ flat_map rows_of_value a ++ flat_map rows_of_value b
 rows_both [] b = refl
-rows_both (v ∷ a) b = ap (λ (x : List Row). rows_of_value v ++ x) (rows_both a b) ∙ sym (append_assoc (rows_of_value v) (flat_map rows_of_value a) (flat_map rows_of_value b))
+rows_both (v ∷ a) b = ap (λ (x : List Row). rows_of_value v ++ x) (rows_both a b)
+    ∙ sym (append_assoc (rows_of_value v) (flat_map rows_of_value a) (flat_map rows_of_value b))
 
 abbrev values_text : List Value → List ℕ
 values_text vs = text_of (flat_map rows_of_value vs)
@@ -51,7 +52,8 @@ unfolding operations generated.operations generated.text_of
 operations_text zero state i = refl
 operations_text (suc count) state i = ap (λ (x : List ℕ). line_text (generated.operation state i) ++ x) (operations_text count (state_behind 3 state) (i + 1))
 
-entry_text : (k word : ℕ) → text_of (Header (codes "g" ++ decimal k) ∷ Heading 0 ∷ flat_map rows_of_value (entry word)) ≡ generated.text_of (generated.entry k word)
+entry_text : (k word : ℕ) → text_of (Header (codes "g" ++ decimal k) ∷ Heading 0 ∷ flat_map rows_of_value (entry word))
+    ≡ generated.text_of (generated.entry k word)
 unfolding generated.entry generated.text_of
 entry_text k word =
     ap (λ (x : List ℕ). line_text (Header (codes "g" ++ decimal k)) ++ (line_text (Heading 0) ++ x))

@@ -63,9 +63,12 @@ module _ (name : List ℕ) (line la lb lc : ℕ) (first second third : List Valu
   last_end (suc (suc (suc b))) j few e = absurd (omega arith)
 
   end_last : (b j : ℕ) → b < 3 → start b + j < limit b → Ends (start b + j) → start b + j + 1 ≡ limit b
-  end_last zero j few lt h = ⊎_elim (λ (x : 0 + j ≡ 11). omega arith) (λ (more : (0 + j ≡ 515) ⊎ (0 + j ≡ 516)). ⊎_elim (λ (x : 0 + j ≡ 515). absurd (omega arith)) (λ (x : 0 + j ≡ 516). absurd (omega arith)) more) h
-  end_last (suc zero) j few lt h = ⊎_elim (λ (x : 12 + j ≡ 11). absurd (omega arith)) (λ (more : (12 + j ≡ 515) ⊎ (12 + j ≡ 516)). ⊎_elim (λ (x : 12 + j ≡ 515). omega arith) (λ (x : 12 + j ≡ 516). absurd (omega arith)) more) h
-  end_last (suc (suc zero)) j few lt h = ⊎_elim (λ (x : 516 + j ≡ 11). absurd (omega arith)) (λ (more : (516 + j ≡ 515) ⊎ (516 + j ≡ 516)). ⊎_elim (λ (x : 516 + j ≡ 515). absurd (omega arith)) (λ (x : 516 + j ≡ 516). omega arith) more) h
+  end_last zero j few lt h = ⊎_elim (λ (x : 0 + j ≡ 11). omega arith)
+      (λ (more : (0 + j ≡ 515) ⊎ (0 + j ≡ 516)). ⊎_elim (λ (x : 0 + j ≡ 515). absurd (omega arith)) (λ (x : 0 + j ≡ 516). absurd (omega arith)) more) h
+  end_last (suc zero) j few lt h = ⊎_elim (λ (x : 12 + j ≡ 11). absurd (omega arith))
+      (λ (more : (12 + j ≡ 515) ⊎ (12 + j ≡ 516)). ⊎_elim (λ (x : 12 + j ≡ 515). omega arith) (λ (x : 12 + j ≡ 516). absurd (omega arith)) more) h
+  end_last (suc (suc zero)) j few lt h = ⊎_elim (λ (x : 516 + j ≡ 11). absurd (omega arith))
+      (λ (more : (516 + j ≡ 515) ⊎ (516 + j ≡ 516)). ⊎_elim (λ (x : 516 + j ≡ 515). absurd (omega arith)) (λ (x : 516 + j ≡ 516). omega arith) more) h
   end_last (suc (suc (suc b))) j few lt h = absurd (omega arith)
 
   ending : (b j : ℕ) (v : Value) → StandsAt p b j v → IsLast p b j → is_terminal v.kind.opcode ≡ true
