@@ -6,7 +6,6 @@ ghost use Rattle.b3_io.specs.Faults.{Rose};
 ghost use Rattle.b3_io.specs.Taken.{Takes};
 ghost use Rattle.b3_rules.specs.Valid.{IsValid};
 ghost use Rattle.b3_supported.specs.Supported.{AreSupported};
-ghost use Rattle.b3_trial.specs.Generated.{generated};
 ghost use Rattle.b3_trial.specs.Trials.{Spells, Trial};
 ghost use Rattle.b3_ir.specs.Procedure.{Procedure};
 ghost use Rattle.elf_obj.specs.Read.{IsFileOf as IsObjectOf};
@@ -24,6 +23,7 @@ use crate::ending::Ending;
 use crate::generating::generate_object;
 use crate::trying::{EvalFault, RunFault, eval_text, run_file};
 use b3_base::{Bytes, Name};
+use b3_generated::generated_texts_are_good;
 use b3_io::{ReadAll, Sink, Source, WriteFault, read_all, write_all};
 use std::alloc::Global;
 
@@ -67,9 +67,8 @@ pub fn run_tool<S: Source, T: Source, K: Sink, E: Sink>(
     ensures nothing_written { result ≢ 0 → result ≢ 4 → out.new ≡ out.old }
 
     // A text within the limits is printed; it is compiled where it is valid and all of it is supported, and evaluated
-    // where the trial may begin in each of its objects; a good object is run where the trial may begin in it; the text
-    // that is made from a number is compiled where it is valid and all of it is supported: unless memory is wanted,
-    // where nothing failed.
+    // where the trial may begin in each of its objects; a good object is run where the trial may begin in it; and the
+    // text that is made from a number is compiled: unless memory is wanted, where nothing failed.
     ensures compiles { spec.command_of words.now ≡ Some Command.Compile
         → (Rose (S.faults input.old) (S.faults input.new) → ⊥) → (Rose (K.faults out.old) (K.faults out.new) → ⊥)
         → (procedures : List Procedure) (text : List ℕ) → S.left input.old ≡ Some text → IsTextOf text procedures → IsValid procedures
@@ -91,15 +90,15 @@ pub fn run_tool<S: Source, T: Source, K: Sink, E: Sink>(
         → (o : Object) (file : List ℕ) → S.left input.old ≡ Some file → IsObjectOf file o → length file ≤ OBJECT_LIMIT
         → (t : Trial) (bytes : List ℕ) → T.left trial.old ≡ Some bytes → Spells bytes t → length bytes ≤ TEXT_LIMIT
         → Begins o t → (result ≡ 0) ⊎ (result ≡ 9) }
-    ensures generates { (n : ℕ) → spec.command_of words.now ≡ Some (Command.Gen n) → (Rose (K.faults out.old) (K.faults out.new) → ⊥)
-        → (procedures : List Procedure) → IsTextOf (generated n) procedures → IsValid procedures → AreSupported procedures
-        → (result ≡ 0) ⊎ (result ≡ 9) }
+    ensures generates { (n : ℕ) → spec.command_of words.now ≡ Some (Command.Gen n)
+        → (Rose (K.faults out.old) (K.faults out.new) → ⊥) → (result ≡ 0) ⊎ (result ≡ 9) }
 
     // What has come about, and the line on the error stream.
     ensures ended { (ending : Ending) × (result ≡ status_of ending)
         × HasEnded (record { words = words.now; left = S.left input.old; left' = S.left input.new; input_faults = S.faults input.old; input_faults' = S.faults input.new; trial_left = T.left trial.old; trial_left' = T.left trial.new; trial_faults = T.faults trial.old; trial_faults' = T.faults trial.new; held = K.held out.old; held' = K.held out.new; output_faults = K.faults out.old; output_faults' = K.faults out.new }) ending
         × TakesLine (line_of ending) (E.held err.old) (E.held err.new) (E.faults err.old) (E.faults err.new) }
 {
+    generated_texts_are_good();
     let ending = run_words(alloc, words, input, trial, out);
     ending.report(err);
     ending.status()

@@ -1,0 +1,17 @@
+-- What is known of the text that is made from a number.
+use Rattle.std.specs.Prelude.{ℕ}
+use Rattle.b3_module.specs.Canonical.{lined}
+use Rattle.b3_module.specs.Limits.{KeepsLimits}
+use Rattle.b3_module.specs.Texts.{Spells}
+use Rattle.b3_rules.specs.Valid.{IsValid}
+use Rattle.b3_supported.specs.Supported.{AreSupported}
+use Rattle.b3_trial.specs.Generated.{generated}
+use Rattle.b3_generated.specs.Made.{module_of}
+
+-- the text that is made from a number spells the module that is, on the lines of that text; the module keeps the
+-- limits and all rules, and its procedures are supported
+pub record IsGoodText (n : ℕ) : Type 0 where
+  pub spells : Spells (generated n) (lined 1 (module_of n))
+  pub within : KeepsLimits (lined 1 (module_of n))
+  pub valid : IsValid (lined 1 (module_of n))
+  pub supported : AreSupported (lined 1 (module_of n))
