@@ -1,7 +1,6 @@
 -- What is looked up over blocks for the entry: the arguments that are named, the last value, and the first Return.
-use Rattle.std.proofs.Common.{◌≡◌, ℕ, suc, ◌+◌, ◌<◌, ◌≤◌, Bool, true, false, ◌||◌, List, [], ◌∷◌, ◌++◌, Option, Some, None, length, drop, refl, sym, ap, ◌∙◌, subst, arith}
-use Rattle.std.specs.Prelude.{slice_index_or}
-use Rattle.std.proofs.lemmas.List.{drop_all, drop_more}
+use Rattle.std.proofs.Common.{◌≡◌, ℕ, ◌+◌, ◌<◌, Bool, true, false, ◌||◌, List, [], ◌∷◌, ◌++◌, Option, Some, None, length, drop, refl, sym, ap, ◌∙◌}
+use Rattle.std.proofs.lemmas.List.{drop_more}
 use Rattle.b3_ir.specs.Procedure.{Block, no_block}
 use Rattle.b3_ir.specs.declared.opcode.Opcode.{Opcode}
 use Rattle.b3_ir.specs.declared.opcode.Opcode.TheVariants as opcode
@@ -79,6 +78,3 @@ pub first_found : (blocks : List Block) (b : ℕ) (whole : Option Value) (v : Va
     → first_return (values_in blocks b) ≡ Some v → Some v ≡ whole
 first_found blocks b whole v lt e some =
     sym (ap (λ o. first_of o (first_return (row (drop (b + 1) blocks)))) some) ∙ sym (first_of_block blocks b lt) ∙ e
-
-pub first_none : (blocks : List Block) (b : ℕ) (whole : Option Value) → length blocks ≤ b → first_return (row (drop b blocks)) ≡ whole → None ≡ whole
-first_none blocks b whole end e = subst (λ (bs : List Block). first_return (row bs) ≡ whole) (drop_all b blocks end) e

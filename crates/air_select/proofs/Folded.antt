@@ -53,7 +53,8 @@ flat_get f (z ∷ xs) zero x n y there at =
     let first : 0 + n ≡ n = omega arith in
     ap (slice_get (f z ++ flat_map f xs)) first ∙ get_front (f z) (flat_map f xs) n y (subst (λ w. slice_get (f w) n ≡ Some y) same at)
 flat_get f (z ∷ xs) (suc j) x n y there at =
-    let far : length (f z ++ flat_map f (take j xs)) + n ≡ length (f z) + (length (flat_map f (take j xs)) + n) = omega (arith, length-append (f z) (flat_map f (take j xs))) in
+    let far : length (f z ++ flat_map f (take j xs)) + n ≡ length (f z) + (length (flat_map f (take j xs)) + n) =
+    omega (arith, length-append (f z) (flat_map f (take j xs))) in
     ap (slice_get (f z ++ flat_map f xs)) far ∙ get_behind (f z) (flat_map f xs) (length (flat_map f (take j xs)) + n) ∙ flat_get f xs j x n y there at
 
 record IsPieceOf {X Y : Type 0} (f : X → List Y) (xs : List X) (y : Y) : Type 0 where
@@ -186,7 +187,8 @@ module _ (t : Tables) (v : Value) (id : ℕ) (folded : folds t id ≡ true) wher
   computes_second : (op : AirOp) → slice_get v.children 1 ≡ Some id → HasInst (computes t v op) (HasSecond (known t.index id).word)
   computes_second op at =
       (0, inst v op (map (use_of t) v.children ++ result_of t v ∷ []), refl,
-      (use_of t id, get_front (map (use_of t) v.children) (result_of t v ∷ []) 1 (use_of t id) (slice_get-map (use_of t) v.children 1 ∙ ap (option_map (use_of t)) at), arg_is))
+      (use_of t id, get_front (map (use_of t) v.children) (result_of t v ∷ []) 1 (use_of t id)
+      (slice_get-map (use_of t) v.children 1 ∙ ap (option_map (use_of t)) at), arg_is))
 
   rotates_second : slice_get v.children 1 ≡ Some id → HasInst (code_of t opcode.RotL v) (HasSecond (turned (width_of v.ty) (known t.index id).word))
   rotates_second at =
@@ -199,7 +201,8 @@ module _ (t : Tables) (v : Value) (id : ℕ) (folded : folds t id ≡ true) wher
       by amount same =
           subst (λ (a : ℕ). HasInst (if folds t a then rotate_by t v (Imm (turned (width_of v.ty) (known t.index a).word)) ∷ []
           else negative_amount t v ∷ rotate_by t v (At (first_extra t.index v.id)) ∷ []) (HasSecond (turned (width_of v.ty) (known t.index id).word))) same
-          (rw folded (0, rotate_by t v (Imm (turned (width_of v.ty) (known t.index id).word)), refl, (use_at W32 (Imm (turned (width_of v.ty) (known t.index id).word)), refl, refl)))
+          (rw folded (0, rotate_by t v (Imm (turned (width_of v.ty) (known t.index id).word)), refl,
+          (use_at W32 (Imm (turned (width_of v.ty) (known t.index id).word)), refl, refl)))
 
   -- an opcode that may have an immediate carries it
   carries_second : (o : Opcode) (width : Width) (word : ℕ) → is_immediate (second_immediates o) width word ≡ true → slice_get v.children 1 ≡ Some id
@@ -335,7 +338,8 @@ module _ (p : Procedure) (valid : IsValidProcedure p) (fit : AllFit p.blocks) wh
               | inl comparison ↦ ending_no_comparison v.kind.opcode ends comparison
               | inr bit ↦
                   ending_no_and v.kind.opcode ends
-                  (both_first (is_and v.kind.opcode) (is_constant (known (index_of p) (child v.children 1)).opcode && is_bit (known (index_of p) (child v.children 1)).word) bit)
+                  (both_first (is_and v.kind.opcode)
+                  (is_constant (known (index_of p) (child v.children 1)).opcode && is_bit (known (index_of p) (child v.children 1)).word) bit)
             ]
           ])
 
@@ -343,8 +347,10 @@ module _ (p : Procedure) (valid : IsValidProcedure p) (fit : AllFit p.blocks) wh
   unfolding selected_by block_code
   none_made zero place i at =
       let of : entry_of (index_of p) (values_of p 0) ≡ at.of = (let e = at.block_there in cc) in
-      let there : slice_get (entry_of (index_of p) (values_of p 0)).insts place ≡ Some i = subst (λ (b : AirBlock). slice_get b.insts place ≡ Some i) (sym of) at.inst_there in
-      let value : i.value ≡ last_id (values_of p 0) = All-slice (IsFor (last_id (values_of p 0))) (entry_of (index_of p) (values_of p 0)).insts place i (entry_for (index_of p) (values_of p 0)) there in
+      let there : slice_get (entry_of (index_of p) (values_of p 0)).insts place ≡ Some i =
+      subst (λ (b : AirBlock). slice_get b.insts place ≡ Some i) (sym of) at.inst_there in
+      let value : i.value ≡ last_id (values_of p 0) =
+      All-slice (IsFor (last_id (values_of p 0))) (entry_of (index_of p) (values_of p 0)).insts place i (entry_for (index_of p) (values_of p 0)) there in
       let kept = is_kept p valid fit in
       let last = last_stands (values_of p 0) (kept.ends 0 kept.some) in
       ap (is_foldable p) (value ∙ sym last.3) ∙ ending_unfolded 0 last.0 last.1 last.2 last.4
@@ -352,7 +358,8 @@ module _ (p : Procedure) (valid : IsValidProcedure p) (fit : AllFit p.blocks) wh
       let t = tables p in
       let block = mapped (block_code t) (slice_get p.blocks b) at.of (sym (slice_get-map (block_code t) p.blocks b) ∙ at.block_there) in
       let of : Block = block.0 in
-      let there : slice_get (flat_map (value_code t) of.values) place ≡ Some i = subst (λ (x : AirBlock). slice_get x.insts place ≡ Some i) (sym block.2) at.inst_there in
+      let there : slice_get (flat_map (value_code t) of.values) place ≡ Some i =
+      subst (λ (x : AirBlock). slice_get x.insts place ≡ Some i) (sym block.2) at.inst_there in
       let piece = flat_found (value_code t) of.values place i there in
       let v : Value = piece.part in
       let values : values_of p b ≡ of.values = ap (λ (x : Block). x.values) (get_or_from_slice_get p.blocks b of no_block block.1) in
@@ -410,7 +417,8 @@ module _ (p : Procedure) (valid : IsValidProcedure p) (fit : AllFit p.blocks) wh
               | inl comparison ↦ not_both (is_comparison v.kind.opcode) comparison h.comparison
               | inr bit ↦
                   not_both (is_and v.kind.opcode)
-                  (both_first (is_and v.kind.opcode) (is_constant (known (index_of p) (child v.children 1)).opcode && is_bit (known (index_of p) (child v.children 1)).word) bit) h.conjunction
+                  (both_first (is_and v.kind.opcode)
+                  (is_constant (known (index_of p) (child v.children 1)).opcode && is_bit (known (index_of p) (child v.children 1)).word) bit) h.conjunction
             ]
           ])
 
@@ -457,7 +465,8 @@ module _ (p : Procedure) (valid : IsValidProcedure p) (fit : AllFit p.blocks) wh
       let inst_has = carries_bit t v k.id k_folds v.kind.opcode i.0 fits_so (ap (λ (z : Known). is_and z.opcode) is ∙ conjunction) i.1 in
       let first : (known index k.id).first ≡ x = ap (λ (z : Known). z.first) is ∙ ap (λ l. child l 0) children in
       let second : (known index k.id).second ≡ w.id = ap (λ (z : Known). z.second) is ∙ ap (λ l. child l 1) children in
-      let word : (known index (known index k.id).second).word ≡ word_in w.body = ap (λ z. (known index z).word) second ∙ ap (λ (z : Known). z.word) (known_is p valid d n w at_w) in
+      let word : (known index (known index k.id).second).word ≡ word_in w.body =
+      ap (λ z. (known index z).word) second ∙ ap (λ (z : Known). z.word) (known_is p valid d n w at_w) in
       made b j v (TestsBit p x (word_in w.body)) at (user_unfolded b j v at (user_kind index v.kind.opcode i.0 (known index k.id) fits_so))
       (inst_has.0, inst_has.1, inst_has.2, (
         bit_of (word_in w.body),

@@ -53,7 +53,8 @@ listed_first p block keys old at are rest there = record {
   are = are;
 }
 
-pub listed_next : (p : Kept) → IsValidProcedure p.procedure → (block : ℕ) (keys keys' : List ℕ) (known known' old : List Known) (node : ℕ) (v : Value) (next : Option ℕ)
+pub listed_next : (p : Kept) → IsValidProcedure p.procedure
+    → (block : ℕ) (keys keys' : List ℕ) (known known' old : List Known) (node : ℕ) (v : Value) (next : Option ℕ)
     → AreListed p block keys known old (Some node) → slice_get (values_from p block (Some node)) 0 ≡ Some v
     → keys' ≡ insert_key nat_eq keys v.id → known' ≡ known ++ known_in block v ∷ []
     → values_from p block next ≡ drop 1 (values_from p block (Some node)) → IfSome next (λ n. IsIn p n block) → AreListed p block keys' known' old next
@@ -65,8 +66,10 @@ listed_next p valid block keys keys' known known' old node v next listed e inser
     let place = listed.place in
     let at : listed.walk.place ≡ place = omega (arith, listed.count, listed.walk.count) in
     let stands : StandsAt q block place v = subst (λ n. StandsAt q block n v) at (walk_stands p block node v before whole listed.walk e) in
-    let new : list_any (nat_eq v.id) keys ≡ false = subst (λ (ks : List ℕ). list_any (nat_eq v.id) ks ≡ false) (sym listed.are) (is_new q valid block place v stands) in
-    let long : length (values_from p block (Some node)) ≡ suc (length (values_from p block next)) = ap (λ (ws : List Value). length ws) (values_next p block node v next e rest) in
+    let new : list_any (nat_eq v.id) keys ≡ false =
+    subst (λ (ks : List ℕ). list_any (nat_eq v.id) ks ≡ false) (sym listed.are) (is_new q valid block place v stands) in
+    let long : length (values_from p block (Some node)) ≡ suc (length (values_from p block next)) =
+    ap (λ (ws : List Value). length ws) (values_next p block node v next e rest) in
     record {
       walk = walk_next p block node v next before (λ (ws : List Value). known' ++ map (known_in block) ws) whole listed.walk e
           (λ ws. joined known known' (known_in block v ∷ []) (map (known_in block) ws) more) rest there;
@@ -129,7 +132,8 @@ few_ids p few = omega (arith, length-map (all_values p) (λ (v : Value). v.id), 
 abbrev pub with_code : Tables → List AirInst → List ℕ → List Value → List AirInst × List ℕ
 with_code t insts targets vs = (insts ++ flat_map (value_code t) vs, targets ++ flat_map targets_of vs)
 
-pub code_next : (t : Tables) (insts insts' : List AirInst) (targets targets' : List ℕ) (v : Value) → insts' ≡ insts ++ value_code t v → targets' ≡ targets ++ targets_of v
+pub code_next : (t : Tables) (insts insts' : List AirInst) (targets targets' : List ℕ) (v : Value) → insts' ≡ insts ++ value_code t v
+    → targets' ≡ targets ++ targets_of v
     → (vs : List Value) → with_code t insts' targets' vs ≡ with_code t insts targets (v ∷ vs)
 code_next t insts insts' targets targets' v more_insts more_targets vs =
     let first = joined insts insts' (value_code t v) (flat_map (value_code t) vs) more_insts in
@@ -137,13 +141,16 @@ code_next t insts insts' targets targets' v more_insts more_targets vs =
     λ i. (first i, second i)
 
 pub code_end : (t : Tables) (p : Procedure) (block : ℕ) (of : Block) (insts : List AirInst) (targets : List ℕ) → slice_get p.blocks block ≡ Some of
-    → with_code t insts targets [] ≡ with_code t [] [] (values_of p block) → (b : AirBlock) → b ≡ record { insts = insts; targets = targets } → b ≡ block_code t of
+    → with_code t insts targets [] ≡ with_code t [] [] (values_of p block) → (b : AirBlock) → b ≡ record { insts = insts; targets = targets }
+    → b ≡ block_code t of
 unfolding block_code
 code_end t p block of insts targets there all b is =
     let same : slice_index_or p.blocks block no_block ≡ of = get_or_from_slice_get p.blocks block of no_block there in
     let vs : values_of p block ≡ of.values = ap (λ (x : Block). x.values) same in
-    let first : insts ≡ flat_map (value_code t) of.values = sym (append-nil insts) ∙ ap (λ (q : List AirInst × List ℕ). q.0) all ∙ ap (flat_map (value_code t)) vs in
-    let second : targets ≡ flat_map targets_of of.values = sym (append-nil targets) ∙ ap (λ (q : List AirInst × List ℕ). q.1) all ∙ ap (flat_map targets_of) vs in
+    let first : insts ≡ flat_map (value_code t) of.values =
+    sym (append-nil insts) ∙ ap (λ (q : List AirInst × List ℕ). q.0) all ∙ ap (flat_map (value_code t)) vs in
+    let second : targets ≡ flat_map targets_of of.values =
+    sym (append-nil targets) ∙ ap (λ (q : List AirInst × List ℕ). q.1) all ∙ ap (flat_map targets_of) vs in
     is ∙ ap (λ l. record { insts = l; targets = targets }) first ∙ ap (λ l. record { insts = flat_map (value_code t) of.values; targets = l }) second
 
 -- the successors that a value names are blocks
@@ -156,8 +163,10 @@ low_targets p valid fit few block j v at =
 
 -- ---- the blocks, behind the entry
 
-pub block_added : (t : Tables) (p : Procedure) (e : AirBlock) (block : ℕ) (of : Block) (b : AirBlock) (list list' : List AirBlock) → slice_get p.blocks block ≡ Some of
-    → b ≡ block_code t of → list ≡ e ∷ map (block_code t) (take block p.blocks) → list' ≡ list ++ b ∷ [] → list' ≡ e ∷ map (block_code t) (take (block + 1) p.blocks)
+pub block_added : (t : Tables) (p : Procedure) (e : AirBlock) (block : ℕ) (of : Block) (b : AirBlock) (list list' : List AirBlock)
+    → slice_get p.blocks block ≡ Some of
+    → b ≡ block_code t of → list ≡ e ∷ map (block_code t) (take block p.blocks) → list' ≡ list ++ b ∷ []
+    → list' ≡ e ∷ map (block_code t) (take (block + 1) p.blocks)
 block_added t p e block of b list list' there is so_far more =
     more ∙ ap (λ l. l ++ b ∷ []) so_far ∙ ap (λ c. e ∷ (map (block_code t) (take block p.blocks) ++ c ∷ [])) is
     ∙ ap (λ l. e ∷ l) (sym (map-append (block_code t) (take block p.blocks) (of ∷ [])) ∙ ap (map (block_code t)) (sym (take_item p.blocks block of there)))

@@ -139,7 +139,8 @@ place_found ns id place e = by (nat_lt (position_or_len (nat_eq id) ns) (length 
 pub place_missed : (ns : List ℕ) (id : ℕ) → position (nat_eq id) ns ≡ None → length ns ≡ place_among ns id
 place_missed ns id e = by (nat_lt (position_or_len (nat_eq id) ns) (length ns)) refl e
   where
-    by : (b : Bool) → nat_lt (position_or_len (nat_eq id) ns) (length ns) ≡ b → cond b (Some (position_or_len (nat_eq id) ns)) None ≡ None → length ns ≡ place_among ns id
+    by : (b : Bool) → nat_lt (position_or_len (nat_eq id) ns) (length ns) ≡ b → cond b (Some (position_or_len (nat_eq id) ns)) None ≡ None
+        → length ns ≡ place_among ns id
     by true is none = cc
     by false is none = omega (arith, ltb-false (position_or_len (nat_eq id) ns) (length ns) is, place_is_position ns id, place_most ns id)
 
@@ -160,7 +161,8 @@ row_get [] b j v e = absurd cc
 row_get (x ∷ blocks) zero j v e =
     let same : 0 + j ≡ j = omega arith in ap (slice_get (row (x ∷ blocks))) same ∙ get_front x.values (row blocks) j v e
 row_get (x ∷ blocks) (suc b) j v e =
-    let far : length (x.values ++ row (take b blocks)) + j ≡ length x.values + number blocks b j = omega (arith, length-append x.values (row (take b blocks))) in
+    let far : length (x.values ++ row (take b blocks)) + j ≡ length x.values + number blocks b j =
+    omega (arith, length-append x.values (row (take b blocks))) in
     ap (slice_get (row (x ∷ blocks))) far ∙ get_behind x.values (row blocks) (number blocks b j) ∙ row_get blocks b j v e
 
 pub known_get : (n : ℕ) (blocks : List Block) (b j : ℕ) (v : Value) → slice_get (values_in blocks b) j ≡ Some v
@@ -174,7 +176,8 @@ known_get n (x ∷ blocks) zero j v e =
     (slice_get-map (known_in n) x.values j ∙ ap (option_map (known_in n)) e)
     ∙ ap (λ m. Some (known_in m v)) here
 known_get n (x ∷ blocks) (suc b) j v e =
-    let far : length (x.values ++ row (take b blocks)) + j ≡ length (map (known_in n) x.values) + number blocks b j = omega (arith, length-append x.values (row (take b blocks)), length-map x.values (known_in n)) in
+    let far : length (x.values ++ row (take b blocks)) + j ≡ length (map (known_in n) x.values) + number blocks b j =
+    omega (arith, length-append x.values (row (take b blocks)), length-map x.values (known_in n)) in
     let here : suc n + b ≡ n + suc b = omega arith in
     ap (slice_get (known_from n (x ∷ blocks))) far ∙ get_behind (map (known_in n) x.values) (known_from (suc n) blocks) (number blocks b j)
     ∙ known_get (suc n) blocks b j v e ∙ ap (λ m. Some (known_in m v)) here
@@ -234,7 +237,8 @@ pub is_new : (p : Procedure) → IsValidProcedure p → (b j : ℕ) (v : Value) 
 is_new p valid b j v at =
     none_joined v.id (ids (row (take b p.blocks))) (ids (take j (values_of p b)))
     (none_in_row v.id p.blocks b (λ c m w lt there. valid rule.Ids (ValueAt b j v) at c m w there (inl lt)))
-    (none_in v.id (take j (values_of p b)) (λ m w there. let t = get_taken (values_of p b) j m w there in valid rule.Ids (ValueAt b j v) at b m w t.1 (inr (refl, t.0))))
+    (none_in v.id (take j (values_of p b))
+    (λ m w there. let t = get_taken (values_of p b) j m w there in valid rule.Ids (ValueAt b j v) at b m w t.1 (inr (refl, t.0))))
 
 -- a value's block is one of the procedure
 pub in_blocks : (blocks : List Block) (b j : ℕ) (v : Value) → slice_get (values_in blocks b) j ≡ Some v → b < length blocks
@@ -266,7 +270,8 @@ place_is p valid b j v at =
     ap ids (all ∙ ap (λ vs. front ++ vs) (append_assoc here (v ∷ cut.0) whole.0) ∙ sym (append_assoc front here (v ∷ (cut.0 ++ whole.0))))
     ∙ map-append (λ (x : Value). x.id) (front ++ here) (v ∷ (cut.0 ++ whole.0))
     ∙ ap (λ ns. ns ++ v.id ∷ ids (cut.0 ++ whole.0)) (map-append (λ (x : Value). x.id) front here) in
-    let long : length (ids front ++ ids here) ≡ length front + j = omega (arith, length-append (ids front) (ids here), length-map front (λ (x : Value). x.id), length-map here (λ (x : Value). x.id), cut.2) in
+    let long : length (ids front ++ ids here) ≡ length front + j =
+    omega (arith, length-append (ids front) (ids here), length-map front (λ (x : Value). x.id), length-map here (λ (x : Value). x.id), cut.2) in
     ap (λ ns. place_among ns v.id) all_ids ∙ place_behind (ids front ++ ids here) (ids (cut.0 ++ whole.0)) v.id (is_new p valid b j v at) ∙ long
 
 -- the id at a place of the row has this place

@@ -96,7 +96,8 @@ use_by block op at (c ∷ children) zero id e =
     subst (λ (w : Use). Contains (u ∷ rest) w) as_it_is (contains_head u rest)
 use_by block op at (c ∷ children) (suc i) id e =
     let next : suc at + i ≡ at + suc i = omega arith in
-    contains_tail (record { id = c; block = block; opcode = op; at = at }) (uses_from block op (suc at) children) (record { id = id; block = block; opcode = op; at = at + suc i })
+    contains_tail (record { id = c; block = block; opcode = op; at = at }) (uses_from block op (suc at) children)
+    (record { id = id; block = block; opcode = op; at = at + suc i })
     (subst (λ n. Contains (uses_from block op (suc at) children) (record { id = id; block = block; opcode = op; at = n })) next
     (use_by block op (suc at) children i id e))
 
@@ -104,11 +105,13 @@ use_in_block : (block : ℕ) (vs : List Value) (v : Value) (u : Use) → Contain
 use_in_block block [] v u has is = absurd (contains_none v has)
 use_in_block block (w ∷ vs) v u has is =
     ⊎_elim
-    (λ (same : w ≡ v). Contains-append_left (uses_by block w) (flat_map (uses_by block) vs) u (subst (λ (x : Value). Contains (uses_by block x) u) (sym same) is))
+    (λ (same : w ≡ v). Contains-append_left (uses_by block w) (flat_map (uses_by block) vs) u
+    (subst (λ (x : Value). Contains (uses_by block x) u) (sym same) is))
     (λ (more : Contains vs v). Contains-append_right (uses_by block w) (flat_map (uses_by block) vs) u (use_in_block block vs v u more is))
     (contains_cases w vs v has)
 
-use_in : (n : ℕ) (blocks : List Block) (b : ℕ) (v : Value) (u : Use) → Contains (values_in blocks b) v → Contains (uses_by (n + b) v) u → Contains (uses_in n blocks) u
+use_in : (n : ℕ) (blocks : List Block) (b : ℕ) (v : Value) (u : Use) → Contains (values_in blocks b) v → Contains (uses_by (n + b) v) u
+    → Contains (uses_in n blocks) u
 use_in n [] b v u has is = absurd (contains_none v has)
 use_in n (x ∷ blocks) zero v u has is =
     let here : n + 0 ≡ n = omega arith in
@@ -151,7 +154,8 @@ its_id (w ∷ us) id u rest e =
     (eqb_tells w.id id)
 
 -- what fits as a condition compares or tests a bit
-pub condition_kind : (x : Index) (op : Opcode) (at : ℕ) (k : Known) → condition_fits x op at k ≡ true → (is_comparison k.opcode ≡ true) ⊎ (is_bit_test x k ≡ true)
+pub condition_kind : (x : Index) (op : Opcode) (at : ℕ) (k : Known) → condition_fits x op at k ≡ true
+    → (is_comparison k.opcode ≡ true) ⊎ (is_bit_test x k ≡ true)
 condition_kind x opcode.Branch zero k e = one_of (is_comparison k.opcode) (is_bit_test x k) e
 condition_kind x opcode.Branch (suc at) k e = absurd cc
 condition_kind x opcode.Select zero k e = inl e
@@ -206,10 +210,12 @@ sound p valid = record {
       let all = foldable p id folded in
       let there : Contains (uses p) u =
       use_in 0 p.blocks b v u has
-      (subst (λ n. Contains (uses_by n v) u) (zero_more b) (subst (λ n. Contains (uses_by b v) (record { id = id; block = b; opcode = v.kind.opcode; at = n })) (zero_less i)
+      (subst (λ n. Contains (uses_by n v) u) (zero_more b)
+      (subst (λ n. Contains (uses_by b v) (record { id = id; block = b; opcode = v.kind.opcode; at = n })) (zero_less i)
       (use_by b v.kind.opcode 0 v.children i id e))) in
       each_passes (fits (index_of p)) (uses p) id u
-      (both_first (list_all (fits (index_of p)) (uses_of (uses p) id)) (is_constant (known (index_of p) id).opcode || nat_eq (length (uses_of (uses p) id)) 1) all) there refl;
+      (both_first (list_all (fits (index_of p)) (uses_of (uses p) id))
+      (is_constant (known (index_of p) id).opcode || nat_eq (length (uses_of (uses p) id)) 1) all) there refl;
   kinds = λ b v has folded. foldable_kind (index_of p) (uses p) v.id (known_in b v) (known_as b v has) (foldable p v.id folded);
 }
   where

@@ -69,7 +69,8 @@ in_block P blocks all b v has =
           absurd (contains_none v (subst (λ (l : List Value). Contains l v) none has))
     ]
 
-pub names_none : (p : Procedure) → AllFit p.blocks → (b : ℕ) (v : Value) → Contains (values_of p b) v → is_terminal v.kind.opcode ≡ false → successors_in v.body ≡ []
+pub names_none : (p : Procedure) → AllFit p.blocks → (b : ℕ) (v : Value) → Contains (values_of p b) v → is_terminal v.kind.opcode ≡ false
+    → successors_in v.body ≡ []
 names_none p fit b v has e =
     let fits : Fits v = in_block Fits p.blocks fit b v has in
     names_no_block (row_of v.kind.opcode).carries v.ty _ v.body (inner_carries v.kind.opcode e) fits.body
@@ -88,5 +89,6 @@ targets_last (v ∷ w ∷ vs) ends none =
     (v ∷ more.0, more.1, ap (λ l. v ∷ l) more.2, more.3, ap (λ l. l ++ flat_map targets_of (w ∷ vs)) own ∙ more.4)
 
 pub block_targets : (p : Procedure) → AllFit p.blocks → (b : ℕ) → EndsBlock (values_of p b)
-    → (inner : List Value) × (last : Value) × (values_of p b ≡ inner ++ last ∷ []) × (is_terminal last.kind.opcode ≡ true) × (flat_map targets_of (values_of p b) ≡ targets_of last)
+    → (inner : List Value) × (last : Value) × (values_of p b ≡ inner ++ last ∷ [])
+    × (is_terminal last.kind.opcode ≡ true) × (flat_map targets_of (values_of p b) ≡ targets_of last)
 block_targets p fit b ends = targets_last (values_of p b) ends (names_none p fit b)

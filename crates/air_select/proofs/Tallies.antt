@@ -57,7 +57,9 @@ one_there : (x : Index) (ts : List Tally) (u : Use) (k : ℕ) → k ≢ place x 
 unfolding with_one
 one_there x ts u k differ = by (nat_lt (place x u.id) (length ts))
   where
-    by : (b : Bool) → slice_index_or (if b then slice_set ts (place x u.id) (with_use (slice_index_or ts (place x u.id) no_use) (fits x u)) else ts) k no_use ≡ slice_index_or ts k no_use
+    by : (b : Bool)
+        → slice_index_or (if b then slice_set ts (place x u.id) (with_use (slice_index_or ts (place x u.id) no_use) (fits x u)) else ts) k no_use
+        ≡ slice_index_or ts k no_use
     by true = get_or-set_other ts (place x u.id) k (with_use (slice_index_or ts (place x u.id) no_use) (fits x u)) no_use differ
     by false = refl
 
@@ -128,7 +130,8 @@ folded_is x us id k n long lt is_k =
     let mine = uses_of us id in
     let tally : slice_index_or (with_all x (none n) us) (place x id) no_use ≡ tally_from x no_use mine =
     tally_of x (none n) us id (none_length n ∙ long) lt ∙ ap (λ t. tally_from x t mine) (none_at n (place x id)) in
-    let count : nat_eq (tally_from x no_use mine).count 1 ≡ nat_eq (length mine) 1 = count_of x no_use mine (omega arith) ∙ ap (λ m. nat_eq m 1) (zero_more (length mine)) in
+    let count : nat_eq (tally_from x no_use mine).count 1 ≡ nat_eq (length mine) 1 =
+    count_of x no_use mine (omega arith) ∙ ap (λ m. nat_eq m 1) (zero_more (length mine)) in
     ap (is_folded k) tally
     ∙ ap (λ b. b && (is_constant k.opcode || nat_eq (tally_from x no_use mine).count 1)) (fit_of x no_use mine)
     ∙ ap (λ b. list_all (fits x) mine && (is_constant k.opcode || b)) count
@@ -155,7 +158,8 @@ tallied_next x p whole ts ts' block lt tallied e =
     let step : uses_in block (drop block p.blocks) ≡ here ++ uses_in (block + 1) behind =
     ap (uses_in block) (drop_block p.blocks block lt) ∙ ap (λ n. here ++ uses_in n behind) (next block) in
     record {
-      all = ap (λ l. with_all x l (uses_in (block + 1) behind)) e ∙ sym (with_all-append x ts here (uses_in (block + 1) behind)) ∙ ap (with_all x ts) (sym step) ∙ tallied.all;
+      all = ap (λ l. with_all x l (uses_in (block + 1) behind)) e ∙ sym (with_all-append x ts here (uses_in (block + 1) behind))
+      ∙ ap (with_all x ts) (sym step) ∙ tallied.all;
       long = ap length e ∙ all_length x ts here ∙ tallied.long;
     }
   where
@@ -176,7 +180,8 @@ unfolding with_one
 one_set x ts ts' u k t t' at there with set =
     let within : nat_lt (place x u.id) (length ts) ≡ true = lt-ltb (place x u.id) (length ts) (omega (arith, slice_get_within ts k t there)) in
     let was : slice_index_or ts k no_use ≡ t = get_or_from_slice_get ts k t no_use there in
-    rw within (set ∙ ap (slice_set ts k) (with ∙ ap (λ s. with_use s (fits x u)) (sym was)) ∙ ap (λ n. slice_set ts n (with_use (slice_index_or ts n no_use) (fits x u))) at)
+    rw within (set ∙ ap (slice_set ts k) (with ∙ ap (λ s. with_use s (fits x u)) (sym was))
+    ∙ ap (λ n. slice_set ts n (with_use (slice_index_or ts n no_use) (fits x u))) at)
 
 pub one_kept : (x : Index) (ts : List Tally) (u : Use) (k : ℕ) → k ≡ place x u.id → length ts ≤ k → ts ≡ with_one x ts u
 unfolding with_one
@@ -191,7 +196,8 @@ pub child_next : (x : Index) (block : ℕ) (op : Opcode) (ts ts' whole : List Ta
 child_next x block op ts ts' whole children at lt all more =
     let step : drop at children ≡ get_or children at 0 ∷ drop (at + 1) children = drop_more children at 0 lt in
     ap (λ l. with_all x l (uses_from block op (at + 1) (drop (at + 1) children))) more
-    ∙ ap (λ n. with_all x (with_one x ts (record { id = get_or children at 0; block = block; opcode = op; at = at })) (uses_from block op n (drop (at + 1) children))) (next at)
+    ∙ ap (λ n. with_all x (with_one x ts (record { id = get_or children at 0; block = block; opcode = op; at = at }))
+    (uses_from block op n (drop (at + 1) children))) (next at)
     ∙ sym (ap (λ l. with_all x ts (uses_from block op at l)) step) ∙ all
   where
     next : (n : ℕ) → n + 1 ≡ suc n

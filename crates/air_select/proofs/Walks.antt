@@ -70,7 +70,8 @@ walk_next p block node v next with_rest with_less whole walk e makes rest there 
     }
 
 -- the value of a node stands at its place
-pub walk_stands : {X : Type 0} (p : Kept) (block node : ℕ) (v : Value) (with_rest : List Value → X) (whole : X) (walk : IsWalked p block with_rest whole (Some node))
+pub walk_stands : {X : Type 0} (p : Kept) (block node : ℕ) (v : Value) (with_rest : List Value → X) (whole : X)
+    (walk : IsWalked p block with_rest whole (Some node))
     → slice_get (values_from p block (Some node)) 0 ≡ Some v → StandsAt p.procedure block walk.place v
 walk_stands p block node v with_rest whole walk e =
     get_dropped (values_of p.procedure block) walk.place v (subst (λ (vs : List Value). slice_get vs 0 ≡ Some v) walk.rest e)

@@ -76,7 +76,8 @@ pub(crate) fn push_move(
     from: Arg,
     to: Home,
 ) -> Result<(), NoMemory>
-    ensures { OnOk result (insts.new ≡ insts.old ++ code.entry_inst value AirOp.Move (code.use_at width from ∷ code.def_at width to ∷ []) ∷ []) }
+    ensures { OnOk result (insts.new ≡ insts.old
+        ++ code.entry_inst value AirOp.Move (code.use_at width from ∷ code.def_at width to ∷ []) ∷ []) }
 {
     let operands = two(alloc, use_at(width, from), def_at(width, to))?;
     push(insts, value, AirOp::Move, operands)

@@ -63,7 +63,8 @@ fn push_arguments(
     value: u32,
 ) -> Result<(), NoMemory>
     requires { 0 < length p.now.procedure.blocks }
-    ensures { OnOk result (insts.new ≡ insts.old ++ code.argument_moves index.now (values_of p.now.procedure 0) value 8) }
+    ensures { OnOk result (insts.new ≡ insts.old
+        ++ code.argument_moves index.now (values_of p.now.procedure 0) value 8) }
 {
     for r in 0..8u8 {
         if names_argument(p, r) {

@@ -38,7 +38,8 @@ fn note_block(
     requires valid { IsValidProcedure p.now.procedure }
     requires ids { ids.old.keys ≡ indexed.ids_before p.now.procedure block 0 }
     ensures ids { OnOk result (ids.new.keys ≡ indexed.ids_before p.now.procedure (block + 1) 0) }
-    ensures known { OnOk result (known.new ≡ known.old ++ map (tables.known_in block) (values_of p.now.procedure block)) }
+    ensures known { OnOk result (known.new ≡ known.old
+        ++ map (tables.known_in block) (values_of p.now.procedure block)) }
 {
     p.whole();
     let mut at = p.first(block);
@@ -105,7 +106,8 @@ fn block_of(alloc: Global, p: &Proc, t: &Tables, block: usize) -> Result<AirBloc
     requires in_blocks { block < length p.now.procedure.blocks }
     requires valid { IsValidProcedure p.now.procedure }
     requires few { length p.now.procedure.blocks ≤ 4096 }
-    ensures { IfOk result (λ b. (of : Block) → slice_get p.now.procedure.blocks block ≡ Some of → b ≡ code.block_code t.now of) }
+    ensures { IfOk result (λ b. (of : Block) → slice_get p.now.procedure.blocks block ≡ Some of
+        → b ≡ code.block_code t.now of) }
 {
     p.whole();
     let mut insts = AirInsts::new(alloc);
@@ -124,7 +126,8 @@ fn block_of(alloc: Global, p: &Proc, t: &Tables, block: usize) -> Result<AirBloc
 fn blocks_of(alloc: Global, p: &Proc, t: &Tables) -> Result<AirBlocks, NoMemory>
     requires valid { IsValidProcedure p.now.procedure }
     requires few { length p.now.procedure.blocks ≤ 4096 }
-    ensures { IfOk result (λ list. list ≡ code.entry_of t.now.index (values_of p.now.procedure 0) ∷ map (code.block_code t.now) p.now.procedure.blocks) }
+    ensures { IfOk result (λ list. list ≡ code.entry_of t.now.index (values_of p.now.procedure 0)
+        ∷ map (code.block_code t.now) p.now.procedure.blocks) }
 {
     let mut list = AirBlocks::new(alloc);
     list.push(entry(alloc, p, &t.index)?)?;
@@ -175,9 +178,11 @@ pub fn select(alloc: Global, valid: &Valid, proc: usize) -> Result<AirProc, NoMe
     ensures sites { IfOk result (λ q. HasOneSiteEach q) }
     ensures spills { IfOk result (λ q. NamesSpillsBelow 0 q) }
     ensures arithmetic { IfOk result (λ q. IsArithmetic q) }
-    ensures light { IfOk result (λ q. weight q ≤ 120 * total (procedure_at valid.now proc) + 32 * child_count (procedure_at valid.now proc) + 256) }
+    ensures light { IfOk result (λ q. weight q ≤ 120 * total (procedure_at valid.now proc)
+        + 32 * child_count (procedure_at valid.now proc) + 256) }
     ensures few { IfOk result (λ q. IsFew (procedure_at valid.now proc) q) }
-    ensures kept { IfOk result (λ q. q.slots ≡ map (λ (slot : SlotLine). slot.bytes) (procedure_at valid.now proc).slots) }
+    ensures kept { IfOk result (λ q. q.slots ≡ map (λ (slot : SlotLine). slot.bytes)
+        (procedure_at valid.now proc).slots) }
     ensures returns_32 { IfOk result (λ q. q.returns ≡ returns.W32 → ReturnsType (procedure_at valid.now proc) Int32) }
     ensures returns_64 { IfOk result (λ q. q.returns ≡ returns.W64 → ReturnsType (procedure_at valid.now proc) Int64) }
     ensures folded { IfOk result (λ q. IsFolded (procedure_at valid.now proc) q) }

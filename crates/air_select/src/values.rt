@@ -219,7 +219,9 @@ fn push_three(
 
 /// The operands of a choice: those of its test, the two words, and the result.
 fn choice(alloc: Global, t: &Tables, v: &Value) -> Result<Operands, NoMemory>
-    ensures { IfOk result (λ os. os ≡ (code.condition_of t.now (tables.child v.now.children 0)).over ++ code.use_of t.now (tables.child v.now.children 1) ∷ code.use_of t.now (tables.child v.now.children 2) ∷ code.result_of t.now v.now ∷ []) }
+    ensures { IfOk result (λ os. os ≡ (code.condition_of t.now (tables.child v.now.children 0)).over
+        ++ code.use_of t.now (tables.child v.now.children 1) ∷ code.use_of t.now (tables.child v.now.children 2)
+        ∷ code.result_of t.now v.now ∷ []) }
 {
     let mut operands = tested(alloc, t, child(&v.children, 0))?;
     let first = use_child(t, v, 1);
@@ -235,7 +237,8 @@ fn push_select(
     t: &Tables,
     v: &Value,
 ) -> Result<(), NoMemory>
-    ensures { OnOk result (insts.new ≡ insts.old ++ code.select_on t.now v.now (code.condition_of t.now (tables.child v.now.children 0))) }
+    ensures { OnOk result (insts.new ≡ insts.old
+        ++ code.select_on t.now v.now (code.condition_of t.now (tables.child v.now.children 0))) }
 {
     let operands = choice(alloc, t, v)?;
     let test = test_of(t, child(&v.children, 0));
@@ -249,7 +252,8 @@ fn push_branch(
     t: &Tables,
     v: &Value,
 ) -> Result<(), NoMemory>
-    ensures { OnOk result (insts.new ≡ insts.old ++ code.branch_on t.now v.now (code.condition_of t.now (tables.child v.now.children 0))) }
+    ensures { OnOk result (insts.new ≡ insts.old
+        ++ code.branch_on t.now v.now (code.condition_of t.now (tables.child v.now.children 0))) }
 {
     let id = child(&v.children, 0);
     let operands = tested(alloc, t, id)?;
@@ -273,7 +277,9 @@ fn push_switch(
     t: &Tables,
     v: &Value,
 ) -> Result<(), NoMemory>
-    ensures { OnOk result (insts.new ≡ insts.old ++ code.inst v.now (AirOp.Switch (code.cases_in v.now.body)) (code.use_of t.now (tables.child v.now.children 0) ∷ []) ∷ []) }
+    ensures { OnOk result (insts.new ≡ insts.old
+        ++ code.inst v.now (AirOp.Switch (code.cases_in v.now.body))
+        (code.use_of t.now (tables.child v.now.children 0) ∷ []) ∷ []) }
 {
     let cases = cases_in(alloc, &v.body)?;
     let operands = one(alloc, use_child(t, v, 0))?;
@@ -363,7 +369,8 @@ fn push_copy(
     t: &Tables,
     v: &Value,
 ) -> Result<(), NoMemory>
-    ensures { OnOk result (insts.new ≡ insts.old ++ code.copy_of v.now (code.copied t.now v.now.kind.opcode v.now) ∷ []) }
+    ensures { OnOk result (insts.new ≡ insts.old
+        ++ code.copy_of v.now (code.copied t.now v.now.kind.opcode v.now) ∷ []) }
 {
     let (width, from, to) = copied(t, v);
     push_move(alloc, insts, v.id, width, from, to)

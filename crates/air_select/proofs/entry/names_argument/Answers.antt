@@ -17,7 +17,8 @@ pub loop-at-preserved : goal.loop-at-preserved
 loop-at-preserved c =
     let v = c.value.result.now in
     let walk = rw c.in-Some.is at c.loop-at.invariant in
-    walk_next c.args.p.now 0 c.in-Some.node v c.next-at.result (λ (vs : List Value). names_argument vs c.args.r) (λ (vs : List Value). names_argument vs c.args.r)
+    walk_next c.args.p.now 0 c.in-Some.node v c.next-at.result (λ (vs : List Value). names_argument vs c.args.r)
+    (λ (vs : List Value). names_argument vs c.args.r)
     (names_argument (values_of c.args.p.now.procedure 0) c.args.r)
     walk (c.value.ensures.head 0 walk.there) (argument_passed c.args.r v (sym c.names_register.ensures ∙ c.if-names_register.false))
     (c.next-at.ensures.rest 0 walk.there) (c.next-at.ensures.there 0 walk.there)
@@ -28,4 +29,5 @@ returns-then-names_register c =
     let walk = rw c.in-Some.is at c.loop-at.invariant in
     let p = c.args.p.now in
     argument_found c.args.r v (drop 1 (values_from p 0 (Some c.in-Some.node))) (sym c.names_register.ensures ∙ c.if-names_register.true)
-    ∙ walk_here p 0 c.in-Some.node v (λ (vs : List Value). names_argument vs c.args.r) (names_argument (values_of p.procedure 0) c.args.r) walk (c.value.ensures.head 0 walk.there)
+    ∙ walk_here p 0 c.in-Some.node v (λ (vs : List Value). names_argument vs c.args.r) (names_argument (values_of p.procedure 0) c.args.r) walk
+    (c.value.ensures.head 0 walk.there)

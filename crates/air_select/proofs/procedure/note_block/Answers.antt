@@ -4,7 +4,9 @@ use Rattle.air_select.proofs.Walks.{walk_smaller}
 use Rattle.air_select.proofs.procedure.note_block.Goals as goal
 
 pub loop-at-init : goal.loop-at-init
-loop-at-init c = listed_first c.args.p.now c.args.block c.args.ids.now.keys c.args.known.now c.first-at.result c.requires.ids c.first-at.ensures.rest c.first-at.ensures.there
+loop-at-init c =
+    listed_first c.args.p.now c.args.block c.args.ids.now.keys c.args.known.now c.first-at.result c.requires.ids c.first-at.ensures.rest
+    c.first-at.ensures.there
 
 pub loop-at-smaller : goal.loop-at-smaller
 loop-at-smaller c =
@@ -20,7 +22,8 @@ loop-at-preserved c =
     let v = c.value-value.result.now in
     let listed = rw c.in-Some.is at c.loop-at.invariant in
     let there = listed.walk.there in
-    listed_next c.args.p.now c.requires.valid b c.loop-at.ids.keys c.insert_full.new.self.keys c.loop-at.known c.push.new.self c.args.known.now c.in-Some.node v c.next-at.result
+    listed_next c.args.p.now c.requires.valid b c.loop-at.ids.keys c.insert_full.new.self.keys c.loop-at.known
+    c.push.new.self c.args.known.now c.in-Some.node v c.next-at.result
     listed (c.value-value.ensures.head b there) c.in_ok-insert_full.ensures.keys
     (c.in_ok-push.ensures.ok ∙ ap (λ k. c.loop-at.known ++ k ∷ []) c.known_in.ensures) (c.next-at.ensures.rest b there) (c.next-at.ensures.there b there)
 

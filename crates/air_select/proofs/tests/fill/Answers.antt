@@ -7,7 +7,8 @@ use Rattle.air_select.proofs.tests.fill.Goals as goal
 
 made : (name : List ℕ) (line : ℕ) (p0 p1 p2 p3 : Procedure) (block : ℕ) (v w : Value) → p0 ≡ empty_procedure name line
     → p1 ≡ record p0 { blocks = p0.blocks ++ empty_block (length p0.blocks) p0.line ∷ [] } → block ≡ length p0.blocks
-    → p2 ≡ with_values p1 block (values_of p1 block ++ v ∷ []) → p3 ≡ with_values p2 block (values_of p2 block ++ w ∷ []) → v ≡ constant_value → w ≡ return_value → p3 ≡ seven name line
+    → p2 ≡ with_values p1 block (values_of p1 block ++ v ∷ []) → p3 ≡ with_values p2 block (values_of p2 block ++ w ∷ []) → v ≡ constant_value
+    → w ≡ return_value → p3 ≡ seven name line
 made name line p0 p1 p2 p3 block v w e0 e1 place e2 e3 is_v is_w = rw (e3, e2, e1, place, e0, is_v, is_w) refl
 
 pub returns-clause-built : goal.returns-clause-built
