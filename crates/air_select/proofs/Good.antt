@@ -355,7 +355,7 @@ module _ (p : Procedure) (valid : IsValidProcedure p) (fit : ValuesFit p.blocks)
         (fits.0, fits.1, subst (λ f. IsWord NoImmediate W32 (if f then Imm (known t.index (child v.children 1)).word else At (home t.index (child v.children 1)))) (sym unfolded) tt))
         (folds t (child v.children 1)) refl
 
-    code_has : (o : Opcode) → v.kind.opcode ≡ o → is_built o ≡ true → All Has (code_of t o v)
+    pub code_has : (o : Opcode) → v.kind.opcode ≡ o → is_built o ≡ true → All Has (code_of t o v)
     code_has opcode.Nop is built = All-nil Has
     code_has opcode.Const32 is built =
         one_move (width_of v.ty) (Imm (word_in v.body)) (home t.index v.id) (constant_word opcode.Const32 is (role_row opcode.Const32 is))
