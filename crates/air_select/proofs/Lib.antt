@@ -37,3 +37,4 @@ pub mod Tallies
 pub mod Tested
 pub mod Walks
 pub mod Weights
+pub mod Well

@@ -4,6 +4,7 @@ use Rattle.std.specs.Prelude.{IfOk, Result, Ok, Err, slice_get, slice_index_or}
 use Rattle.std.specs.Option.{option_map}
 use Rattle.std.proofs.lemmas.Option.{slice_get-get_or, slice_get-map, slice_get_within}
 use Rattle.b3_ir.specs.Procedure.{AllFit, Block, Kept, Procedure, empty_kept, procedures, values_of}
+use Rattle.b3_ir.specs.declared.procedure.SlotLine.{SlotLine}
 use Rattle.b3_rules.specs.Valid.{IsValid, IsValidProcedure}
 use Rattle.b3_sound.proofs.FromValid.{is_kept}
 use Rattle.air_ir.specs.Run.{HasBlocksOf}
@@ -41,3 +42,7 @@ same p valid fit built =
 pub if_ok : {E : Type 0} (r : Result AirProc E) (P Q : AirProc → Type 0) → ((q : AirProc) → P q → Q q) → IfOk r P → IfOk r Q
 if_ok (Ok q) P Q f h = f q h
 if_ok (Err e) P Q f h = tt
+
+pub kept_slots : (p : Procedure) → (selected p).slots ≡ map (λ (slot : SlotLine). slot.bytes) p.slots
+unfolding selected_by
+kept_slots p = refl
