@@ -185,10 +185,17 @@ module _ (t : Tables) (v : Value) (id : ℕ) (folded : folds t id ≡ true) wher
   arg_is = rw folded refl
 
   computes_second : (op : AirOp) → slice_get v.children 1 ≡ Some id → HasInst (computes t v op) (HasSecond (known t.index id).word)
-  computes_second op at =
-      (0, inst v op (map (use_of t) v.children ++ result_of t v ∷ []), refl,
-      (use_of t id, get_front (map (use_of t) v.children) (result_of t v ∷ []) 1 (use_of t id)
-      (slice_get-map (use_of t) v.children 1 ∙ ap (option_map (use_of t)) at), arg_is))
+  computes_second op at = (
+    0,
+    inst v op (map (use_of t) v.children ++ result_of t v ∷ []),
+    refl,
+    (
+      use_of t id,
+      get_front (map (use_of t) v.children) (result_of t v ∷ []) 1 (use_of t id)
+          (slice_get-map (use_of t) v.children 1 ∙ ap (option_map (use_of t)) at),
+      arg_is,
+    ),
+  )
 
   rotates_second : slice_get v.children 1 ≡ Some id → HasInst (code_of t opcode.RotL v) (HasSecond (turned (width_of v.ty) (known t.index id).word))
   rotates_second at =
@@ -201,8 +208,12 @@ module _ (t : Tables) (v : Value) (id : ℕ) (folded : folds t id ≡ true) wher
       by amount same =
           subst (λ (a : ℕ). HasInst (if folds t a then rotate_by t v (Imm (turned (width_of v.ty) (known t.index a).word)) ∷ []
           else negative_amount t v ∷ rotate_by t v (At (first_extra t.index v.id)) ∷ []) (HasSecond (turned (width_of v.ty) (known t.index id).word))) same
-          (rw folded (0, rotate_by t v (Imm (turned (width_of v.ty) (known t.index id).word)), refl,
-          (use_at W32 (Imm (turned (width_of v.ty) (known t.index id).word)), refl, refl)))
+          (rw folded (
+            0,
+            rotate_by t v (Imm (turned (width_of v.ty) (known t.index id).word)),
+            refl,
+            (use_at W32 (Imm (turned (width_of v.ty) (known t.index id).word)), refl, refl),
+          ))
 
   -- an opcode that may have an immediate carries it
   carries_second : (o : Opcode) (width : Width) (word : ℕ) → is_immediate (second_immediates o) width word ≡ true → slice_get v.children 1 ≡ Some id
@@ -252,9 +263,13 @@ module _ (t : Tables) (v : Value) (id : ℕ) (folded : folds t id ≡ true) wher
       (0, inst v (op.BranchIf (comparing (known t.index id)).test) (comparing (known t.index id)).over, refl, (refl, refl))
   carries_comparison opcode.Select zero e is at =
       let c : condition_of t (child v.children 0) ≡ comparing (known t.index id) = ap (condition_of t) (child_is v.children 0 id at) ∙ compares is in
-      subst (λ (d : Condition). HasInst (select_on t v d) (Compared (known t.index id))) (sym c)
-      (0, inst v (op.SelectIf (comparing (known t.index id)).test)
-      ((comparing (known t.index id)).over ++ use_of t (child v.children 1) ∷ use_of t (child v.children 2) ∷ result_of t v ∷ []), refl, (refl, refl))
+      subst (λ (d : Condition). HasInst (select_on t v d) (Compared (known t.index id))) (sym c) (
+        0,
+        inst v (op.SelectIf (comparing (known t.index id)).test)
+            ((comparing (known t.index id)).over ++ use_of t (child v.children 1) ∷ use_of t (child v.children 2) ∷ result_of t v ∷ []),
+        refl,
+        (refl, refl),
+      )
   carries_comparison opcode.Branch (suc i) e is at = absurd cc
   carries_comparison opcode.Select (suc i) e is at = absurd cc
   carries_comparison _ i e is at = absurd cc
@@ -446,11 +461,15 @@ module _ (p : Procedure) (valid : IsValidProcedure p) (fit : AllFit p.blocks) wh
       let cut = split_at (values_of p c) m k at_k in
       let rules = (is_kept p valid fit_all).rules c (take m (values_of p c)) k (cut.0, cut.1) in
       let two = two_children (type_of p) k.kind.opcode k.ty k.children comparison (allowed k.kind.opcode k.ty (types_of p k) rules.typed) in
-      made b j v (TestsComparison p k) at (user_unfolded b j v at (user_kind index v.kind.opcode i.0 (known index k.id) fit))
-      (inst_has.0, inst_has.1, inst_has.2, (
-        inst_has.3.0 ∙ ap (λ (w : Known). Compare (condition w.opcode) ∷ []) is,
-        inst_has.3.1 ∙ ap (λ (w : Known). use_of t w.first ∷ use_of t w.second ∷ []) is ∙ ap (map (use_of t)) (sym two),
-      ))
+      made b j v (TestsComparison p k) at (user_unfolded b j v at (user_kind index v.kind.opcode i.0 (known index k.id) fit)) (
+        inst_has.0,
+        inst_has.1,
+        inst_has.2,
+        (
+          inst_has.3.0 ∙ ap (λ (w : Known). Compare (condition w.opcode) ∷ []) is,
+          inst_has.3.1 ∙ ap (λ (w : Known). use_of t w.first ∷ use_of t w.second ∷ []) is ∙ ap (map (use_of t)) (sym two),
+        ),
+      )
     where
       fit_all : AllFit p.blocks
       fit_all = fit
@@ -467,13 +486,17 @@ module _ (p : Procedure) (valid : IsValidProcedure p) (fit : AllFit p.blocks) wh
       let second : (known index k.id).second ≡ w.id = ap (λ (z : Known). z.second) is ∙ ap (λ l. child l 1) children in
       let word : (known index (known index k.id).second).word ≡ word_in w.body =
       ap (λ z. (known index z).word) second ∙ ap (λ (z : Known). z.word) (known_is p valid d n w at_w) in
-      made b j v (TestsBit p x (word_in w.body)) at (user_unfolded b j v at (user_kind index v.kind.opcode i.0 (known index k.id) fits_so))
-      (inst_has.0, inst_has.1, inst_has.2, (
-        bit_of (word_in w.body),
-        eqb-true (2 ^ bit_of (word_in w.body)) (word_in w.body) (subst (λ z. is_bit z ≡ true) word inst_has.3.0),
-        inst_has.3.1 ∙ ap (λ z. Bit (bit_of z) ∷ []) word,
-        inst_has.3.2 ∙ ap (λ z. use_of t z ∷ []) first,
-      ))
+      made b j v (TestsBit p x (word_in w.body)) at (user_unfolded b j v at (user_kind index v.kind.opcode i.0 (known index k.id) fits_so)) (
+        inst_has.0,
+        inst_has.1,
+        inst_has.2,
+        (
+          bit_of (word_in w.body),
+          eqb-true (2 ^ bit_of (word_in w.body)) (word_in w.body) (subst (λ z. is_bit z ≡ true) word inst_has.3.0),
+          inst_has.3.1 ∙ ap (λ z. Bit (bit_of z) ∷ []) word,
+          inst_has.3.2 ∙ ap (λ z. use_of t z ∷ []) first,
+        ),
+      )
 
   pub is_folded : IsFolded p (selected p)
   is_folded = record { none = none_made; constants = constants; comparisons = comparisons; bits = bits }

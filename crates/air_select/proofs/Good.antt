@@ -155,9 +155,11 @@ module _ (p : Procedure) (valid : IsValidProcedure p) (fit : ValuesFit p.blocks)
     first_of : (o : Opcode) → v.kind.opcode ≡ o → (c : ℕ) (cs : List ℕ) → v.children ≡ c ∷ cs → type_of p c ≢ Void
         → ((k : Known) → condition_fits t.index o 0 k ≡ false) → FirstFits
     first_of o is c cs e typed none =
-        let first : child v.children 0 ≡ c = ap (λ (l : List ℕ). child l 0) e in
-        (width_of (type_of p c), subst (λ (x : ℕ). Fits (Word (width_of (type_of p c)) NoImmediate) (use_of t x)) (sym first)
-        (forms.child_as p kept t sound b v here o is 0 c (type_of p c) (ap (λ (l : List ℕ). slice_get l 0) e) none refl typed))
+        let first : child v.children 0 ≡ c = ap (λ (l : List ℕ). child l 0) e in (
+          width_of (type_of p c),
+          subst (λ (x : ℕ). Fits (Word (width_of (type_of p c)) NoImmediate) (use_of t x)) (sym first)
+              (forms.child_as p kept t sound b v here o is 0 c (type_of p c) (ap (λ (l : List ℕ). slice_get l 0) e) none refl typed),
+        )
 
     -- ---- remainders
     quotient_has : (op : AirOp) (w : Width) → ((os : List Operand) → AllFit (Word w NoImmediate ∷ Word w NoImmediate ∷ Result w ∷ []) os → HasOperands r op os)
@@ -171,15 +173,21 @@ module _ (p : Procedure) (valid : IsValidProcedure p) (fit : ValuesFit p.blocks)
     rest_has : (to : Home) → Fits (Word (width_of v.ty) NoImmediate) (use_of t (child v.children 0)) → Fits (Word (width_of v.ty) NoImmediate) (use_of t (child v.children 1))
         → Has (rest_into t v to)
     rest_has to x y =
-        let w = width_of v.ty in
-        (w, w, fit_four (Word w NoImmediate) (Word w NoImmediate) (Word w NoImmediate) (Result w) (use_at w (At (first_extra t.index v.id)))
-        (use_of t (child v.children 1)) (use_of t (child v.children 0)) (def_at w to) (refl, refl, tt) y x (refl, refl, tt))
+        let w = width_of v.ty in (
+          w,
+          w,
+          fit_four (Word w NoImmediate) (Word w NoImmediate) (Word w NoImmediate) (Result w) (use_at w (At (first_extra t.index v.id)))
+              (use_of t (child v.children 1)) (use_of t (child v.children 0)) (def_at w to) (refl, refl, tt) y x (refl, refl, tt),
+        )
 
     chosen_has : Fits (Word (width_of v.ty) NoImmediate) (use_of t (child v.children 1)) → Has (chosen_rest t v)
     chosen_has y =
-        let w = width_of v.ty in
-        (w, w, fit_four (Word w NoImmediate) (Word w NoImmediate) (Word w NoImmediate) (Result w) (use_of t (child v.children 1))
-        (use_at w (At (second_extra t.index v.id))) (use_at w (At (first_extra t.index v.id))) (result_of t v) y (refl, refl, tt) (refl, refl, tt) (refl, refl, tt))
+        let w = width_of v.ty in (
+          w,
+          w,
+          fit_four (Word w NoImmediate) (Word w NoImmediate) (Word w NoImmediate) (Result w) (use_of t (child v.children 1))
+              (use_at w (At (second_extra t.index v.id))) (use_at w (At (first_extra t.index v.id))) (result_of t v) y (refl, refl, tt) (refl, refl, tt) (refl, refl, tt),
+        )
 
     remainder_has : (op : AirOp) → ((w : Width) (os : List Operand) → AllFit (Word w NoImmediate ∷ Word w NoImmediate ∷ Result w ∷ []) os → HasOperands r op os)
         → Fits (Word (width_of v.ty) NoImmediate) (use_of t (child v.children 0)) → Fits (Word (width_of v.ty) NoImmediate) (use_of t (child v.children 1)) → (c : Bool)
@@ -195,9 +203,12 @@ module _ (p : Procedure) (valid : IsValidProcedure p) (fit : ValuesFit p.blocks)
     -- ---- rotations
     rotate_has : (w : Width) → width_of v.ty ≡ w → (amount : Arg) → IsWord AnyWord W32 amount → Fits (Word w NoImmediate) (use_of t (child v.children 0))
         → Has (rotate_by t v amount)
-    rotate_has w e amount is x =
-        (w, w, fit_three (Word w NoImmediate) (Word W32 AnyWord) (Result w) (use_of t (child v.children 0)) (use_at W32 amount) (result_of t v)
-        x (refl, refl, is) (refl, e, tt))
+    rotate_has w e amount is x = (
+      w,
+      w,
+      fit_three (Word w NoImmediate) (Word W32 AnyWord) (Result w) (use_of t (child v.children 0)) (use_at W32 amount) (result_of t v)
+          x (refl, refl, is) (refl, e, tt),
+    )
 
     rotate_left_has : (w : Width) → width_of v.ty ≡ w → Fits (Word w NoImmediate) (use_of t (child v.children 0))
         → (folds t (child v.children 1) ≡ false → Fits (Word W32 NoImmediate) (use_of t (child v.children 1))) → (c : Bool) → folds t (child v.children 1) ≡ c
@@ -226,6 +237,7 @@ module _ (p : Procedure) (valid : IsValidProcedure p) (fit : ValuesFit p.blocks)
       where
         child_returns : (ds : List ℕ) → map (type_of p) cs ≡ map (type_of p) ds → returns_child t.index cs ≡ returns_child t.index ds
         child_returns ds types = returns_alike t.index (type_of p) sound.types cs ds types
+
         by_first : (x : Option Value) → first_return (all_values p) ≡ x → returns_child t.index cs ≡ returns_by t.index x
         by_first (Some w) first =
             child_returns w.children (sym (ap (map (type_of p)) e) ∙ valid rule.Returns (ValueAt b j v) at is w first)
@@ -310,8 +322,7 @@ module _ (p : Procedure) (valid : IsValidProcedure p) (fit : ValuesFit p.blocks)
         let first : child v.children 0 ≡ one.0 = ap (λ (l : List ℕ). child l 0) one.1 in
         let fits = forms.child_as p kept t sound b v here opcode.Switch is 0 one.0 ty (ap (λ (l : List ℕ). slice_get l 0) one.1) (λ k. refl) refl one.2 in
         let same : first_type (types_of p v) ≡ ty = ap (λ (l : List ℕ). first_type (map (type_of p) l)) one.1 in
-        let cases = subst (λ (k : Ty). AreCasesOf k v.body) same (valid rule.Cases (ValueAt b j v) at) in
-        (
+        let cases = subst (λ (k : Ty). AreCasesOf k v.body) same (valid rule.Cases (ValueAt b j v) at) in (
           width_of ty,
           fit_one (Word (width_of ty) NoImmediate) (use_of t (child v.children 0)) (subst (λ n. Fits (Word (width_of ty) NoImmediate) (use_of t n)) (sym first) fits),
           cases_differ ty v.body cases,
@@ -330,10 +341,13 @@ module _ (p : Procedure) (valid : IsValidProcedure p) (fit : ValuesFit p.blocks)
         let fz = forms.child_as p kept t sound b v here opcode.Select is 2 cs.2 a (ap (λ (l : List ℕ). slice_get l 2) cs.3) (λ k. refl) cs.6 some in
         let w = width_of a in
         let rest : List Takes = Word w NoImmediate ∷ Word w NoImmediate ∷ Result w ∷ [] in
-        let condition : Condition = condition_of t (child v.children 0) in
-        (c.0, w, fit_append (test_takes condition.test c.0) rest condition.over (use_of t (child v.children 1) ∷ use_of t (child v.children 2) ∷ result_of t v ∷ []) c.1
-        (fit_three (Word w NoImmediate) (Word w NoImmediate) (Result w) (use_of t (child v.children 1)) (use_of t (child v.children 2)) (result_of t v)
-        (subst (λ n. Fits (Word w NoImmediate) (use_of t n)) (sym y) fy) (subst (λ n. Fits (Word w NoImmediate) (use_of t n)) (sym z) fz) (refl, ap width_of own, tt)))
+        let condition : Condition = condition_of t (child v.children 0) in (
+          c.0,
+          w,
+          fit_append (test_takes condition.test c.0) rest condition.over (use_of t (child v.children 1) ∷ use_of t (child v.children 2) ∷ result_of t v ∷ []) c.1
+              (fit_three (Word w NoImmediate) (Word w NoImmediate) (Result w) (use_of t (child v.children 1)) (use_of t (child v.children 2)) (result_of t v)
+              (subst (λ n. Fits (Word w NoImmediate) (use_of t n)) (sym y) fy) (subst (λ n. Fits (Word w NoImmediate) (use_of t n)) (sym z) fz) (refl, ap width_of own, tt)),
+        )
 
     branch_has : v.kind.opcode ≡ opcode.Branch → (one : (c : ℕ) × (v.children ≡ c ∷ []) × (type_of p c ≢ Void))
         → Has (inst v (op.BranchIf (condition_of t (child v.children 0)).test) (condition_of t (child v.children 0)).over)
@@ -355,7 +369,7 @@ module _ (p : Procedure) (valid : IsValidProcedure p) (fit : ValuesFit p.blocks)
         (fits.0, fits.1, subst (λ f. IsWord NoImmediate W32 (if f then Imm (known t.index (child v.children 1)).word else At (home t.index (child v.children 1)))) (sym unfolded) tt))
         (folds t (child v.children 1)) refl
 
-    code_has : (o : Opcode) → v.kind.opcode ≡ o → is_built o ≡ true → All Has (code_of t o v)
+    pub code_has : (o : Opcode) → v.kind.opcode ≡ o → is_built o ≡ true → All Has (code_of t o v)
     code_has opcode.Nop is built = All-nil Has
     code_has opcode.Const32 is built =
         one_move (width_of v.ty) (Imm (word_in v.body)) (home t.index v.id) (constant_word opcode.Const32 is (role_row opcode.Const32 is))

@@ -139,8 +139,7 @@ module _ (p : Procedure) (t : Tables) (start : Start) (v : Value) (h : Here p t 
   pub jump_does : v.kind.opcode ≡ opcode.Jump → Does p t start v junk (b3.jumps h.st v.body) (steps (meaning start) (inst v op.Jump [] ∷ []) h.s junk)
   jump_does eo =
       let target = one_target v.body (row_of_role p t start v h opcode.Jump eo).1 in
-      subst (λ (b : Body). Does p t start v junk (b3.jumps h.st b) (steps (meaning start) (inst v op.Jump [] ∷ []) h.s junk)) (sym target.1)
-      (
+      subst (λ (b : Body). Does p t start v junk (b3.jumps h.st b) (steps (meaning start) (inst v op.Jump [] ∷ []) h.s junk)) (sym target.1) (
         0,
         h.s,
         steps_last start (inst v op.Jump []) h.s junk (Goes (Some (To 0)) h.s, junk)
@@ -261,8 +260,7 @@ module _ (p : Procedure) (t : Tables) (start : Start) (v : Value) (h : Here p t 
 
   returns_nothing : (ws : List ℕ) → ws ≡ [] → Does p t start v junk (b3.returns h.st ws) (steps (meaning start) (return_of t v []) h.s junk)
   returns_nothing ws e =
-      subst (λ (l : List ℕ). Does p t start v junk (b3.returns h.st l) (steps (meaning start) (return_of t v []) h.s junk)) (sym e)
-      (
+      subst (λ (l : List ℕ). Does p t start v junk (b3.returns h.st l) (steps (meaning start) (return_of t v []) h.s junk)) (sym e) (
         Returned None,
         h.s,
         steps_last start (inst v op.Return []) h.s junk (Goes (Some (Over (Returned None))) h.s, junk)
@@ -277,8 +275,7 @@ module _ (p : Procedure) (t : Tables) (start : Start) (v : Value) (h : Here p t 
       let copy = move v width (arg_of t c) (register 0) in
       let after = with_home h.s (register 0) width w in
       let last = inst v op.Return (use_at width (At (register 0)) ∷ []) in
-      subst (λ (l : List ℕ). Does p t start v junk (b3.returns h.st l) (steps (meaning start) (return_of t v (c ∷ [])) h.s junk)) (sym e)
-      (
+      subst (λ (l : List ℕ). Does p t start v junk (b3.returns h.st l) (steps (meaning start) (return_of t v (c ∷ [])) h.s junk)) (sym e) (
         Returned (Some w),
         after,
         steps_first start copy (last ∷ []) h.s after junk

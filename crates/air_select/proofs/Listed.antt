@@ -91,8 +91,8 @@ listed_end p block keys known old lt listed =
     let vs = values_of q block in
     let all : take listed.place vs ≡ vs = take_all listed.place vs (omega (arith, listed.count)) in (
       listed.are ∙ ap (λ (l : List Value). ids (row (take block q.blocks)) ++ ids l) all
-      ∙ sym (map-append (λ (w : Value). w.id) (row (take block q.blocks)) vs) ∙ ap ids (sym (row_next q.blocks block lt))
-      ∙ sym (append-nil (ids (row (take (block + 1) q.blocks)))),
+          ∙ sym (map-append (λ (w : Value). w.id) (row (take block q.blocks)) vs) ∙ ap ids (sym (row_next q.blocks block lt))
+          ∙ sym (append-nil (ids (row (take (block + 1) q.blocks)))),
       sym (append-nil known) ∙ listed.walk.makes,
     )
 

@@ -102,7 +102,7 @@ module _ (p : Procedure) (valid : IsKept p) (t : Tables) (sound : IsSound p t) w
           | inl constant ↦ (
             constant_small c typed constant.constant,
             immediate_is (immediates_at v.kind.opcode i) (width_at t.index c) (known t.index c).word
-            (fits_at v.kind.opcode i (width_at t.index c) (known t.index c).word constant.fits),
+                (fits_at v.kind.opcode i (width_at t.index c) (known t.index c).word constant.fits),
           )
           | inr condition ↦ absurd (let bad : true ≡ false = sym condition.fits ∙ none (known t.index c) in cc)
         ]

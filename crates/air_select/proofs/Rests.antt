@@ -259,4 +259,3 @@ unsigned_rest_is width x y w px e = go (nat_eq y 0) refl e
           zero_quotient = λ same. absurd (let bad : true ≡ false = sym same ∙ ez in cc);
           zero_rest = λ same. absurd (let bad : true ≡ false = sym same ∙ ez in cc);
         }
-

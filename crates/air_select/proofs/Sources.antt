@@ -78,8 +78,7 @@ module _ (p : Procedure) (t : Tables) (start : Start) (v : Value) (h : Here p t 
       (subst (λ (l : List ℕ). Does p t start v junk (b3.sets h.st (Target phi) l)
       (steps (meaning start) (move v (width_at t.index (child v.children 0)) (arg_of t (child v.children 0)) (location t.index phi) ∷ []) h.s junk)) (sym shape.words)
       (subst (λ (c : ℕ). Does p t start v junk (b3.Next (b3.with_location h.st phi shape.wx))
-      (steps (meaning start) (move v (width_at t.index c) (arg_of t c) (location t.index phi) ∷ []) h.s junk)) (sym (ap (λ (l : List ℕ). child l 0) shape.are))
-      (
+      (steps (meaning start) (move v (width_at t.index c) (arg_of t c) (location t.index phi) ∷ []) h.s junk)) (sym (ap (λ (l : List ℕ). child l 0) shape.are)) (
         with_home h.s (location t.index phi) (width_at t.index shape.x) shape.wx,
         moved p t start v h h.s junk (width_at t.index shape.x) (arg_of t shape.x) (location t.index phi) shape.wx
             (child_here p t start v h 0 shape.x shape.wx (place_of_child p t start v h v.children shape.x [] shape.are) (first_child p t start v h shape.x [] shape.are) shape.x_now

@@ -159,7 +159,7 @@ tallied_next x p whole ts ts' block lt tallied e =
     ap (uses_in block) (drop_block p.blocks block lt) ∙ ap (λ n. here ++ uses_in n behind) (next block) in
     record {
       all = ap (λ l. with_all x l (uses_in (block + 1) behind)) e ∙ sym (with_all-append x ts here (uses_in (block + 1) behind))
-      ∙ ap (with_all x ts) (sym step) ∙ tallied.all;
+          ∙ ap (with_all x ts) (sym step) ∙ tallied.all;
       long = ap length e ∙ all_length x ts here ∙ tallied.long;
     }
   where

@@ -140,7 +140,7 @@ module _ (p : Procedure) (kept : IsKept p) (t : Tables) (sound : IsSound p t) wh
   compare_tested c pair is = (
     pair.width,
     fit_two (Word pair.width NoImmediate) (Word pair.width OfSum) (use_of t (known t.index c).first) (use_of t (known t.index c).second) pair.first
-    (subst (λ m. Fits (Word pair.width m) (use_of t (known t.index c).second)) (comparison_immediates (known t.index c).opcode is) pair.second),
+        (subst (λ m. Fits (Word pair.width m) (use_of t (known t.index c).second)) (comparison_immediates (known t.index c).opcode is) pair.second),
   )
 
   -- a word is fetched from a home where it is no immediate
@@ -163,7 +163,7 @@ module _ (p : Procedure) (kept : IsKept p) (t : Tables) (sound : IsSound p t) wh
       subst (λ n. n < 2 ^ bits pair.width) (sym power) (subst (λ w. (known t.index k.second).word < 2 ^ bits w) pair.second_width small) in (
         pair.width,
         fit_one (BitOf pair.width (bit_of (known t.index k.second).word)) (use_of t k.first)
-        (home_only pair.width k.first pair.first (bit_of (known t.index k.second).word) (low_bit (bit_of (known t.index k.second).word) (bits pair.width) lt)),
+            (home_only pair.width k.first pair.first (bit_of (known t.index k.second).word) (low_bit (bit_of (known t.index k.second).word) (bits pair.width) lt)),
       )
 
   -- ---- the condition of a Branch or a Select
@@ -202,5 +202,5 @@ module _ (p : Procedure) (kept : IsKept p) (t : Tables) (sound : IsSound p t) wh
         by false e = (
           width_at t.index c,
           fit_one (Word (width_at t.index c) NoImmediate) (use_of t c)
-          (refl, refl, subst (λ g. IsWord NoImmediate (width_at t.index c) (if g then Imm (known t.index c).word else At (home t.index c))) (sym e) tt),
+              (refl, refl, subst (λ g. IsWord NoImmediate (width_at t.index c) (if g then Imm (known t.index c).word else At (home t.index c))) (sym e) tt),
         )

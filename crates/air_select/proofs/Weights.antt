@@ -172,11 +172,17 @@ module _ (t : Tables) (v : Value) where
       → sum_by inst_weight (if b then quotient_of t v op ∷ rest_into t v (second_extra t.index v.id) ∷ chosen_rest t v ∷ []
       else quotient_of t v op ∷ rest_into t v (home t.index v.id) ∷ []) ≤ allowance v
   remainder_light op few other true =
-      omega (arith, three_weights (quotient_of t v op) (rest_into t v (second_extra t.index v.id)) (chosen_rest t v) 11 14 15
-      (quotient_light op few other) (rest_light (3 * place t.index v.id + 2)) chosen_light)
+      omega (
+        arith,
+        three_weights (quotient_of t v op) (rest_into t v (second_extra t.index v.id)) (chosen_rest t v) 11 14 15
+            (quotient_light op few other) (rest_light (3 * place t.index v.id + 2)) chosen_light,
+      )
   remainder_light op few other false =
-      omega (arith, two_weights (quotient_of t v op) (rest_into t v (home t.index v.id)) 11 14
-      (quotient_light op few other) (rest_light (3 * place t.index v.id)))
+      omega (
+        arith,
+        two_weights (quotient_of t v op) (rest_into t v (home t.index v.id)) 11 14
+            (quotient_light op few other) (rest_light (3 * place t.index v.id)),
+      )
 
   rotate_light : (amount : Arg) → arg_words amount ≤ 3 → inst_weight (rotate_by t v amount) ≤ 11
   rotate_light amount short =
@@ -199,8 +205,11 @@ module _ (t : Tables) (v : Value) where
       let amount : Arg = Imm (turned (width_of v.ty) (known t.index (child v.children 1)).word) in
       omega (arith, one_weight (rotate_by t v amount) 11 (rotate_light amount (omega arith)))
   rotate_left_light false =
-      omega (arith, two_weights (negative_amount t v) (rotate_by t v (At (first_extra t.index v.id))) 8 11
-      negative_light (rotate_light (At (first_extra t.index v.id)) (omega arith)))
+      omega (
+        arith,
+        two_weights (negative_amount t v) (rotate_by t v (At (first_extra t.index v.id))) 8 11
+            negative_light (rotate_light (At (first_extra t.index v.id)) (omega arith)),
+      )
 
   select_light : (c : Condition) → IsShortCondition c → sum_by inst_weight (select_on t v c) ≤ allowance v
   select_light c short =
@@ -242,9 +251,12 @@ module _ (t : Tables) (v : Value) where
   return_light [] = alone_light op.Return (omega arith) refl
   return_light (c ∷ cs) =
       let width = width_at t.index c in
-      omega (arith, two_weights (move v width (arg_of t c) (register 0)) (inst v op.Return (use_at width (At (register 0)) ∷ [])) 8 28
-      (move_light width (arg_of t c) (register 0) (arg_short t c) (omega arith))
-      (omega (arith, weigh v.id op.Return (use_at width (At (register 0)) ∷ []) refl (all_one IsShort (use_at width (At (register 0))) (omega arith)))))
+      omega (
+        arith,
+        two_weights (move v width (arg_of t c) (register 0)) (inst v op.Return (use_at width (At (register 0)) ∷ [])) 8 28
+            (move_light width (arg_of t c) (register 0) (arg_short t c) (omega arith))
+            (omega (arith, weigh v.id op.Return (use_at width (At (register 0)) ∷ []) refl (all_one IsShort (use_at width (At (register 0))) (omega arith)))),
+      )
 
   code_light : (o : Opcode) → sum_by inst_weight (code_of t o v) ≤ allowance v
   code_light opcode.Nop = omega arith
@@ -318,8 +330,11 @@ blocks_allowed (b ∷ bs) =
 moves_light : (x : Index) (vs : List Value) (value n : ℕ) → sum_by inst_weight (argument_moves x vs value n) ≤ 8 * n
 moves_light x vs value zero = omega arith
 moves_light x vs value (suc r) =
-    let one : inst_weight (argument_move x value r) ≤ 8 = omega (arith, weigh value op.Move (argument_move x value r).operands refl
-    (all_two IsShort (use_at W64 (At (register r))) (def_at W64 (argument x r)) (omega arith) (omega arith))) in
+    let one : inst_weight (argument_move x value r) ≤ 8 = omega (
+      arith,
+      weigh value op.Move (argument_move x value r).operands refl
+          (all_two IsShort (use_at W64 (At (register r))) (def_at W64 (argument x r)) (omega arith) (omega arith)),
+    ) in
     let more : List AirInst = if names_argument vs r then argument_move x value r ∷ [] else [] in
     let last : sum_by inst_weight more ≤ 8 =
     pick (λ (is : List AirInst). sum_by inst_weight is ≤ 8) (names_argument vs r) (argument_move x value r ∷ []) []
@@ -339,8 +354,13 @@ unfolding selected_by
 light p =
     let t = tables p in
     let entry : AirBlock = entry_of t.index (values_of p 0) in
-    omega (arith, entry_light t.index (values_of p 0), blocks_light t p.blocks, blocks_allowed p.blocks,
-    sum_by-cons block_weight entry (map (block_code t) p.blocks))
+    omega (
+      arith,
+      entry_light t.index (values_of p 0),
+      blocks_light t p.blocks,
+      blocks_allowed p.blocks,
+      sum_by-cons block_weight entry (map (block_code t) p.blocks),
+    )
 
 values_counted : (p : Procedure) → length (all_values p) ≡ total p
 values_counted p = length-flat_map (λ (b : Block). b.values) p.blocks

@@ -84,12 +84,7 @@ pub(crate) fn entry(alloc: Global, p: &Proc, index: &Index) -> Result<AirBlock, 
     let value = last_id(p);
     let mut insts = AirInsts::new(alloc);
     push_arguments(alloc, &mut insts, p, index, value)?;
-    push(
-        &mut insts,
-        value,
-        AirOp::Jump,
-        Operands::new(alloc),
-    )?;
+    push(&mut insts, value, AirOp::Jump, Operands::new(alloc))?;
     let mut targets = Ids::new(alloc);
     targets.push(1)?;
     Ok(AirBlock { insts, targets })

@@ -95,7 +95,10 @@ fn push_targets(targets: &mut Ids, value: &Value) -> Result<(), NoMemory>
 {
     match &value.body {
         Body::Targets(blocks) => push_moved(targets, blocks.as_slice()),
-        Body::Cases { targets: blocks, .. } => push_moved(targets, blocks.as_slice()),
+        Body::Cases {
+            targets: blocks,
+            ..
+        } => push_moved(targets, blocks.as_slice()),
         _ => Ok(()),
     }
 }

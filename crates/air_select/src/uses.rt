@@ -153,10 +153,7 @@ pub(crate) fn folded_values(alloc: Global, p: &Proc, index: &Index) -> Result<Se
     }
     let mut folds = Seq::new(alloc);
     for place in 0..index.known.len() {
-        folds.push(is_folded(
-            *index.known.get(place),
-            *tallies.get(place),
-        ))?;
+        folds.push(is_folded(*index.known.get(place), *tallies.get(place)))?;
     }
     Ok(folds)
 }

@@ -122,12 +122,7 @@ fn push_rest(
 }
 
 /// Adds the choice of a remainder, which is 0 where the divisor is.
-fn push_choice(
-    alloc: Global,
-    insts: &mut AirInsts,
-    t: &Tables,
-    v: &Value,
-) -> Result<(), NoMemory>
+fn push_choice(alloc: Global, insts: &mut AirInsts, t: &Tables, v: &Value) -> Result<(), NoMemory>
     ensures { OnOk result (insts.new ≡ insts.old ++ code.chosen_rest t.now v.now ∷ []) }
 {
     let width = width_of(v.ty);
@@ -138,12 +133,7 @@ fn push_choice(
         use_at(width, Arg::At(t.index.first_extra(v.id))),
         result_of(t, v),
     )?;
-    push(
-        insts,
-        v.id,
-        AirOp::SelectIf(Test::NonZero),
-        operands,
-    )
+    push(insts, v.id, AirOp::SelectIf(Test::NonZero), operands)
 }
 
 /// Adds a remainder.
@@ -204,12 +194,7 @@ fn push_rotate_left(
 }
 
 /// Adds three operands.
-fn push_three(
-    operands: &mut Operands,
-    a: Operand,
-    b: Operand,
-    c: Operand,
-) -> Result<(), NoMemory>
+fn push_three(operands: &mut Operands, a: Operand, b: Operand, c: Operand) -> Result<(), NoMemory>
     ensures { OnOk result (operands.new ≡ operands.old ++ a ∷ b ∷ c ∷ []) }
 {
     operands.push(a)?;
@@ -231,12 +216,7 @@ fn choice(alloc: Global, t: &Tables, v: &Value) -> Result<Operands, NoMemory>
 }
 
 /// Adds a choice by a condition.
-fn push_select(
-    alloc: Global,
-    insts: &mut AirInsts,
-    t: &Tables,
-    v: &Value,
-) -> Result<(), NoMemory>
+fn push_select(alloc: Global, insts: &mut AirInsts, t: &Tables, v: &Value) -> Result<(), NoMemory>
     ensures { OnOk result (insts.new ≡ insts.old
         ++ code.select_on t.now v.now (code.condition_of t.now (tables.child v.now.children 0))) }
 {
@@ -246,12 +226,7 @@ fn push_select(
 }
 
 /// Adds a branch by a condition.
-fn push_branch(
-    alloc: Global,
-    insts: &mut AirInsts,
-    t: &Tables,
-    v: &Value,
-) -> Result<(), NoMemory>
+fn push_branch(alloc: Global, insts: &mut AirInsts, t: &Tables, v: &Value) -> Result<(), NoMemory>
     ensures { OnOk result (insts.new ≡ insts.old
         ++ code.branch_on t.now v.now (code.condition_of t.now (tables.child v.now.children 0))) }
 {
@@ -271,12 +246,7 @@ fn cases_in(alloc: Global, body: &Body) -> Result<Words, NoMemory>
 }
 
 /// Adds a switch.
-fn push_switch(
-    alloc: Global,
-    insts: &mut AirInsts,
-    t: &Tables,
-    v: &Value,
-) -> Result<(), NoMemory>
+fn push_switch(alloc: Global, insts: &mut AirInsts, t: &Tables, v: &Value) -> Result<(), NoMemory>
     ensures { OnOk result (insts.new ≡ insts.old
         ++ code.inst v.now (AirOp.Switch (code.cases_in v.now.body))
         (code.use_of t.now (tables.child v.now.children 0) ∷ []) ∷ []) }
@@ -287,12 +257,7 @@ fn push_switch(
 }
 
 /// Adds a return.
-fn push_return(
-    alloc: Global,
-    insts: &mut AirInsts,
-    t: &Tables,
-    v: &Value,
-) -> Result<(), NoMemory>
+fn push_return(alloc: Global, insts: &mut AirInsts, t: &Tables, v: &Value) -> Result<(), NoMemory>
     ensures { OnOk result (insts.new ≡ insts.old ++ code.return_of t.now v.now v.now.children) }
 {
     if v.children.is_empty() {
@@ -341,34 +306,20 @@ fn copied(t: &Tables, v: &Value) -> (Width, Arg, Home)
             let location = t.index.first_extra(phi_in(&v.body));
             (t.index.width_at(id), t.arg_of(id), location)
         }
-        Opcode::Phi => (
-            width,
-            Arg::At(t.index.first_extra(v.id)),
-            home,
-        ),
+        Opcode::Phi => (width, Arg::At(t.index.first_extra(v.id)), home),
         _ => (width, Arg::Imm(word_in(&v.body)), home),
     }
 }
 
 /// Adds an instruction without operands.
-fn push_bare(
-    alloc: Global,
-    insts: &mut AirInsts,
-    v: &Value,
-    op: AirOp,
-) -> Result<(), NoMemory>
+fn push_bare(alloc: Global, insts: &mut AirInsts, v: &Value, op: AirOp) -> Result<(), NoMemory>
     ensures { OnOk result (insts.new ≡ insts.old ++ code.inst v.now op [] ∷ []) }
 {
     push(insts, v.id, op, Operands::new(alloc))
 }
 
 /// Adds the copy of a value that copies a word.
-fn push_copy(
-    alloc: Global,
-    insts: &mut AirInsts,
-    t: &Tables,
-    v: &Value,
-) -> Result<(), NoMemory>
+fn push_copy(alloc: Global, insts: &mut AirInsts, t: &Tables, v: &Value) -> Result<(), NoMemory>
     ensures { OnOk result (insts.new ≡ insts.old
         ++ code.copy_of v.now (code.copied t.now v.now.kind.opcode v.now) ∷ []) }
 {
@@ -377,12 +328,7 @@ fn push_copy(
 }
 
 /// Adds the instructions of a value that isn't folded.
-fn push_code(
-    alloc: Global,
-    insts: &mut AirInsts,
-    t: &Tables,
-    v: &Value,
-) -> Result<(), NoMemory>
+fn push_code(alloc: Global, insts: &mut AirInsts, t: &Tables, v: &Value) -> Result<(), NoMemory>
     ensures { OnOk result (insts.new ≡ insts.old ++ code.code_of t.now v.now.kind.opcode v.now) }
 {
     match v.kind.opcode {
