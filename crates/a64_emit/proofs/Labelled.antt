@@ -18,7 +18,7 @@ use Rattle.stackmap.specs.declared.site.SavedRow.{SavedRow}
 use Rattle.a64_inst.specs.WellFormed.{IsReg, IsWellFormed, last_half}
 use Rattle.a64_inst.specs.declared.inst.AccessKind.TheVariants.{LdrX, StrX}
 use Rattle.a64_inst.specs.declared.inst.Inst.{Inst}
-use Rattle.a64_inst.specs.declared.inst.Inst.TheVariants.{Access, AddSubImm, Break, Select}
+use Rattle.a64_inst.specs.declared.inst.Inst.TheVariants.{AddSubReg, Access, AddSubImm, Break, Select}
 use Rattle.a64_inst.specs.declared.item.Item.{Item}
 use Rattle.a64_inst.specs.declared.item.Item.TheVariants.{If, IfBit, IfZero, Jump, Label, Mark, Plain}
 use Rattle.air_ir.specs.declared.frame.Frame.{Frame}
@@ -41,14 +41,16 @@ use Rattle.a64_layout.specs.Branch.{IsTest, branch_in}
 use Rattle.a64_layout.specs.Layout.{position_of}
 use Rattle.a64_layout.specs.Text.{is_any_label, is_any_mark, label_count, mark_count}
 use Rattle.a64_emit.specs.Code.{arg_at, block_labels, blocks_items, branch_item, branches, compared, compute_code, copy_code, copy_reg, bring, emitted, fetch, fetch_below, fetch_tested, inst_code, inst_items, insts_items, jump_to, put_result, result_at, result_reg, select_code, set_code, source_at, source_of, test_at, test_count, width_at}
-use Rattle.a64_emit.specs.Computing.{computing, condition, move_reg, reg_of, testing}
+use Rattle.a64_emit.specs.Computing.{computing, condition, move_reg, reg_of, sum_with, testing}
 use Rattle.a64_emit.specs.Constants.{constant, filling, half_count, half_move, half_moves, half_word, is_inverted}
 use Rattle.a64_emit.specs.Fitting.{IsComputed, IsFitting, IsTested}
 use Rattle.a64_emit.specs.Places.{above_sp, epilogue, leave, load_at, lower_sp, plains, prologue, restores, saves, spill_offset, store_at, unless_zero}
-use Rattle.a64_emit.specs.Switched.{compare_case, switch_items}
+use Rattle.a64_emit.specs.Switched.{compare_case, is_sum_word, switch_items}
+use Rattle.a64_inst.proofs.RangedValues.{in_width-lt}
 use Rattle.a64_emit.specs.declared.source.Source.{Source}
+use Rattle.a64_emit.specs.declared.source.Source.TheVariants.{Constant}
 use Rattle.a64_emit.proofs.Positions.{Each, each_append}
-use Rattle.a64_emit.proofs.Shapes.{computing_plain, move_plain, testing_plain}
+use Rattle.a64_emit.proofs.Shapes.{computing_plain, move_plain, sum_plain, testing_plain}
 
 -- ---- instructions
 
@@ -323,9 +325,17 @@ branches_fair n t width b reg next then_label else_label fits le lt_then lt_else
       | false ↦ (branch_fair n t true width b reg then_label fits le lt_then, jump_fair n next else_label lt_else)
     ]
 
+word_well : (width : Width) (reg word : ℕ) → reg ≤ 31 → AllWell (constant width 16 word ++ AddSubReg width true true 31 reg 16 0 0 ∷ [])
+word_well W32 reg word le = well_append (constant W32 16 word) _ (constant_well W32 16 word (omega arith)) ((omega arith, le, omega arith, omega arith, omega arith), tt)
+word_well W64 reg word le = well_append (constant W64 16 word) _ (constant_well W64 16 word (omega arith)) ((omega arith, le, omega arith, omega arith, omega arith), tt)
+
 case_well : (width : Width) (reg case : ℕ) → reg ≤ 31 → AllWell (compare_case width reg case)
-case_well W32 reg case le = well_append (constant W32 16 (low W32 case)) _ (constant_well W32 16 (low W32 case) (omega arith)) ((omega arith, le, omega arith, omega arith, omega arith), tt)
-case_well W64 reg case le = well_append (constant W64 16 (low W64 case)) _ (constant_well W64 16 (low W64 case) (omega arith)) ((omega arith, le, omega arith, omega arith, omega arith), tt)
+case_well width reg case le =
+    elim (is_sum_word width (low width case)) as (λ b. is_sum_word width (low width case) ≡ b → AllWell (if b then sum_with width true true 31 reg (low width case) ∷ [] else
+    constant width 16 (low width case) ++ AddSubReg width true true 31 reg 16 0 0 ∷ [])) [
+      | true ↦ λ e. ((sum_plain width true true 31 reg (Constant (low width case)) (omega arith) le (omega arith) (in_width-lt width case, e)).fields, tt)
+      | false ↦ λ e. word_well width reg (low width case) le
+    ] refl
 
 switch_fair : (n : ℕ) (width : Width) (reg next label : ℕ) (cases targets : List ℕ) → reg ≤ 31 → ((j : ℕ) → j < length targets → get_or targets j 0 < n)
     → Each (IsFair n) (switch_items width reg next label cases targets)

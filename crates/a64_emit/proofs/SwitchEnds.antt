@@ -32,17 +32,18 @@ use Rattle.a64_layout.specs.Layout.{place, position_of}
 use Rattle.a64_layout.specs.Machine.{Machine, moved_to, test_holds}
 use Rattle.a64_layout.specs.Run as run
 use Rattle.a64_emit.specs.Code.{arg_at, fetch, source_at, source_of, width_at}
-use Rattle.a64_emit.specs.Computing.{reg_of}
+use Rattle.a64_emit.specs.Computing.{reg_of, sum_with}
 use Rattle.a64_emit.specs.Constants.{constant}
 use Rattle.a64_emit.specs.Places.{plains}
 use Rattle.a64_emit.specs.Related.{IsRelated}
 use Rattle.a64_emit.specs.Setting.{IsSet, Setting, address_of, meaning_of}
-use Rattle.a64_emit.specs.Switched.{compare_case, switch_items}
+use Rattle.a64_emit.specs.Switched.{compare_case, is_sum_word, switch_items}
 use Rattle.a64_emit.specs.declared.source.Source.{Source}
-use Rattle.a64_emit.specs.declared.source.Source.TheVariants.{InReg}
+use Rattle.a64_emit.specs.declared.source.Source.TheVariants.{Constant, InReg}
 use Rattle.a64_layout.proofs.Least.{place_mono}
 use Rattle.a64_emit.proofs.Ahead.{switch_words, words_ahead}
 use Rattle.a64_emit.proofs.AirSteps.{step_lost}
+use Rattle.a64_emit.proofs.Shapes.{sum_plain}
 use Rattle.a64_emit.proofs.BranchEnds.{AllUsable, home_register, one_read, one_there, one_writes, word_home}
 use Rattle.a64_emit.proofs.Branching.{NextAt, Since, alike_related, branch_goes, branch_test, item_proper, jump_reaches, one_runs, reaches_step, words_there}
 use Rattle.a64_emit.proofs.Computes.{scratch_15, scratch_16}
@@ -76,22 +77,27 @@ case_number-le width x (case ∷ cases) =
     elim (nat_eq (low width case) x) as (λ b. (if b then 0 else suc (case_number width x cases)) ≤ suc (length cases)) [ true ↦ omega arith | false ↦ omega arith ]
 
 -- a machine with the flags of a word and a case
-pub record Compared (z : Setting) (s : State) (c : Machine) (a : Source) (width : Width) (x case : ℕ) : Type 0 where
+pub record ComparedBy (z : Setting) (s : State) (c : Machine) (insts : List Inst) (a : Source) (width : Width) (x case : ℕ) : Type 0 where
   pub after : Machine
-  pub does : Does z c (compare_case width (reg_of a) case) after
+  pub does : Does z c insts after
   pub related : IsRelated z s after
   pub gives : Gives after.registers a width x
   pub equal : holds Eq after.registers.flags ≡ nat_eq (low width case) x
+
+register_most : (r : Registers) (a : Source) (width : Width) (x : ℕ) → IsRegister a → Gives r a width x → reg_of a ≤ 31
+register_most r (InReg reg) width x is gives = omega (arith, gives.0)
+register_most r (Constant word) width x is gives = absurd is
 
 -- each target is a block
 abbrev pub AllWithin : Setting → List ℕ → Type 0
 AllWithin z targets_of = (j : ℕ) → j < length targets_of → get_or targets_of j 0 < length z.procedure.blocks
 
 module _ (z : Setting) (set : IsSet z) (serves : IsFrameOf z.procedure z.frame) (unmarked : (k : ℕ) → run.mark_before z.code k ≡ None) where
-  compares : (s : State) (c : Machine) (a : Source) (width : Width) (x case : ℕ) → IsRelated z s c → IsRegister a → ((r : ℕ) → a ≡ InReg r → r ≢ 16)
-      → Gives c.registers a width x → Compared z s c a width x case
+  -- by a register
+  compares_put : (s : State) (c : Machine) (a : Source) (width : Width) (x case : ℕ) → IsRelated z s c → IsRegister a → ((r : ℕ) → a ≡ InReg r → r ≢ 16)
+      → Gives c.registers a width x → ComparedBy z s c (constant width 16 (low width case) ++ AddSubReg width true true 31 (reg_of a) 16 0 0 ∷ []) a width x case
   unfolding flags_of_sum
-  compares s c a width x case rel is differ gives =
+  compares_put s c a width x case rel is differ gives =
       let y : ℕ = low width case in
       let p = constant_puts z c width 16 y (whole_of z set serves c rel.frame) rel.frame.words (omega arith) (λ e. omega arith) (low-small width case) in
       let m : Machine = p.after in
@@ -110,6 +116,36 @@ module _ (z : Setting) (set : IsSet z) (serves : IsFrameOf z.procedure z.frame) 
         gives = gives_same m.registers d.registers a width x (λ r is. refl) gives_a;
         equal = same_words width x y (gives-small c.registers a width x gives) (low-small width case);
       }
+
+  -- by an immediate
+  compares_with : (s : State) (c : Machine) (a : Source) (width : Width) (x case : ℕ) → IsRelated z s c → IsRegister a → is_sum_word width (low width case) ≡ true
+      → Gives c.registers a width x → ComparedBy z s c (sum_with width true true 31 (reg_of a) (low width case) ∷ []) a width x case
+  unfolding flags_of_sum
+  compares_with s c a width x case rel is short gives =
+      let y : ℕ = low width case in
+      let inst : Inst = sum_with width true true 31 (reg_of a) y in
+      let plain = sum_plain width true true 31 (reg_of a) (Constant y) (omega arith) (register_most c.registers a width x is gives) (omega arith) (low-small width case, short) in
+      let d : Machine = record { registers = with_flags c.registers (flags_of_sum width x (complement width y) 1); memory = c.memory } in
+      let one : DoesOne z c inst d = does_safely z c d inst (whole_of z set serves c rel.frame) (touches_nothing c inst (λ pc. plain.touches (moved_to pc c).registers)) refl
+      (λ pc. compare_is (moved_to pc c).registers c.memory width a (Constant y) x y is (gives_same c.registers (moved_to pc c).registers a width x (λ r is. refl) gives) (low_low width case)
+      (low-small width case, short)) in
+      record {
+        after = d;
+        does = does_one z c d inst one;
+        related = keeps_related z s c d (record { sp = refl; memory = refl; x = λ r kept. refl;
+            words = record { x = rel.frame.words.x; sp = rel.frame.words.sp; pc = rel.frame.words.pc } }) rel;
+        gives = gives_same c.registers d.registers a width x (λ r is. refl) gives;
+        equal = same_words width x y (gives-small c.registers a width x gives) (low-small width case);
+      }
+
+  compares : (s : State) (c : Machine) (a : Source) (width : Width) (x case : ℕ) → IsRelated z s c → IsRegister a → ((r : ℕ) → a ≡ InReg r → r ≢ 16)
+      → Gives c.registers a width x → ComparedBy z s c (compare_case width (reg_of a) case) a width x case
+  compares s c a width x case rel is differ gives =
+      elim (is_sum_word width (low width case)) as (λ b. is_sum_word width (low width case) ≡ b
+      → ComparedBy z s c (if b then sum_with width true true 31 (reg_of a) (low width case) ∷ [] else constant width 16 (low width case) ++ AddSubReg width true true 31 (reg_of a) 16 0 0 ∷ []) a width x case) [
+        | true ↦ λ e. compares_with s c a width x case rel is e gives
+        | false ↦ λ e. compares_put s c a width x case rel is differ gives
+      ] refl
 
   pub switch_reaches : (from : World) (s : State) (a : Source) (width : Width) (x next label : ℕ) (cases targets_of : List ℕ) (k : ℕ) (c : Machine)
       → length targets_of ≡ suc (length cases) → AllWithin z targets_of → Among z.code k (switch_items width (reg_of a) next label cases targets_of)

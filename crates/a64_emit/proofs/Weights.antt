@@ -40,7 +40,8 @@ use Rattle.a64_emit.specs.Computing.{reg_of}
 use Rattle.a64_emit.specs.Constants.{constant}
 use Rattle.a64_emit.specs.Fitting.{AreFitting}
 use Rattle.a64_emit.specs.Places.{above_sp, epilogue, leave, load_at, lower_sp, plains, prologue, restores, saves, store_at, unless_zero}
-use Rattle.a64_emit.specs.Switched.{compare_case, switch_items}
+use Rattle.a64_emit.specs.Switched.{compare_case, compare_word, is_sum_word, switch_items}
+use Rattle.a64_emit.specs.Computing.{sum_with}
 use Rattle.a64_emit.proofs.Sizes.{bring_most, below_most, compute_most, constant_most, fetch_most, load_most, most_is, operand_words, place_least, place_words, plain_words, put_most, store_most, words_of}
 
 -- ---- operands
@@ -72,6 +73,16 @@ branches_most t width reg next then_label else_label =
       | false ↦ let sum = sum_by-cons (size_of true) (branch_item t true width reg then_label) (jump_to next else_label) in omega arith
     ]
 
+case_most : (width : Width) (reg word : ℕ) → length (compare_word width reg word) ≤ 5
+case_most width reg word =
+    let put = constant_most width 16 word in
+    let inst : Inst = AddSubReg width true true 31 reg 16 0 0 in
+    let count = length-append (constant width 16 word) (inst ∷ []) in
+    elim (is_sum_word width word) as (λ b. length (if b then sum_with width true true 31 reg word ∷ [] else constant width 16 word ++ inst ∷ []) ≤ 5) [
+      | true ↦ omega arith
+      | false ↦ omega arith
+    ]
+
 switch_most : (width : Width) (reg next label : ℕ) (cases targets : List ℕ) → words_of (switch_items width reg next label cases targets) ≤ 7 * length cases + 1
 unfolding switch_items
 switch_most width reg next label [] [] = omega arith
@@ -80,9 +91,7 @@ switch_most width reg next label (case ∷ cases) [] = omega arith
 switch_most width reg next label (case ∷ cases) (target ∷ targets) =
     let items : List Item = switch_items width reg next label cases targets in
     let more = switch_most width reg next label cases targets in
-    let word = constant_most width 16 (low width case) in
-    let inst : Inst = AddSubReg width true true 31 reg 16 0 0 in
-    let count : length (compare_case width reg case) ≡ length (constant width 16 (low width case)) + 1 = length-append (constant width 16 (low width case)) (inst ∷ []) in
+    let count = case_most width reg (low width case) in
     let plain = plain_words (compare_case width reg case) in
     let both = sum_by-append (size_of true) (plains (compare_case width reg case)) (If Eq target ∷ items) in
     let sum = sum_by-cons (size_of true) (If Eq target) items in
