@@ -1,27 +1,25 @@
 -- A Switch leads to the target of the case that its word is equal to.
-use Rattle.std.proofs.Common.{◌≡◌, ◌≢◌, ℕ, zero, suc, ◌+◌, ◌-◌, ◌*◌, ◌/◌, ◌%◌, ◌^◌, ◌<◌, ◌≤◌, ◌⊎◌, Bool, true, false, not, inl, inr, ⊎_elim, List, [], ◌∷◌, ◌++◌, Option, Some, None, map, length, get_or, refl, sym, ap, ◌∙◌, subst, arith, length-append}
+use Rattle.std.proofs.Common.{◌≡◌, ◌≢◌, ℕ, suc, ◌+◌, ◌^◌, ◌<◌, ◌≤◌, true, false, ⊎_elim, List, [], ◌∷◌, ◌++◌, Some, None, length, get_or, refl, ap, ◌∙◌, subst, arith, length-append}
 use Rattle.std.specs.Prelude.{nat_eq, slice_get, if◌then◌else◌}
-use Rattle.std.proofs.lemmas.Bool.{cases_lt, ne_eqb}
+use Rattle.std.proofs.lemmas.Bool.{cases_lt}
 use Rattle.std.proofs.lemmas.Bool.Decides.{nat_tests}
 use Rattle.std.proofs.lemmas.Option.{slice_get-get_or, slice_get_within}
 use Rattle.b3_base.specs.Arithmetic.{low}
-use Rattle.b3_base.specs.Observed.{Start}
 use Rattle.b3_base.specs.Word.{bits}
 use Rattle.b3_base.specs.declared.word.Width.{Width}
 use Rattle.b3_base.specs.declared.word.Width.TheVariants.{W32, W64}
-use Rattle.a64_inst.specs.Step.{AreWords, Registers, step_of, goes_on}
+use Rattle.a64_inst.specs.Step.{Registers}
 use Rattle.a64_inst.specs.Values.{complement, flags_of_sum, holds, sum_of}
 use Rattle.a64_inst.specs.declared.inst.Cond.TheVariants.{Eq}
 use Rattle.a64_inst.specs.declared.inst.Inst.{Inst}
 use Rattle.a64_inst.specs.declared.inst.Inst.TheVariants.{AddSubReg}
 use Rattle.a64_inst.specs.declared.item.Item.{Item}
-use Rattle.a64_inst.specs.declared.item.Item.TheVariants.{If, Plain}
+use Rattle.a64_inst.specs.declared.item.Item.TheVariants.{If}
 use Rattle.air_ir.specs.Blocks as air
 use Rattle.air_ir.specs.Forms.{AllFit, NoImmediate, Word, home}
-use Rattle.air_ir.specs.Kinds.{Switches, kind_of}
 use Rattle.air_ir.specs.Meaning.{To, World, case_number, meaning, operation}
-use Rattle.air_ir.specs.Operands.{Read, targets, word_of, words}
-use Rattle.air_ir.specs.Steps.{State, step}
+use Rattle.air_ir.specs.Operands.{word_of, words}
+use Rattle.air_ir.specs.Steps.{State}
 use Rattle.air_ir.specs.declared.op.AirOp.TheVariants as op
 use Rattle.air_ir.specs.declared.op.Test.TheVariants.{Compare}
 use Rattle.air_ir.specs.declared.operand.Operand.{Operand}
@@ -36,7 +34,7 @@ use Rattle.a64_emit.specs.Computing.{reg_of, sum_with}
 use Rattle.a64_emit.specs.Constants.{constant}
 use Rattle.a64_emit.specs.Places.{plains}
 use Rattle.a64_emit.specs.Related.{IsRelated}
-use Rattle.a64_emit.specs.Setting.{IsSet, Setting, address_of, meaning_of}
+use Rattle.a64_emit.specs.Setting.{IsSet, Setting, meaning_of}
 use Rattle.a64_emit.specs.Switched.{compare_case, is_sum_word, switch_items}
 use Rattle.a64_emit.specs.declared.source.Source.{Source}
 use Rattle.a64_emit.specs.declared.source.Source.TheVariants.{Constant, InReg}
@@ -48,14 +46,14 @@ use Rattle.a64_emit.proofs.BranchEnds.{AllUsable, home_register, one_read, one_t
 use Rattle.a64_emit.proofs.Branching.{NextAt, Since, alike_related, branch_goes, branch_test, item_proper, jump_reaches, one_runs, reaches_step, words_there}
 use Rattle.a64_emit.proofs.Computes.{scratch_15, scratch_16}
 use Rattle.a64_emit.proofs.Endings.{Ends, among_plains, leaves_to}
-use Rattle.a64_emit.proofs.Fetching.{Fetched, IsUsable, fetch_word, fetched_keeps, gives_same, kept_differs, source_differs}
-use Rattle.a64_emit.proofs.Keeping.{KeepsAll, keeps_related, whole_of}
+use Rattle.a64_emit.proofs.Fetching.{IsUsable, fetch_word, fetched_keeps, gives_same, kept_differs, source_differs}
+use Rattle.a64_emit.proofs.Keeping.{keeps_related, whole_of}
 use Rattle.a64_emit.proofs.Moves.{constant_puts}
 use Rattle.a64_emit.proofs.Ops.{Gives, IsRegister, gives-small}
 use Rattle.a64_emit.proofs.Positions.{Among, among_first, among_rest, length_plains}
-use Rattle.a64_emit.proofs.Straight.{AreAlike, Does, DoesOne, Reaches, Runs, does_both, does_one, leads_on, straight_runs}
+use Rattle.a64_emit.proofs.Straight.{Does, DoesOne, Reaches, Runs, does_both, does_one, leads_on, straight_runs}
 use Rattle.a64_emit.proofs.Tests.{compare_is, with_flags}
-use Rattle.a64_emit.proofs.Words.{Puts, does_safely, touches_nothing}
+use Rattle.a64_emit.proofs.Words.{does_safely, touches_nothing}
 
 -- the difference of two words is 0 where they are equal
 same_words : (width : Width) (x y : ℕ) → x < 2 ^ bits width → y < 2 ^ bits width → nat_eq (sum_of width x (complement width y) 1) 0 ≡ nat_eq y x
@@ -111,8 +109,12 @@ module _ (z : Setting) (set : IsSet z) (serves : IsFrameOf z.procedure z.frame) 
       record {
         after = d;
         does = does_both z c m d (constant width 16 y) (inst ∷ []) p.does (does_one z m d inst one);
-        related = keeps_related z s m d (record { sp = refl; memory = refl; x = λ r kept. refl;
-            words = record { x = rel_m.frame.words.x; sp = rel_m.frame.words.sp; pc = rel_m.frame.words.pc } }) rel_m;
+        related = keeps_related z s m d (record {
+          sp = refl;
+          memory = refl;
+          x = λ r kept. refl;
+          words = record { x = rel_m.frame.words.x; sp = rel_m.frame.words.sp; pc = rel_m.frame.words.pc };
+        }) rel_m;
         gives = gives_same m.registers d.registers a width x (λ r is. refl) gives_a;
         equal = same_words width x y (gives-small c.registers a width x gives) (low-small width case);
       }
@@ -132,8 +134,12 @@ module _ (z : Setting) (set : IsSet z) (serves : IsFrameOf z.procedure z.frame) 
       record {
         after = d;
         does = does_one z c d inst one;
-        related = keeps_related z s c d (record { sp = refl; memory = refl; x = λ r kept. refl;
-            words = record { x = rel.frame.words.x; sp = rel.frame.words.sp; pc = rel.frame.words.pc } }) rel;
+        related = keeps_related z s c d (record {
+          sp = refl;
+          memory = refl;
+          x = λ r kept. refl;
+          words = record { x = rel.frame.words.x; sp = rel.frame.words.sp; pc = rel.frame.words.pc };
+        }) rel;
         gives = gives_same c.registers d.registers a width x (λ r is. refl) gives;
         equal = same_words width x y (gives-small c.registers a width x gives) (low-small width case);
       }

@@ -66,14 +66,7 @@ fn less_word(width: Width, word: u64) -> u64
 }
 
 /// ADD or SUB with a word, by the other one of them where the word isn't short.
-pub(crate) fn sum_with(
-    width: Width,
-    sub: bool,
-    flags: bool,
-    rd: u8,
-    rn: u8,
-    word: u64,
-) -> Inst
+pub(crate) fn sum_with(width: Width, sub: bool, flags: bool, rd: u8, rn: u8, word: u64) -> Inst
     requires small { word < 2 ^ bits width }
     requires fits { IsImmediate OfSum width word }
     ensures { result ≡ sum_with width sub flags rd rn word }
@@ -259,14 +252,7 @@ fn extend(width: Width, rd: u8, rn: u8, last: u32) -> Inst
 
 /// What an op computes of up to three sources, at a width, into `rd`.
 #[tactic(auto, unfolding(crate::specs::Computing::computing))]
-pub(crate) fn computing(
-    op: &AirOp,
-    width: Width,
-    rd: u8,
-    a: Source,
-    b: Source,
-    c: Source,
-) -> Inst
+pub(crate) fn computing(op: &AirOp, width: Width, rd: u8, a: Source, b: Source, c: Source) -> Inst
     requires { IsComputed op.now width b }
     ensures { result ≡ computing op.now width rd a b c }
 {
