@@ -1,34 +1,28 @@
 -- Words stand behind each label of a block.
-use Rattle.std.proofs.Common.{◌≡◌, ◌≢◌, ℕ, zero, suc, ◌+◌, ◌-◌, ◌<◌, ◌≤◌, Bool, true, false, ⊎_elim, List, [], ◌∷◌, ◌++◌, Some, None, length, get_or, refl, sym, ap, ◌∙◌, subst, arith, append_assoc, length-append}
-use Rattle.std.specs.Prelude.{All, nat_eq, slice_get, if◌then◌else◌}
-use Rattle.std.proofs.lemmas.Bool.{cases_lt, ne_eqb}
-use Rattle.std.proofs.lemmas.Option.{slice_get-get_or, slice_get_within, get_or_from_slice_get}
+use Rattle.std.proofs.Common.{◌≡◌, ℕ, suc, ◌+◌, ◌<◌, ◌≤◌, Bool, true, false, List, [], ◌∷◌, ◌++◌, Some, None, length, get_or, refl, sym, ap, ◌∙◌, subst, arith, length-append}
+use Rattle.std.specs.Prelude.{nat_eq, slice_get, if◌then◌else◌}
+use Rattle.std.proofs.lemmas.Bool.{ne_eqb}
+use Rattle.std.proofs.lemmas.Option.{slice_get_within}
 use Rattle.a64_inst.specs.declared.inst.Cond.TheVariants.{Eq}
-use Rattle.a64_inst.specs.declared.inst.BranchKind.TheVariants.{Ret}
 use Rattle.a64_inst.specs.declared.inst.Inst.{Inst}
-use Rattle.a64_inst.specs.declared.inst.Inst.TheVariants.{AddSubImm, BranchReg, PairSp}
 use Rattle.a64_inst.specs.declared.item.Item.{Item}
-use Rattle.a64_inst.specs.declared.item.Item.TheVariants.{If, IfBit, IfZero, Jump, Label, Plain}
+use Rattle.a64_inst.specs.declared.item.Item.TheVariants.{If, Jump, Plain}
 use Rattle.b3_base.specs.declared.word.Width.{Width}
 use Rattle.air_ir.specs.Kinds.{target_count}
-use Rattle.air_ir.specs.WellFormed.{IsGoodBlock, IsWellFormed}
 use Rattle.air_ir.specs.declared.frame.Frame.{Frame}
 use Rattle.air_ir.specs.declared.op.AirOp.{AirOp}
 use Rattle.air_ir.specs.declared.op.AirOp.TheVariants as op
 use Rattle.air_ir.specs.declared.op.Test.{Test}
 use Rattle.air_ir.specs.declared.op.Test.TheVariants.{Compare, NonZero, Bit}
 use Rattle.air_ir.specs.declared.operand.Operand.{Operand}
-use Rattle.air_ir.specs.declared.procedure.AirBlock.{AirBlock}
-use Rattle.air_ir.specs.declared.procedure.AirInst.{AirInst}
-use Rattle.air_ir.specs.declared.procedure.AirProc.{AirProc}
 use Rattle.a64_layout.specs.Branch.{size_in}
-use Rattle.a64_layout.specs.Layout.{Set, place, position_of}
+use Rattle.a64_layout.specs.Layout.{Set, place}
 use Rattle.a64_layout.proofs.Least.{place-next, place_mono}
-use Rattle.a64_emit.specs.Code.{arg_at, branch_item, branches, compared, emitted, fetch, fetch_tested, inst_items, insts_items, jump_to, source_at, width_at}
+use Rattle.a64_emit.specs.Code.{arg_at, branch_item, branches, compared, fetch, fetch_tested, inst_items, jump_to, source_at, width_at}
 use Rattle.a64_emit.specs.Computing.{reg_of}
 use Rattle.a64_emit.specs.Places.{epilogue, leave, plains, restores}
 use Rattle.a64_emit.specs.Switched.{compare_case, switch_items}
-use Rattle.a64_emit.proofs.Positions.{Among, BlockStands, among_first, among_rest, block_stands, positions_rise}
+use Rattle.a64_emit.proofs.Positions.{Among, among_first, among_rest}
 
 pub some_same : (a b : ℕ) → Some a ≡ Some b → a ≡ b
 some_same a b e = cc

@@ -1,21 +1,17 @@
 -- Steps of instructions of Air that compute a word.
-use Rattle.std.proofs.Common.{◌≡◌, ◌≢◌, ℕ, zero, suc, ◌+◌, ◌-◌, Bool, true, false, List, [], ◌∷◌, ◌++◌, map, Option, Some, None, refl, sym, ap, ◌∙◌, subst}
-use Rattle.std.specs.Prelude.{if◌then◌else◌, drop, length}
+use Rattle.std.proofs.Common.{◌≡◌, ℕ, List, [], ◌∷◌, map, Some, None, refl}
 use Rattle.b3_base.specs.Observed.{Start}
 use Rattle.b3_base.specs.declared.word.Width.{Width}
-use Rattle.b3_base.specs.declared.word.Width.TheVariants.{W64}
 use Rattle.air_ir.specs.Forms.{Fits, IsHome, Result}
-use Rattle.air_ir.specs.Kinds.{Kind, Computes, Copies, kind_of}
-use Rattle.air_ir.specs.Meaning.{Effect, World, effect_of, meaning, operation, width_of}
-use Rattle.air_ir.specs.Operands.{Held, Holds, Homes, Read, Target, and_word, put_all, targets, word_of, words}
-use Rattle.air_ir.specs.Steps.{Goes, Outcome, State, Undefined, carried_out, junk_words, step}
+use Rattle.air_ir.specs.Kinds.{Computes, Copies, kind_of}
+use Rattle.air_ir.specs.Meaning.{meaning, operation, width_of}
+use Rattle.air_ir.specs.Operands.{Holds, Homes, Read, and_word, put_all, targets, word_of, words}
+use Rattle.air_ir.specs.Steps.{Goes, State, Undefined, junk_words, step}
 use Rattle.air_ir.specs.Words.{computed}
-use Rattle.air_ir.specs.declared.op.AirOp.{AirOp}
 use Rattle.air_ir.specs.declared.operand.Arg.{Arg}
 use Rattle.air_ir.specs.declared.operand.Arg.TheVariants.{At, Imm, Addr, Index, FrameSlot}
 use Rattle.air_ir.specs.declared.operand.Home.{Home}
 use Rattle.air_ir.specs.declared.operand.Operand.{Operand}
-use Rattle.air_ir.specs.declared.operand.Role.{Role}
 use Rattle.air_ir.specs.declared.operand.Role.TheVariants.{Def, Use}
 use Rattle.air_ir.specs.declared.procedure.AirInst.{AirInst}
 use Rattle.a64_emit.proofs.Storing.{with_home}

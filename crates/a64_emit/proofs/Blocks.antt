@@ -1,12 +1,10 @@
 -- The items of a block do what the block does.
-use Rattle.std.proofs.Common.{◌≡◌, ◌≢◌, ℕ, zero, suc, ◌+◌, ◌^◌, ◌<◌, ◌≤◌, Bool, true, false, inl, inr, ⊎_elim, List, [], ◌∷◌, ◌++◌, Option, Some, None, refl, sym, ap, ◌∙◌, subst, arith, length, length-append}
-use Rattle.std.specs.Prelude.{slice_get, get_or}
+use Rattle.std.proofs.Common.{◌≡◌, ℕ, suc, ◌+◌, ◌^◌, ◌<◌, ◌≤◌, true, ⊎_elim, List, [], ◌∷◌, ◌++◌, Some, None, refl, sym, ap, ◌∙◌, subst, arith, length, length-append}
+use Rattle.std.specs.Prelude.{slice_get}
 use Rattle.std.proofs.lemmas.Option.{get_or_from_slice_get}
-use Rattle.stackmap.specs.declared.site.Returns.{Returns}
-use Rattle.b3_base.specs.Observed.{Answer}
 use Rattle.a64_inst.specs.declared.inst.Inst.{Inst}
 use Rattle.a64_inst.specs.declared.item.Item.{Item}
-use Rattle.a64_inst.specs.declared.item.Item.TheVariants.{Label, Plain}
+use Rattle.a64_inst.specs.declared.item.Item.TheVariants.{Label}
 use Rattle.air_ir.specs.Blocks as air
 use Rattle.air_ir.specs.Forms.{HasOperands}
 use Rattle.air_ir.specs.Kinds.{target_count}
@@ -19,22 +17,22 @@ use Rattle.air_ir.specs.declared.frame.Frame.{Frame}
 use Rattle.air_ir.specs.declared.procedure.AirBlock.{AirBlock}
 use Rattle.air_ir.specs.declared.procedure.AirInst.{AirInst}
 use Rattle.air_frame.specs.Frames.{IsFrameOf}
-use Rattle.a64_layout.specs.Layout.{place, position_of}
-use Rattle.a64_layout.specs.Machine.{Machine, moved_to}
+use Rattle.a64_layout.specs.Layout.{place}
+use Rattle.a64_layout.specs.Machine.{Machine}
 use Rattle.a64_layout.specs.Run as run
 use Rattle.a64_layout.proofs.Least.{place_mono}
 use Rattle.a64_emit.specs.Built.{is_built}
 use Rattle.a64_emit.specs.Code.{inst_code, inst_items, insts_items}
-use Rattle.a64_emit.specs.Emitted.{CarriesOut, Leads, LeadsUnlessLost}
+use Rattle.a64_emit.specs.Emitted.{CarriesOut, LeadsUnlessLost}
 use Rattle.a64_emit.specs.Places.{plains}
 use Rattle.a64_emit.specs.Related.{IsRelated}
-use Rattle.a64_emit.specs.Setting.{IsSet, Setting, address_of, meaning_of}
+use Rattle.a64_emit.specs.Setting.{IsSet, Setting, meaning_of}
 use Rattle.a64_emit.proofs.Branching.{alike_related, item_proper}
-use Rattle.a64_emit.proofs.Computes.{Carried, InstRuns}
+use Rattle.a64_emit.proofs.Computes.{Carried}
 use Rattle.a64_emit.proofs.Endings.{Ends, ReachesUnlessLost, among_plains}
 use Rattle.a64_emit.proofs.Instructions.{AreOpen, inst_runs}
 use Rattle.a64_emit.proofs.Positions.{Among, among_first, among_rest, length_plains}
-use Rattle.a64_emit.proofs.Straight.{Reaches, Runs, leads_by, leads_on, runs_more, runs_none, straight_runs}
+use Rattle.a64_emit.proofs.Straight.{Runs, leads_by, leads_on, runs_more, runs_none, straight_runs}
 
 -- the items of an instruction that doesn't end its block
 inner_items : (f : Frame) (next label : ℕ) (targets : List ℕ) (o : AirOp) (os : List Operand) → target_count o ≡ None → inst_items f next label targets o os ≡ plains (inst_code f o os)

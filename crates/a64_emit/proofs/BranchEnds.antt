@@ -1,34 +1,28 @@
 -- A BranchIf leads to the target that its test chooses.
-use Rattle.std.proofs.Common.{◌≡◌, ◌≢◌, ℕ, zero, suc, ◌+◌, ◌-◌, ◌*◌, ◌/◌, ◌%◌, ◌^◌, ◌<◌, ◌≤◌, ◌⊎◌, Bool, true, false, not, ◌&&◌, inl, inr, ⊎_elim, List, [], ◌∷◌, ◌++◌, Option, Some, None, map, length, get_or, refl, sym, ap, ◌∙◌, subst, arith, length-append}
+use Rattle.std.proofs.Common.{◌≡◌, ℕ, ◌+◌, ◌*◌, ◌/◌, ◌%◌, ◌^◌, ◌<◌, ◌≤◌, ◌⊎◌, Bool, true, false, not, ◌&&◌, inl, inr, ⊎_elim, List, [], ◌∷◌, ◌++◌, Option, Some, None, map, length, get_or, refl, sym, ap, ◌∙◌, subst, arith, length-append}
 use Rattle.std.specs.Prelude.{nat_eq, slice_get, if◌then◌else◌}
 use Rattle.std.specs.Int.{bit_at}
-use Rattle.std.proofs.lemmas.Bool.{cases_lt, ne_eqb}
 use Rattle.std.proofs.lemmas.Bool.Decides.{nat_tests}
 use Rattle.std.proofs.lemmas.Nat.Bits.{bit_at-lt, bit_at_cat_low}
 use Rattle.std.proofs.lemmas.Option.{slice_get-get_or, slice_get_within}
-use Rattle.b3_base.specs.Arithmetic.{low}
 use Rattle.b3_base.specs.Observed.{Start}
 use Rattle.b3_base.specs.Word.{bits}
 use Rattle.b3_base.specs.declared.word.Width.{Width}
 use Rattle.b3_base.specs.declared.word.Width.TheVariants.{W32, W64}
 use Rattle.a64_inst.specs.Registers.{read}
-use Rattle.a64_inst.specs.Step.{AreWords, Registers, step_of, goes_on}
 use Rattle.a64_inst.specs.StepBranch.{is_taken}
-use Rattle.a64_inst.specs.StepData.{read_low}
-use Rattle.a64_inst.specs.Values.{holds, low_bits}
+use Rattle.a64_inst.specs.Values.{holds}
 use Rattle.a64_inst.specs.declared.inst.Cond.{Cond}
 use Rattle.a64_inst.specs.declared.inst.Cond.TheVariants.{Eq, Ne, Hs, Lo, Mi, Pl, Vs, Vc, Hi, Ls, Ge, Lt, Gt, Le}
 use Rattle.a64_inst.specs.declared.inst.Inst.{Inst}
 use Rattle.a64_inst.specs.declared.item.Item.{Item}
-use Rattle.a64_inst.specs.declared.item.Item.TheVariants.{If, IfBit, IfZero, Plain}
 use Rattle.a64_inst.specs.declared.state.Flags.{Flags}
 use Rattle.air_ir.specs.Blocks as air
 use Rattle.air_ir.specs.Forms.{AllFit, Fits, IsHome, IsWord, NoImmediate, OfSum, Takes, Word, BitOf, test_takes}
 use Rattle.air_ir.specs.Words.{test}
-use Rattle.air_ir.specs.Kinds.{Branches, kind_of}
 use Rattle.air_ir.specs.Meaning.{To, meaning, operation, width_of}
 use Rattle.air_ir.specs.Operands.{Homes, Read, and_word, targets, word_of, words}
-use Rattle.air_ir.specs.Steps.{State, step}
+use Rattle.air_ir.specs.Steps.{State}
 use Rattle.air_ir.specs.declared.op.AirOp.TheVariants as op
 use Rattle.air_ir.specs.declared.op.Test.{Test}
 use Rattle.air_ir.specs.declared.op.Test.TheVariants.{Compare, NonZero, Bit}
@@ -41,26 +35,25 @@ use Rattle.air_ir.specs.declared.procedure.AirInst.{AirInst}
 use Rattle.air_frame.specs.Frames.{IsFrameOf}
 use Rattle.a64_layout.specs.Branch.{opposite_cond, size_in}
 use Rattle.a64_layout.specs.Layout.{place}
-use Rattle.a64_layout.specs.Machine.{Machine, moved_to, test_holds}
+use Rattle.a64_layout.specs.Machine.{Machine, moved_to}
 use Rattle.a64_layout.specs.Run as run
-use Rattle.a64_emit.specs.Code.{arg_at, branch_code, branch_item, branches, compared, fetch, fetch_tested, jump_to, source_at, source_of, test_at, width_at}
+use Rattle.a64_emit.specs.Code.{branch_code, branch_item, branches, compared, fetch, fetch_tested, jump_to, source_at, source_of, width_at}
 use Rattle.a64_emit.specs.Computing.{reg_of, testing}
-use Rattle.a64_emit.specs.Fitting.{IsSummed, IsTested}
+use Rattle.a64_emit.specs.Fitting.{IsSummed}
 use Rattle.a64_emit.specs.Places.{plains}
 use Rattle.a64_emit.specs.Related.{IsRelated}
 use Rattle.a64_emit.specs.Setting.{IsSet, Setting}
 use Rattle.a64_emit.specs.declared.source.Source.{Source}
-use Rattle.a64_emit.specs.declared.source.Source.TheVariants.{InReg, Constant}
 use Rattle.a64_emit.proofs.AirSteps.{step_lost, targets_use, words_use}
-use Rattle.a64_emit.proofs.Branching.{Goes, NextAt, Since, alike_goes, alike_related, branch_test, branches_reach, words_there}
-use Rattle.a64_emit.proofs.Computes.{does_more, le_more, scratch_15, scratch_16, source_most}
-use Rattle.a64_emit.proofs.Endings.{Ends, among_plains, leaves_to, plains_append}
-use Rattle.a64_emit.proofs.Fetching.{Fetched, IsUsable, fetch_word, fetched_keeps, gives_same, source_differs}
-use Rattle.a64_emit.proofs.Keeping.{KeepsAll, keeps_related, whole_of}
+use Rattle.a64_emit.proofs.Branching.{Goes, NextAt, alike_goes, alike_related, branches_reach, words_there}
+use Rattle.a64_emit.proofs.Computes.{does_more, scratch_15, scratch_16, source_most}
+use Rattle.a64_emit.proofs.Endings.{Ends, among_plains, leaves_to}
+use Rattle.a64_emit.proofs.Fetching.{IsUsable, fetch_word, fetched_keeps, gives_same, source_differs}
+use Rattle.a64_emit.proofs.Keeping.{keeps_related, whole_of}
 use Rattle.a64_emit.proofs.Ops.{Gives, IsRegister, low_is}
 use Rattle.a64_emit.proofs.Positions.{Among, among_first, among_rest, length_plains}
 use Rattle.a64_emit.proofs.Shapes.{testing_plain}
-use Rattle.a64_emit.proofs.Straight.{Does, DoesOne, Reaches, Runs, does_both, does_none, does_one, leads_on, straight_runs}
+use Rattle.a64_emit.proofs.Straight.{Does, DoesOne, Runs, does_both, does_one, leads_on, straight_runs}
 use Rattle.a64_emit.proofs.Tests.{passes, test_flags, testing_is, with_flags}
 use Rattle.a64_emit.proofs.Words.{does_safely, touches_nothing}
 
@@ -249,8 +242,12 @@ module _ (z : Setting) (set : IsSet z) (serves : IsFrameOf z.procedure z.frame) 
         after = d;
         does = does_both z c n d (fetch z.frame 15 a.arg ++ fetch z.frame 16 b.arg) (inst ∷ [])
             (does_both z c m n (fetch z.frame 15 a.arg) (fetch z.frame 16 b.arg) first.0.does second.0.does) (does_one z n d inst one);
-        related = keeps_related z s n d (record { sp = refl; memory = refl; x = λ r kept. refl;
-            words = record { x = rel_n.frame.words.x; sp = rel_n.frame.words.sp; pc = rel_n.frame.words.pc } }) rel_n;
+        related = keeps_related z s n d (record {
+          sp = refl;
+          memory = refl;
+          x = λ r kept. refl;
+          words = record { x = rel_n.frame.words.x; sp = rel_n.frame.words.sp; pc = rel_n.frame.words.pc };
+        }) rel_n;
         goes = compare_goes d cond a.width (reg_of (source_of 15 a.arg)) (test_flags (Compare cond) a.width x y) refl;
       }
 

@@ -1,19 +1,12 @@
 -- Jumps and branches to the labels of blocks.
-use Rattle.std.proofs.Common.{◌≡◌, ◌≢◌, ℕ, zero, suc, ◌+◌, ◌-◌, ◌*◌, ◌/◌, ◌%◌, ◌^◌, ◌<◌, ◌≤◌, Bool, true, false, not, inl, inr, ⊎_elim, List, [], ◌∷◌, ◌++◌, Option, Some, None, length, get_or, refl, sym, ap, ◌∙◌, subst, arith, eq-eqb}
+use Rattle.std.proofs.Common.{◌≡◌, ℕ, suc, ◌+◌, ◌^◌, ◌<◌, ◌≤◌, Bool, true, false, not, [], ◌∷◌, Some, length, refl, sym, ap, ◌∙◌, subst, arith}
 use Rattle.std.specs.Prelude.{nat_eq, slice_get, if◌then◌else◌}
-use Rattle.std.proofs.lemmas.Bool.{cases_lt, ne_eqb}
 use Rattle.std.proofs.lemmas.Bool.Decides.{nat_tests}
-use Rattle.b3_base.specs.Memory.{read_word}
-use Rattle.b3_base.specs.Observed.{Memory}
-use Rattle.b3_base.specs.Run.{iterate}
 use Rattle.b3_base.specs.declared.word.Width.{Width}
 use Rattle.b3_base.proofs.Run.{iterate-one, iterate-zero}
-use Rattle.a64_inst.specs.Step.{AreWords}
 use Rattle.a64_inst.specs.Values.{holds}
-use Rattle.a64_inst.specs.declared.inst.Cond.{Cond}
-use Rattle.a64_inst.specs.declared.inst.Inst.{Inst}
 use Rattle.a64_inst.specs.declared.item.Item.{Item}
-use Rattle.a64_inst.specs.declared.item.Item.TheVariants.{If, IfBit, IfZero, Jump, Label, Plain}
+use Rattle.a64_inst.specs.declared.item.Item.TheVariants.{Jump, Label}
 use Rattle.air_ir.specs.Blocks as air
 use Rattle.air_ir.specs.Meaning.{World}
 use Rattle.air_ir.specs.Steps.{State}
@@ -28,12 +21,12 @@ use Rattle.a64_layout.specs.declared.branch.Test.{Test as Branched}
 use Rattle.a64_layout.specs.declared.branch.Test.TheVariants as on
 use Rattle.a64_layout.proofs.Least.{place-next, place_mono}
 use Rattle.a64_emit.specs.Code.{branch_item, branches, jump_to}
-use Rattle.a64_emit.specs.Emitted.{IsProperAt, IsSafeItem, Lands}
+use Rattle.a64_emit.specs.Emitted.{IsProperAt, IsSafeItem}
 use Rattle.a64_emit.specs.Related.{IsRelated}
 use Rattle.a64_emit.specs.Setting.{IsSet, Setting, address_of, meaning_of}
-use Rattle.a64_emit.proofs.Keeping.{KeepsAll, keeps_related, whole_of}
-use Rattle.a64_emit.proofs.Positions.{Among, among_first, among_rest}
-use Rattle.a64_emit.proofs.Straight.{AreAlike, IsWhole, Reaches, Runs, leads_on, reaches_here, runs_more, runs_none}
+use Rattle.a64_emit.proofs.Keeping.{keeps_related, whole_of}
+use Rattle.a64_emit.proofs.Positions.{Among, among_rest}
+use Rattle.a64_emit.proofs.Straight.{AreAlike, Reaches, Runs, leads_on, reaches_here, runs_more, runs_none}
 
 -- machines that differ in pc alone are related to the same states
 pub alike_related : (z : Setting) (s : State) (c d : Machine) → AreAlike d c → d.registers.pc < 2 ^ 64 → IsRelated z s c → IsRelated z s d

@@ -1,15 +1,13 @@
 -- The code of a procedure carries out its blocks.
-use Rattle.std.proofs.Common.{◌≡◌, ◌≢◌, ℕ, zero, suc, ◌+◌, ◌-◌, ◌^◌, ◌<◌, ◌≤◌, Bool, true, false, inl, inr, ⊎_elim, List, [], ◌∷◌, ◌++◌, Option, Some, None, refl, sym, ap, ◌∙◌, subst, arith, length, length-append, get_or, append_assoc, append-nil}
+use Rattle.std.proofs.Common.{◌≡◌, ℕ, zero, suc, ◌+◌, ◌<◌, ◌≤◌, true, ⊎_elim, List, [], ◌∷◌, ◌++◌, Some, None, refl, sym, ap, ◌∙◌, subst, arith, length, length-append, get_or, append_assoc, append-nil}
 use Rattle.std.specs.Prelude.{All, slice_get}
 use Rattle.std.proofs.lemmas.Bool.{cases_lt}
 use Rattle.std.proofs.lemmas.Option.{slice_get-get_or, slice_get_within}
 use Rattle.b3_base.specs.Observed.{Answer}
-use Rattle.a64_inst.specs.declared.inst.Inst.{Inst}
 use Rattle.a64_inst.specs.declared.item.Item.{Item}
 use Rattle.a64_inst.specs.declared.item.Item.TheVariants.{Label}
 use Rattle.air_ir.specs.Kinds.{target_count}
 use Rattle.air_ir.specs.Steps.{State}
-use Rattle.air_ir.specs.Weight.{weight}
 use Rattle.air_ir.specs.WellFormed.{IsGoodBlock, IsGoodInst, IsWellFormed}
 use Rattle.air_ir.specs.declared.frame.Frame.{Frame}
 use Rattle.air_ir.specs.declared.procedure.AirBlock.{AirBlock}
@@ -22,19 +20,19 @@ use Rattle.a64_layout.specs.Run as run
 use Rattle.a64_layout.proofs.Least.{place_mono}
 use Rattle.a64_emit.specs.Built.{IsBuilt, is_built}
 use Rattle.a64_emit.specs.Code.{blocks_items, emitted, insts_items, inst_items}
-use Rattle.a64_emit.specs.Emitted.{Begins, CarriesOut, IsSettingOf, first_state}
+use Rattle.a64_emit.specs.Emitted.{Begins, CarriesOut, first_state}
 use Rattle.a64_emit.specs.Places.{plains, prologue}
 use Rattle.a64_emit.specs.Related.{IsRelated}
 use Rattle.a64_emit.specs.Setting.{IsSet, Setting}
-use Rattle.a64_emit.proofs.Ahead.{HasWords, words_ahead, terminal_words}
+use Rattle.a64_emit.proofs.Ahead.{words_ahead, terminal_words}
 use Rattle.a64_emit.proofs.BlockEnds.{AtEnd, ahead_of_blocks, terminal_ends}
 use Rattle.a64_emit.proofs.Blocks.{BlockEnds, IsInner, block_carries, body_ends, entry_carries}
-use Rattle.a64_emit.proofs.Endings.{Ends, among_plains}
-use Rattle.a64_emit.proofs.Entering.{Entered, entered_related, entering}
+use Rattle.a64_emit.proofs.Endings.{among_plains}
+use Rattle.a64_emit.proofs.Entering.{entered_related, entering}
 use Rattle.a64_emit.proofs.Instructions.{AreOpen}
 use Rattle.a64_emit.proofs.Opened.{all_at, operands_open, terminal_usable}
-use Rattle.a64_emit.proofs.Positions.{Among, BlockStands, among_first, among_rest, block_stands, length_plains}
-use Rattle.a64_emit.proofs.Straight.{Runs, straight_runs}
+use Rattle.a64_emit.proofs.Positions.{Among, BlockStands, among_first, among_rest, block_stands}
+use Rattle.a64_emit.proofs.Straight.{straight_runs}
 
 -- ---- the parts of a block
 

@@ -1,16 +1,14 @@
 -- Instructions that compute a word by one instruction.
-use Rattle.std.proofs.Common.{◌≡◌, ◌≢◌, ℕ, ◌+◌, ◌-◌, ◌*◌, ◌%◌, ◌^◌, ◌<◌, ◌≤◌, ◌⊎◌, Bool, true, false, inl, inr, ⊎_elim, List, [], ◌∷◌, ◌++◌, map, Option, Some, None, refl, sym, ap, ◌∙◌, subst, arith, eq-eqb}
+use Rattle.std.proofs.Common.{◌≡◌, ℕ, ◌^◌, ◌<◌, ◌≤◌, ◌⊎◌, false, inl, inr, ⊎_elim, List, [], ◌∷◌, ◌++◌, Option, Some, None, refl, sym, ap, ◌∙◌, subst, arith}
 use Rattle.b3_base.specs.declared.word.Width.{Width}
-use Rattle.b3_base.specs.declared.word.Width.TheVariants.{W32, W64}
-use Rattle.a64_inst.specs.Step.{AreWords, Registers, Stepped, step_of, goes_on, put}
+use Rattle.a64_inst.specs.Step.{Stepped, step_of, goes_on, put}
 use Rattle.a64_inst.specs.declared.inst.Inst.{Inst}
-use Rattle.a64_inst.proofs.Ranged.{LeavesWords, step_of-LeavesWords}
+use Rattle.a64_inst.proofs.Ranged.{step_of-LeavesWords}
 use Rattle.air_ir.specs.Kinds.{Computes, kind_of}
-use Rattle.air_ir.specs.Meaning.{meaning, operation}
-use Rattle.air_ir.specs.Operands.{Held, Holds, Read, and_word, targets, word_of, words}
+use Rattle.air_ir.specs.Meaning.{meaning}
+use Rattle.air_ir.specs.Operands.{Holds, Read, and_word, targets, word_of, words}
 use Rattle.air_ir.specs.Steps.{Goes, State, Undefined, step}
 use Rattle.air_ir.specs.Words.{computed}
-use Rattle.air_ir.specs.declared.op.AirOp.{AirOp}
 use Rattle.air_ir.specs.declared.operand.Arg.{Arg}
 use Rattle.air_ir.specs.declared.operand.Arg.TheVariants.{At, Imm}
 use Rattle.air_ir.specs.declared.operand.Home.{Home}
@@ -20,22 +18,21 @@ use Rattle.air_ir.specs.declared.operand.Role.TheVariants.{Use}
 use Rattle.air_ir.specs.declared.procedure.AirInst.{AirInst}
 use Rattle.air_frame.specs.Frames.{IsFrameOf}
 use Rattle.a64_layout.specs.Machine.{Machine, moved_to}
-use Rattle.a64_run.specs.Machine.{touched}
 use Rattle.a64_emit.specs.Code.{compute_code, fetch, inst_code, put_result, result_reg, source_of}
 use Rattle.a64_emit.specs.Computing.{computing, reg_of}
 use Rattle.a64_emit.specs.Fitting.{IsComputed}
 use Rattle.a64_emit.specs.Related.{HasFrame, IsRelated}
 use Rattle.a64_emit.specs.Setting.{IsSet, Setting}
 use Rattle.a64_emit.specs.declared.source.Source.{Source}
-use Rattle.a64_emit.specs.declared.source.Source.TheVariants.{InReg, Constant}
+use Rattle.a64_emit.specs.declared.source.Source.TheVariants.{Constant}
 use Rattle.a64_emit.proofs.AirSteps.{IsWritten, computes_none, computes_word, step_gives, step_lost, step_without, targets_result, targets_use, words_result, words_use}
-use Rattle.a64_emit.proofs.Fetching.{Fetched, Finished, IsPlaceFor, IsScratch, IsUsable, fetch_word, fetched_keeps, finish, gives_same, result_most, source_differs}
-use Rattle.a64_emit.proofs.Keeping.{KeepsAll, keeps_related, whole_of}
+use Rattle.a64_emit.proofs.Fetching.{Finished, IsPlaceFor, IsScratch, IsUsable, fetch_word, fetched_keeps, finish, gives_same, result_most, source_differs}
+use Rattle.a64_emit.proofs.Keeping.{keeps_related, whole_of}
 use Rattle.a64_emit.proofs.Ops.{Gives, IsRegister, IsWidthOf, one_computed, second_width, takes_constant, three_computed, two_computed}
 use Rattle.a64_emit.proofs.Shapes.{IsPlain, computing_plain}
 use Rattle.a64_emit.proofs.Storing.{with_home}
-use Rattle.a64_emit.proofs.Straight.{Does, DoesOne, does_both, does_none}
-use Rattle.a64_emit.proofs.Words.{puts_one, put_same, with_reg}
+use Rattle.a64_emit.proofs.Straight.{Does, does_both, does_none}
+use Rattle.a64_emit.proofs.Words.{puts_one, put_same}
 
 -- an instruction of Air does what its code does
 pub record Carried (z : Setting) (i : AirInst) (s : State) (c : Machine) : Type 0 where

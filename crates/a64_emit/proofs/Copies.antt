@@ -1,5 +1,5 @@
 -- Copies of words.
-use Rattle.std.proofs.Common.{◌≡◌, ◌≢◌, ℕ, ◌+◌, ◌-◌, ◌*◌, ◌%◌, ◌^◌, ◌<◌, ◌≤◌, ◌⊎◌, Bool, true, false, inl, inr, ⊎_elim, List, [], ◌∷◌, ◌++◌, Option, Some, None, refl, sym, ap, ◌∙◌, subst, arith, nat_eq, eq-eqb, eqb-true}
+use Rattle.std.proofs.Common.{◌≡◌, ◌≢◌, ℕ, ◌^◌, ◌<◌, ◌≤◌, true, false, inl, inr, List, [], ◌∷◌, ◌++◌, Some, None, refl, sym, ap, ◌∙◌, subst, arith, nat_eq, eq-eqb, eqb-true}
 use Rattle.std.specs.Prelude.{if◌then◌else◌}
 use Rattle.b3_base.specs.Arithmetic.{low}
 use Rattle.b3_base.specs.Word.{bits}
@@ -9,9 +9,8 @@ use Rattle.b3_ir.specs.declared.value.Reg.{Reg as Register}
 use Rattle.a64_inst.specs.declared.inst.Inst.{Inst}
 use Rattle.a64_layout.specs.Machine.{Machine, moved_to}
 use Rattle.air_ir.specs.Kinds.{Copies, kind_of}
-use Rattle.air_ir.specs.Meaning.{meaning}
-use Rattle.air_ir.specs.Operands.{Held, Holds, and_word, targets, word_of, words}
-use Rattle.air_ir.specs.Steps.{Goes, State, Undefined, step}
+use Rattle.air_ir.specs.Operands.{Holds, and_word, targets, word_of, words}
+use Rattle.air_ir.specs.Steps.{State}
 use Rattle.air_ir.specs.declared.operand.Arg.{Arg}
 use Rattle.air_ir.specs.declared.operand.Arg.TheVariants.{At, Imm, Addr, Index, FrameSlot}
 use Rattle.air_ir.specs.declared.operand.Home.{Home}
@@ -20,21 +19,20 @@ use Rattle.air_ir.specs.declared.operand.Operand.{Operand}
 use Rattle.air_ir.specs.declared.operand.Role.TheVariants.{Use}
 use Rattle.air_ir.specs.declared.procedure.AirInst.{AirInst}
 use Rattle.air_frame.specs.Frames.{IsFrameOf}
-use Rattle.a64_emit.specs.Code.{bring, copy_code, copy_reg, inst_code, put_result, result_reg}
+use Rattle.a64_emit.specs.Code.{bring, copy_code, inst_code, put_result}
 use Rattle.a64_emit.specs.Computing.{move_reg}
-use Rattle.a64_emit.specs.Constants.{constant}
-use Rattle.a64_emit.specs.Places.{above_sp, load_at, spill_offset, store_at}
+use Rattle.a64_emit.specs.Places.{above_sp, spill_offset, store_at}
 use Rattle.a64_emit.specs.Related.{IsRelated}
 use Rattle.a64_emit.specs.Setting.{IsSet, Setting}
 use Rattle.a64_emit.specs.declared.source.Source.TheVariants.{InReg}
 use Rattle.a64_emit.proofs.AirSteps.{IsWritten, copies_word, step_gives, step_lost, targets_result, targets_use, words_result, words_use}
-use Rattle.a64_emit.proofs.Computes.{Carried, InstRuns, le_more, result_small, scratch_17}
+use Rattle.a64_emit.proofs.Computes.{InstRuns, le_more, result_small, scratch_17}
 use Rattle.a64_emit.proofs.Fetching.{Finished, IsPlaceFor, IsUsable, allocatable_most, allocatable_other, kept_differs, result_most, spill_loads, spill_stores}
-use Rattle.a64_emit.proofs.Keeping.{KeepsAll, reads_carried, some_is, whole_of}
+use Rattle.a64_emit.proofs.Keeping.{reads_carried, some_is, whole_of}
 use Rattle.a64_emit.proofs.Moves.{constant_puts}
 use Rattle.a64_emit.proofs.Ops.{move_is}
 use Rattle.a64_emit.proofs.Shapes.{move_plain}
-use Rattle.a64_emit.proofs.Storing.{PutsReg, reg_related, with_home}
+use Rattle.a64_emit.proofs.Storing.{reg_related, with_home}
 use Rattle.a64_emit.proofs.Straight.{Does, does_both, does_none}
 use Rattle.a64_emit.proofs.Words.{Puts, puts_by_one, puts_one}
 
@@ -64,19 +62,19 @@ module _ (z : Setting) (set : IsSet z) (serves : IsFrameOf z.procedure z.frame) 
       let carried = reads_carried width (s.homes (Reg q)) (c.registers.x q.0) x (rel.registers q usable) e in
       elim (nat_eq reg q.0) as (λ b. nat_eq reg q.0 ≡ b → Brings c (if b then [] else move_reg width reg q.0 ∷ []) reg width x) [
         | true ↦ λ same. record {
-            word = c.registers.x q.0;
-            puts = record {
-              after = c;
-              does = does_none z c;
-              sp = refl;
-              memory = refl;
-              flags = refl;
-              put = ap c.registers.x (eqb-true reg q.0 same);
-              others = λ r differ. refl;
-              words = rel.frame.words;
-            };
-            is = carried;
-          }
+          word = c.registers.x q.0;
+          puts = record {
+            after = c;
+            does = does_none z c;
+            sp = refl;
+            memory = refl;
+            flags = refl;
+            put = ap c.registers.x (eqb-true reg q.0 same);
+            others = λ r differ. refl;
+            words = rel.frame.words;
+          };
+          is = carried;
+        }
         | false ↦ λ differ.
             let plain = move_plain width reg q.0 (le_more reg le) (le_more q.0 (allocatable_most q usable)) in
             let does = λ (pc : ℕ). move_is (moved_to pc c).registers c.memory reg le width (InReg q.0) x tt (allocatable_most q usable, carried) in

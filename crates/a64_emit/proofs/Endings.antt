@@ -1,31 +1,27 @@
 -- The items of what ends a block do what it does.
-use Rattle.std.proofs.Common.{◌≡◌, ◌≢◌, ℕ, pos, zero, suc, ◌+◌, ◌-◌, ◌*◌, ◌/◌, ◌%◌, ◌^◌, ◌<◌, ◌≤◌, ◌⊎◌, Bool, true, false, not, inl, inr, ⊎_elim, List, [], ◌∷◌, ◌++◌, Option, Some, None, map, length, get_or, refl, sym, ap, ◌∙◌, subst, arith, eq-eqb, append_assoc, length-append}
-use Rattle.std.specs.Prelude.{All, nat_eq, slice_get, if◌then◌else◌}
-use Rattle.std.proofs.lemmas.Bool.{cases_lt, ne_eqb}
-use Rattle.std.proofs.lemmas.Bool.Decides.{nat_tests}
+use Rattle.std.proofs.Common.{◌≡◌, ℕ, pos, zero, suc, ◌+◌, ◌%◌, ◌^◌, ◌<◌, ◌⊎◌, true, false, inl, inr, ⊎_elim, List, [], ◌∷◌, ◌++◌, Option, Some, None, length, get_or, refl, sym, ap, ◌∙◌, subst, arith, append_assoc}
+use Rattle.std.specs.Prelude.{slice_get}
 use Rattle.std.proofs.lemmas.Option.{slice_get-get_or, slice_get_within}
 use Rattle.b3_base.specs.Arithmetic.{low}
 use Rattle.b3_base.specs.Observed.{Start}
-use Rattle.b3_base.specs.declared.observation.Status.{Status}
 use Rattle.b3_base.specs.declared.observation.Status.TheVariants.{Returned}
 use Rattle.b3_base.specs.declared.word.Width.{Width}
 use Rattle.b3_base.specs.declared.word.Width.TheVariants.{W32, W64}
 use Rattle.stackmap.specs.declared.site.Returns.{Returns as Returned_type}
 use Rattle.stackmap.specs.declared.site.Returns.TheVariants as returns
-use Rattle.a64_inst.specs.Step.{AreWords, Registers, step_of, branch_reg}
+use Rattle.a64_inst.specs.Step.{Registers, step_of, branch_reg}
 use Rattle.a64_inst.specs.declared.inst.BranchKind.TheVariants.{Ret}
 use Rattle.a64_inst.specs.declared.inst.Inst.{Inst}
 use Rattle.a64_inst.specs.declared.inst.Inst.TheVariants.{AddSubImm, BranchReg, PairSp}
 use Rattle.a64_inst.specs.declared.item.Item.{Item}
 use Rattle.a64_inst.specs.declared.item.Item.TheVariants.{Plain}
 use Rattle.air_ir.specs.Blocks as air
-use Rattle.air_ir.specs.Forms.{HasOperands, operand_in, returned}
-use Rattle.air_ir.specs.Kinds.{Kind, Branches, Fails, Jumps, Returns, Switches, kind_of}
-use Rattle.air_ir.specs.Meaning.{Exit, Operation, Over, To, World, meaning, operation}
-use Rattle.air_ir.specs.Operands.{Homes, Read, read, targets, word_of, words}
-use Rattle.air_ir.specs.Steps.{Goes, State, Undefined, junk_words, step}
+use Rattle.air_ir.specs.Forms.{operand_in, returned}
+use Rattle.air_ir.specs.Kinds.{Returns, kind_of}
+use Rattle.air_ir.specs.Meaning.{Exit, Over, To, World, meaning, operation}
+use Rattle.air_ir.specs.Operands.{Read, targets, word_of, words}
+use Rattle.air_ir.specs.Steps.{Goes, State, junk_words, step}
 use Rattle.air_ir.specs.Operands.{put_all}
-use Rattle.air_ir.specs.declared.op.AirOp.{AirOp}
 use Rattle.air_ir.specs.declared.op.AirOp.TheVariants as op
 use Rattle.air_ir.specs.declared.operand.Arg.TheVariants.{At}
 use Rattle.air_ir.specs.declared.operand.Home.TheVariants.{Reg}
@@ -33,23 +29,21 @@ use Rattle.air_ir.specs.declared.operand.Operand.{Operand}
 use Rattle.air_ir.specs.declared.operand.Role.TheVariants.{Use}
 use Rattle.air_ir.specs.declared.procedure.AirInst.{AirInst}
 use Rattle.air_frame.specs.Frames.{IsFrameOf}
-use Rattle.a64_layout.specs.Branch.{size_in}
-use Rattle.a64_layout.specs.Layout.{place, position_of}
 use Rattle.a64_layout.specs.Machine.{Machine, moved_to}
 use Rattle.a64_layout.specs.Run as run
-use Rattle.a64_run.specs.Machine.{returned_word, touched}
+use Rattle.a64_run.specs.Machine.{returned_word}
 use Rattle.a64_run.specs.Placement.{visible}
-use Rattle.a64_emit.specs.Code.{inst_items, jump_to}
-use Rattle.a64_emit.specs.Emitted.{IsProperAt, IsSafe, IsSafeItem, IsStopped, Returns as HasReturned}
-use Rattle.a64_emit.specs.Places.{epilogue, leave, plains, restores}
+use Rattle.a64_emit.specs.Code.{jump_to}
+use Rattle.a64_emit.specs.Emitted.{IsProperAt, IsSafeItem, Returns as HasReturned}
+use Rattle.a64_emit.specs.Places.{epilogue, plains, restores}
 use Rattle.a64_emit.specs.Related.{Carries, IsRelated}
 use Rattle.a64_emit.specs.Setting.{IsSet, Setting, address_of, row}
-use Rattle.a64_emit.proofs.AirSteps.{step_lost, step_without, words_use}
-use Rattle.a64_emit.proofs.Branching.{NextAt, Since, jump_reaches, words_there}
-use Rattle.a64_emit.proofs.Keeping.{reads_carried, whole_of}
+use Rattle.a64_emit.proofs.AirSteps.{step_lost, step_without}
+use Rattle.a64_emit.proofs.Branching.{NextAt, jump_reaches, words_there}
+use Rattle.a64_emit.proofs.Keeping.{reads_carried}
 use Rattle.a64_emit.proofs.Leaving.{Leaves, leaving}
 use Rattle.a64_emit.proofs.Positions.{Among, among_first, among_rest, length_plains}
-use Rattle.a64_emit.proofs.Straight.{AreAlike, Does, IsWhole, Reaches, Runs, leads_on, reaches_here, straight_runs, whole_alike}
+use Rattle.a64_emit.proofs.Straight.{AreAlike, IsWhole, Reaches, Runs, leads_on, reaches_here, straight_runs, whole_alike}
 
 abbrev pub ReachesUnlessLost : Setting → World → air.Config → ℕ → Machine → Type 0
 ReachesUnlessLost z from air.Lost k c = Unit {0}
@@ -225,7 +219,7 @@ module _ (z : Setting) (set : IsSet z) (serves : IsFrameOf z.procedure z.frame) 
       })
       (returns_word z.start i s (ap kind_of is) (c.registers.x 0) (rel.frame.words.x 0) (rel.registers (record { 0 = 0 }) (inl (omega arith))) z.procedure.returns os)
 
--- ---- Jump and Oops
+  -- ---- Jump and Oops
 
   pub leaves_to : (i : AirInst) (s : State) (targets_of : List ℕ) (rs : List Read) (n target : ℕ) → words s.homes i.operands ≡ Some rs → targets i.operands ≡ []
       → meaning z.start (operation i) rs s.world ≡ Some (record { results = []; world = s.world; exit = Some (To n) })

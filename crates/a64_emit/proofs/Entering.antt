@@ -1,13 +1,12 @@
 -- The prologue leads from the start to the label of the entry, with the frame there.
-use Rattle.std.proofs.Common.{◌≡◌, ◌≢◌, ℕ, negsuc, zero, suc, ◌+◌, ◌-◌, ◌*◌, ◌/◌, ◌%◌, ◌^◌, ◌<◌, ◌≤◌, min, Bool, true, false, inl, inr, ⊎_elim, List, [], ◌∷◌, ◌++◌, Option, Some, None, length, get_or, refl, sym, ap, ◌∙◌, subst, arith, eq-eqb}
-use Rattle.std.specs.Prelude.{All, AllPairs, Contains, IfSome, IsSomeAnd, is_some, map, nat_eq, nat_le, nat_lt, slice_get, ◌&&◌, ◌||◌, if◌then◌else◌}
-use Rattle.std.proofs.lemmas.Bool.{ne_eqb}
+use Rattle.std.proofs.Common.{◌≡◌, ◌≢◌, ℕ, negsuc, zero, suc, ◌+◌, ◌-◌, ◌*◌, ◌/◌, ◌%◌, ◌^◌, ◌<◌, ◌≤◌, min, Bool, true, false, ⊎_elim, List, [], ◌∷◌, ◌++◌, Option, Some, None, length, get_or, refl, sym, ap, ◌∙◌, subst, arith}
+use Rattle.std.specs.Prelude.{All, AllPairs, Contains, IfSome, IsSomeAnd, is_some, map, nat_eq, nat_le, nat_lt, ◌&&◌, if◌then◌else◌}
 use Rattle.std.proofs.lemmas.Bool.Decides.{nat_tests}
 use Rattle.std.proofs.lemmas.Int.{ints}
 use Rattle.std.proofs.lemmas.List.Elements.{All-head, All-tail}
 use Rattle.b3_base.specs.Memory.{AreApart, AreBytes, byte_address, is_mapped, read_word, write_word}
 use Rattle.b3_base.specs.Arithmetic.{low}
-use Rattle.b3_base.specs.Observed.{Answer, Memory, MachineStart}
+use Rattle.b3_base.specs.Observed.{Answer, Memory}
 use Rattle.b3_ir.specs.declared.value.Reg.{Reg as Register}
 use Rattle.stackmap.specs.Rules.{IsAllocatable}
 use Rattle.stackmap.specs.declared.site.Rep.TheVariants.{Slot}
@@ -16,21 +15,19 @@ use Rattle.air_frame.specs.Frames.{IsFrameOf}
 use Rattle.b3_base.specs.declared.word.Width.TheVariants.{W64}
 use Rattle.b3_base.proofs.MemoryLaws.{is_mapped_all, is_some-read_word, write_word-AreBytes, write_word_keeps}
 use Rattle.b3_base.proofs.WordLaws.{read-write_apart, read-write_same}
-use Rattle.exit_table.specs.Good.{AreDisjoint, IsGoodFrame, IsGoodRep, IsGoodSaved, IsWordOffset, Span, saved_span, slot_span, word_span}
+use Rattle.exit_table.specs.Good.{AreDisjoint, IsGoodFrame, IsGoodRep, IsGoodSaved, IsWordOffset, saved_span, slot_span}
 use Rattle.stackmap.specs.declared.site.SavedRow.{SavedRow}
 use Rattle.a64_inst.specs.Step.{AreWords, Registers, Stepped, step_of, goes_on, put, moved_sp, add_sub_imm, store_pair}
-use Rattle.a64_inst.specs.declared.inst.Inst.{Inst}
 use Rattle.a64_inst.specs.declared.inst.Inst.TheVariants.{AddSubImm, PairSp}
 use Rattle.a64_layout.specs.Machine.{Machine, moved_to}
-use Rattle.a64_run.specs.Machine.{touched}
 use Rattle.a64_run.specs.Placement.{argument_words, entry_memory, frame_pointer_of, in_frame, visible}
 use Rattle.a64_emit.specs.Places.{above_sp, lower_sp, prologue, saves, store_at, unless_zero}
 use Rattle.a64_emit.specs.Related.{Carries, HasFrame, IsRelated, word_below}
 use Rattle.a64_emit.specs.Setting.{IsSet, Setting, row}
 use Rattle.a64_emit.specs.Emitted.{Begins, first_state}
 use Rattle.a64_emit.proofs.FrameWords.{IsHiddenWord, apart_from_slots, hidden_store, hidden_word, not_in_slot, pairs_behind, pairs_head, pairs_without, word_mapped, words_apart}
-use Rattle.a64_emit.proofs.Straight.{AreAlike, Does, DoesOne, IsWhole, does_alike, does_both, does_first, does_none, does_one}
-use Rattle.a64_emit.proofs.Words.{IsPlaced, Stores, does_safely, put_other, put_same, put_words, puts_one, store_puts, touches_nothing, whole_same, with_memory, with_reg}
+use Rattle.a64_emit.proofs.Straight.{Does, DoesOne, IsWhole, does_both, does_first, does_none, does_one}
+use Rattle.a64_emit.proofs.Words.{IsPlaced, does_safely, put_other, put_same, put_words, puts_one, store_puts, touches_nothing, whole_same, with_memory, with_reg}
 
 -- ---- SP falls
 
@@ -255,8 +252,7 @@ module _ (z : Setting) (set : IsSet z) (good : IsGoodFrame (row z)) where
       let is_good = All-head (IsGoodSaved z.frame.bytes) s rows goods in
       let goods_rest = All-tail (IsGoodSaved z.frame.bytes) s rows goods in
       let among : Contains (map saved_span (s ∷ rows)) (saved_span s) = (0, omega arith, refl) in
-      let behind = pairs_behind (row z).slots (map saved_span (s ∷ rows)) apart in
-      (
+      let behind = pairs_behind (row z).slots (map saved_span (s ∷ rows)) apart in (
         is_good,
         hidden_word z set good s.offset is_good.place (apart_from_slots (row z).slots (map saved_span (s ∷ rows)) (saved_span s) apart among),
         other_rows s rows is_good.place goods_rest (pairs_head (saved_span s) (map saved_span rows) behind),
@@ -266,8 +262,7 @@ module _ (z : Setting) (set : IsSet z) (good : IsGoodFrame (row z)) where
   caller_other : (rows : List SavedRow) → All (IsGoodSaved z.frame.bytes) rows → OtherThan z (frame_pointer_of z.entry - 0) rows
   caller_other [] goods = tt
   caller_other (s ∷ rows) goods =
-      let place = (All-head (IsGoodSaved z.frame.bytes) s rows goods).place in
-      (
+      let place = (All-head (IsGoodSaved z.frame.bytes) s rows goods).place in (
         λ i j lt_i lt_j. caller_apart z.entry.sp z.frame.bytes s.offset i j set.ranged.sp set.room place.ends place.begins lt_i lt_j,
         caller_other rows (All-tail (IsGoodSaved z.frame.bytes) s rows goods),
       )
@@ -275,8 +270,7 @@ module _ (z : Setting) (set : IsSet z) (good : IsGoodFrame (row z)) where
   link_other : (rows : List SavedRow) → All (IsGoodSaved z.frame.bytes) rows → OtherThan z (frame_pointer_of z.entry + 8) rows
   link_other [] goods = tt
   link_other (s ∷ rows) goods =
-      let place = (All-head (IsGoodSaved z.frame.bytes) s rows goods).place in
-      (
+      let place = (All-head (IsGoodSaved z.frame.bytes) s rows goods).place in (
         λ i j lt_i lt_j. link_apart z.entry.sp z.frame.bytes s.offset i j set.ranged.sp set.room place.ends place.begins lt_i lt_j,
         link_other rows (All-tail (IsGoodSaved z.frame.bytes) s rows goods),
       )

@@ -1,14 +1,12 @@
 -- Operands are fetched, and a result is put in its place.
-use Rattle.std.proofs.Common.{◌≡◌, ◌≢◌, ℕ, ◌+◌, ◌-◌, ◌*◌, ◌%◌, ◌^◌, ◌<◌, ◌≤◌, ◌⊎◌, Bool, true, false, inl, inr, ⊎_elim, List, [], ◌∷◌, ◌++◌, Option, Some, None, refl, sym, ap, ◌∙◌, subst, arith}
-use Rattle.std.specs.Prelude.{is_some}
+use Rattle.std.proofs.Common.{◌≡◌, ◌≢◌, ℕ, ◌^◌, ◌<◌, ◌≤◌, true, ⊎_elim, List, [], ◌∷◌, Some, refl, ap, ◌∙◌, arith}
 use Rattle.b3_base.specs.Arithmetic.{low}
 use Rattle.b3_base.specs.declared.word.Width.{Width}
-use Rattle.b3_base.specs.declared.word.Width.TheVariants.{W32, W64}
 use Rattle.b3_ir.specs.declared.value.Reg.{Reg as Register}
 use Rattle.stackmap.specs.Rules.{IsAllocatable}
 use Rattle.a64_inst.specs.Step.{AreWords, Registers}
 use Rattle.a64_inst.specs.declared.inst.Inst.{Inst}
-use Rattle.air_ir.specs.Operands.{Held, Holds, Homes, read, word_of}
+use Rattle.air_ir.specs.Operands.{Held, Holds, read, word_of}
 use Rattle.air_ir.specs.Steps.{State}
 use Rattle.air_ir.specs.declared.operand.Arg.{Arg}
 use Rattle.air_ir.specs.declared.operand.Arg.TheVariants.{At, Imm, Addr, Index, FrameSlot}
@@ -17,20 +15,18 @@ use Rattle.air_ir.specs.declared.operand.Home.TheVariants.{Reg, Spill, Tmp}
 use Rattle.air_frame.specs.Frames.{IsFrameOf}
 use Rattle.air_frame.specs.Needs.{names, writes}
 use Rattle.a64_layout.specs.Machine.{Machine}
-use Rattle.a64_run.specs.Placement.{frame_pointer_of}
 use Rattle.a64_emit.specs.Code.{fetch, put_result, result_reg, source_of}
-use Rattle.a64_emit.specs.Computing.{reg_of}
 use Rattle.a64_emit.specs.Places.{above_sp, load_at, spill_offset, store_at}
-use Rattle.a64_emit.specs.Related.{HasFrame, IsRelated, word_below}
-use Rattle.a64_emit.specs.Setting.{IsSet, Setting, row}
+use Rattle.a64_emit.specs.Related.{IsRelated}
+use Rattle.a64_emit.specs.Setting.{IsSet, Setting}
 use Rattle.a64_emit.specs.declared.source.Source.{Source}
 use Rattle.a64_emit.specs.declared.source.Source.TheVariants.{InReg, Constant}
 use Rattle.a64_emit.proofs.FrameWords.{word_mapped}
 use Rattle.a64_emit.proofs.Keeping.{IsKept, KeepsAll, keeps_related, placed, reads_carried, some_is, spill_stands, whole_of, word-small}
-use Rattle.a64_emit.proofs.Ops.{Gives, IsRegister}
-use Rattle.a64_emit.proofs.Storing.{PutsReg, PutsWord, reg_related, spill_related, with_home}
-use Rattle.a64_emit.proofs.Straight.{Does, DoesOne, does_both, does_first, does_none, does_one}
-use Rattle.a64_emit.proofs.Words.{Puts, Stores, load_puts, put_other, put_same, put_words, store_puts, with_reg}
+use Rattle.a64_emit.proofs.Ops.{Gives}
+use Rattle.a64_emit.proofs.Storing.{reg_related, spill_related, with_home}
+use Rattle.a64_emit.proofs.Straight.{Does, DoesOne, does_first, does_none, does_one}
+use Rattle.a64_emit.proofs.Words.{Puts, load_puts, put_other, put_same, put_words, store_puts, with_reg}
 
 -- an argument that may be fetched: a register that values may stand in, a spill place that is named, or a constant
 abbrev pub IsUsable : Setting → Arg → Type 0
@@ -114,11 +110,12 @@ module _ (z : Setting) (set : IsSet z) (serves : IsFrameOf z.procedure z.frame) 
       → (v : ℕ) × Puts z c (load_at reg (above_sp z.frame (spill_offset z.frame n))) reg v × (low width v ≡ w)
   spill_loads s c reg n w width rel named le other e =
       let stands = spill_stands z set serves n named in
-      let word = rel.spills n (spill_offset z.frame n) named stands.0 in
-      (word.0,
-      load_puts z c reg (spill_offset z.frame n) word.0 (whole_of z set serves c rel.frame) rel.frame.words le other
-      (placed z set serves c (spill_offset z.frame n) rel.frame stands.1.0) (word-small z c (spill_offset z.frame n) word.0 rel.frame word.1) word.1,
-      reads_carried width (s.homes (Spill n)) word.0 w word.2 e)
+      let word = rel.spills n (spill_offset z.frame n) named stands.0 in (
+        word.0,
+        load_puts z c reg (spill_offset z.frame n) word.0 (whole_of z set serves c rel.frame) rel.frame.words le other
+            (placed z set serves c (spill_offset z.frame n) rel.frame stands.1.0) (word-small z c (spill_offset z.frame n) word.0 rel.frame word.1) word.1,
+        reads_carried width (s.homes (Spill n)) word.0 w word.2 e,
+      )
 
   -- an argument is fetched
   pub fetch_word : (s : State) (c : Machine) (scratch : ℕ) (arg : Arg) (width : Width) (w : ℕ) → IsRelated z s c → IsUsable z arg → IsScratch scratch
@@ -128,16 +125,18 @@ module _ (z : Setting) (set : IsSet z) (serves : IsFrameOf z.procedure z.frame) 
   fetch_word s c scratch (At (Reg r)) width w rel usable is e =
       (none_fetched c scratch rel.frame.words, (allocatable_most r usable, reads_carried width (s.homes (Reg r)) (c.registers.x r.0) w (rel.registers r usable) e))
   fetch_word s c scratch (At (Spill n)) width w rel usable is e =
-      let load = spill_loads s c scratch n w width rel usable (omega (arith, is.1)) (λ f. omega (arith, is.1)) e in
-      (record {
-        after = load.1.after;
-        does = load.1.does;
-        sp = load.1.sp;
-        memory = load.1.memory;
-        flags = load.1.flags;
-        others = load.1.others;
-        words = load.1.words;
-      }, (omega (arith, is.1), ap (low width) load.1.put ∙ load.2))
+      let load = spill_loads s c scratch n w width rel usable (omega (arith, is.1)) (λ f. omega (arith, is.1)) e in (
+        record {
+          after = load.1.after;
+          does = load.1.does;
+          sp = load.1.sp;
+          memory = load.1.memory;
+          flags = load.1.flags;
+          others = load.1.others;
+          words = load.1.words;
+        },
+        (omega (arith, is.1), ap (low width) load.1.put ∙ load.2),
+      )
   fetch_word s c scratch (At (Tmp n)) width w rel usable is e = absurd usable
   fetch_word s c scratch (Imm word) width w rel usable is e = (none_fetched c scratch rel.frame.words, some_is _ w e)
   fetch_word s c scratch (Addr base offset) width w rel usable is e = absurd usable

@@ -1,10 +1,10 @@
 -- The operands of an op are such as its code takes.
-use Rattle.std.proofs.Common.{◌≡◌, ℕ, ◌+◌, ◌<◌, ◌≤◌, ◌⊎◌, ⊎_elim, Bool, true, false, List, [], ◌∷◌, ◌++◌, Option, Some, None, length, get_or, refl, sym, ap, ◌∙◌, subst, arith}
+use Rattle.std.proofs.Common.{ℕ, ◌<◌, List, [], ◌∷◌, ◌++◌, get_or, sym, subst}
 use Rattle.std.specs.Prelude.{All}
 use Rattle.b3_base.specs.Word.{bits}
 use Rattle.b3_base.specs.declared.word.Width.{Width}
 use Rattle.stackmap.specs.declared.site.Returns.{Returns}
-use Rattle.air_ir.specs.Forms.{AllFit, BitOf, Fits, HasOperands, Immediates, IsWord, OfSum, OfLogic, Takes, Word, NoImmediate, home, test_takes}
+use Rattle.air_ir.specs.Forms.{AllFit, BitOf, HasOperands, Immediates, IsWord, OfSum, OfLogic, Takes, Word, home, test_takes}
 use Rattle.air_ir.specs.declared.op.AirOp.{AirOp}
 use Rattle.air_ir.specs.declared.op.AirOp.TheVariants as op
 use Rattle.air_ir.specs.declared.op.Test.{Test}

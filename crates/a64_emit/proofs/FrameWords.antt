@@ -1,25 +1,22 @@
 -- The words of a frame: where their bytes stand, and that a store to one of them isn't seen.
 use mathlib.Core.Path.{fun_ext}
-use Rattle.std.proofs.Common.{◌≡◌, ◌≢◌, ℕ, zero, suc, ◌+◌, ◌-◌, ◌%◌, ◌/◌, ◌^◌, ◌<◌, ◌≤◌, ◌⊎◌, inl, inr, ⊎_elim, Bool, true, false, List, [], ◌∷◌, ◌++◌, Some, None, length, get_or, refl, sym, ap, ◌∙◌, subst, arith, length-append}
-use Rattle.std.specs.Prelude.{All, AllPairs, Contains, is_some, map, nat_le, nat_lt, ◌&&◌, ◌||◌, if◌then◌else◌}
+use Rattle.std.proofs.Common.{◌≡◌, ◌≢◌, ℕ, suc, ◌+◌, ◌-◌, ◌^◌, ◌<◌, ◌≤◌, ◌⊎◌, inl, inr, ⊎_elim, Bool, true, false, List, [], ◌∷◌, ◌++◌, None, refl, ap, ◌∙◌, subst, arith}
+use Rattle.std.specs.Prelude.{All, AllPairs, Contains, is_some, map, ◌||◌, if◌then◌else◌}
 use Rattle.std.specs.List.{list_any}
 use Rattle.std.proofs.lemmas.Bool.Decides.{nat_tests}
 use Rattle.std.proofs.lemmas.List.Kept.{AllPairs-cons}
 use Rattle.std.proofs.lemmas.List.Elements.{All-cons, All-head, All-nil, All-tail, Contains-append_right}
-use Rattle.b3_base.specs.Memory.{AreApart, byte_address, is_mapped, read_word, write_word}
+use Rattle.b3_base.specs.Memory.{AreApart, byte_address, is_mapped, write_word}
 use Rattle.b3_base.specs.Observed.{Memory, MachineStart}
 use Rattle.b3_base.specs.declared.word.Width.TheVariants.{W64}
 use Rattle.b3_base.proofs.MemoryLaws.{is_mapped_all}
 use Rattle.b3_base.proofs.WordLaws.{write_word_other}
-use Rattle.exit_table.specs.Good.{AreDisjoint, IsGoodFrame, IsGoodSaved, IsGoodSlot, IsWordOffset, Span, saved_span, slot_span, word_span}
+use Rattle.exit_table.specs.Good.{AreDisjoint, IsGoodFrame, IsGoodSlot, IsWordOffset, Span, slot_span, word_span}
 use Rattle.exit_table.specs.declared.tables.FrameRow.{FrameRow}
-use Rattle.stackmap.specs.declared.site.SavedRow.{SavedRow}
 use Rattle.stackmap.specs.declared.site.SlotRow.{SlotRow}
 use Rattle.a64_layout.specs.Machine.{Machine}
 use Rattle.a64_run.specs.Placement.{frame_pointer_of, in_frame, in_slot, is_within, slot_address, visible}
-use Rattle.a64_emit.specs.Related.{HasFrame}
 use Rattle.a64_emit.specs.Setting.{IsSet, Setting, row}
-use Rattle.a64_emit.proofs.Straight.{IsWhole}
 
 -- ---- numbers
 

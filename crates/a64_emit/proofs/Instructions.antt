@@ -1,7 +1,6 @@
 -- Each instruction that doesn't end its block does what its code does.
-use Rattle.std.proofs.Common.{◌≡◌, ◌≢◌, ℕ, zero, suc, ◌+◌, ◌-◌, ◌*◌, ◌%◌, ◌^◌, ◌<◌, ◌≤◌, ◌⊎◌, Bool, true, false, inl, inr, ⊎_elim, List, [], ◌∷◌, ◌++◌, Option, Some, None, refl, sym, ap, ◌∙◌, subst, arith}
-use Rattle.std.specs.Prelude.{if◌then◌else◌, All, slice_get}
-use Rattle.b3_base.specs.Word.{bits}
+use Rattle.std.proofs.Common.{◌≡◌, ℕ, ◌≤◌, true, false, inl, inr, List, [], ◌∷◌, ◌++◌, Option, Some, None, refl, sym, ap, ◌∙◌, subst, arith}
+use Rattle.std.specs.Prelude.{if◌then◌else◌, slice_get}
 use Rattle.b3_base.specs.declared.word.Width.{Width}
 use Rattle.b3_base.specs.declared.word.Width.TheVariants.{W32, W64}
 use Rattle.b3_meaning.specs.Opcodes.{truth}
@@ -9,18 +8,16 @@ use Rattle.stackmap.specs.declared.site.Returns.{Returns}
 use Rattle.a64_layout.specs.Machine.{Machine}
 use Rattle.a64_inst.specs.Step.{Registers}
 use Rattle.a64_inst.specs.declared.inst.Cond.{Cond}
-use Rattle.a64_inst.specs.declared.inst.Inst.{Inst}
 use Rattle.a64_inst.specs.declared.inst.Inst.TheVariants.{Select}
 use Rattle.a64_layout.specs.Branch.{opposite_cond}
 use Rattle.air_ir.specs.Words.{computed}
 use Rattle.air_ir.specs.declared.frame.Frame.{Frame}
 use Rattle.a64_emit.specs.declared.source.Source.{Source}
-use Rattle.air_ir.specs.Forms.{AllFit, AnyWord, AreThese, BitOf, Fits, HasOperands, Immediates, IsHome, IsImmediate, IsWord, NoImmediate, OfLogic, OfSum, Result, Takes, Word, home, takes, test_takes}
-use Rattle.air_ir.specs.Kinds.{Computes, Copies, kind_of, target_count}
+use Rattle.air_ir.specs.Forms.{AllFit, AnyWord, AreThese, BitOf, Fits, HasOperands, Immediates, IsHome, IsWord, NoImmediate, OfLogic, OfSum, Result, Takes, Word, home, takes}
+use Rattle.air_ir.specs.Kinds.{Computes, kind_of, target_count}
 use Rattle.a64_emit.specs.Built.{is_built}
-use Rattle.air_ir.specs.Meaning.{meaning, operation}
 use Rattle.air_ir.specs.Operands.{Read, and_word, targets, word_of, words}
-use Rattle.air_ir.specs.Steps.{State, Undefined, step}
+use Rattle.air_ir.specs.Steps.{State}
 use Rattle.air_ir.specs.declared.op.AirOp.{AirOp}
 use Rattle.air_ir.specs.declared.op.AirOp.TheVariants as op
 use Rattle.air_ir.specs.declared.op.Test.{Test}
@@ -33,7 +30,7 @@ use Rattle.air_ir.specs.declared.operand.Operand.{Operand}
 use Rattle.air_ir.specs.declared.operand.Role.TheVariants.{Use}
 use Rattle.air_ir.specs.declared.procedure.AirInst.{AirInst}
 use Rattle.air_frame.specs.Frames.{IsFrameOf}
-use Rattle.a64_emit.specs.Code.{compute_code, copy_code, fetch, inst_code, put_result, result_reg, source_of}
+use Rattle.a64_emit.specs.Code.{compute_code, fetch, inst_code, put_result, result_reg, source_of}
 use Rattle.a64_emit.specs.Computing.{condition, reg_of, testing}
 use Rattle.a64_emit.specs.Fitting.{FitsSource, IsComputed, IsTested}
 use Rattle.a64_emit.specs.Related.{IsRelated}
@@ -44,7 +41,7 @@ use Rattle.a64_emit.proofs.Copies.{IsConstantOf, copy_runs}
 use Rattle.a64_emit.proofs.Fetching.{IsPlaceFor, IsUsable}
 use Rattle.a64_emit.proofs.Ops.{IsRegister, IsWidthOf, second_width, takes_constant}
 use Rattle.a64_emit.proofs.Tests.{GivesSecond, passes}
-use Rattle.a64_emit.proofs.TestsRun.{Ready, ready_one, ready_two, select_end, set_end}
+use Rattle.a64_emit.proofs.TestsRun.{ready_one, ready_two, select_end, set_end}
 
 -- ---- operands
 
@@ -341,29 +338,29 @@ module _ (z : Setting) (set : IsSet z) (serves : IsFrameOf z.procedure z.frame) 
       elim (word_of s.homes a.0.width a.0.arg) as (λ o. word_of s.homes a.0.width a.0.arg ≡ o → InstRuns z i s c) [
         | None ↦ λ p. inl (step_lost z.start i s (reads ∙ ap (λ o. All o B M N) p))
         | Some x ↦ λ p. elim (word_of s.homes b.0.width b.0.arg) as (λ o. word_of s.homes b.0.width b.0.arg ≡ o → InstRuns z i s c) [
-            | None ↦ λ q. inl (step_lost z.start i s (reads ∙ ap (λ o. All o B M N) p ∙ ap (λ o. All (Some x) o M N) q))
-            | Some y ↦ λ q. elim (word_of s.homes m.0.width m.0.arg) as (λ o. word_of s.homes m.0.width m.0.arg ≡ o → InstRuns z i s c) [
-                | None ↦ λ r. inl (step_lost z.start i s (reads ∙ ap (λ o. All o B M N) p ∙ ap (λ o. All (Some x) o M N) q ∙ ap (λ o. All (Some x) (Some y) o N) r))
-                | Some u ↦ λ r. elim (word_of s.homes n.0.width n.0.arg) as (λ o. word_of s.homes n.0.width n.0.arg ≡ o → InstRuns z i s c) [
-                    | None ↦ λ l. inl (step_lost z.start i s
-                        (reads ∙ ap (λ o. All o B M N) p ∙ ap (λ o. All (Some x) o M N) q ∙ ap (λ o. All (Some x) (Some y) o N) r ∙ ap (λ o. All (Some x) (Some y) (Some u) o) l))
-                    | Some v ↦ λ l.
-                        let read = reads ∙ ap (λ o. All o B M N) p ∙ ap (λ o. All (Some x) o M N) q ∙ ap (λ o. All (Some x) (Some y) o N) r ∙ ap (λ o. All (Some x) (Some y) (Some u) o) l in
-                        let rs : List Read = (a.0.width, x) ∷ (b.0.width, y) ∷ (m.0.width, u) ∷ (n.0.width, v) ∷ [] in
-                        let t : Test = Compare cond in
-                        let ready = ready_two z set serves s c cond a.0.arg b.0.arg a.0.width x y rel usable_a usable_b p (ap (λ w. word_of s.homes w b.0.arg) (sym same) ∙ q) in
-                        inr (select_end z set serves i s c t _ (source_of 15 a.0.arg) (source_of 16 b.0.arg) a.0.width x y m.0.arg n.0.arg m.0.width u v d.0 written.0 ready written.1 may
-                        (home_register z width 15 a.0.arg usable_a a.3.2)
-                        (subst (λ w. IsTested t w (source_of 16 b.0.arg)) (sym a.3.1) (fits_source z OfSum width 16 b.0.arg usable_b b.3.2))
-                        (source_most z 15 a.0.arg (omega arith) usable_a) (source_most z 16 b.0.arg (omega arith) usable_b)
-                        usable_m usable_n (home_register z other 15 m.0.arg usable_m m.3.2) (home_register z other 16 n.0.arg usable_n n.3.2)
-                        r (ap (λ w. word_of s.homes w n.0.arg) (sym same_n) ∙ l)
-                        (ap (λ os. inst_code z.frame i.op os) operands ∙ ap (λ o. inst_code z.frame o (a.0 ∷ b.0 ∷ m.0 ∷ n.0 ∷ d.0 ∷ [])) e)
-                        (step_gives z.start i s rs written.0 d.0.width (if passes t a.0.width x y then u else v) read writes
-                        (computes_word z.start i s rs (if passes t a.0.width x y then u else v) (ap kind_of e) (ap (λ o. computed o a.0.width (x ∷ y ∷ u ∷ v ∷ [])) e))))
-                  ] refl
-              ] refl
+          | None ↦ λ q. inl (step_lost z.start i s (reads ∙ ap (λ o. All o B M N) p ∙ ap (λ o. All (Some x) o M N) q))
+          | Some y ↦ λ q. elim (word_of s.homes m.0.width m.0.arg) as (λ o. word_of s.homes m.0.width m.0.arg ≡ o → InstRuns z i s c) [
+            | None ↦ λ r. inl (step_lost z.start i s (reads ∙ ap (λ o. All o B M N) p ∙ ap (λ o. All (Some x) o M N) q ∙ ap (λ o. All (Some x) (Some y) o N) r))
+            | Some u ↦ λ r. elim (word_of s.homes n.0.width n.0.arg) as (λ o. word_of s.homes n.0.width n.0.arg ≡ o → InstRuns z i s c) [
+              | None ↦ λ l. inl (step_lost z.start i s
+                  (reads ∙ ap (λ o. All o B M N) p ∙ ap (λ o. All (Some x) o M N) q ∙ ap (λ o. All (Some x) (Some y) o N) r ∙ ap (λ o. All (Some x) (Some y) (Some u) o) l))
+              | Some v ↦ λ l.
+                  let read = reads ∙ ap (λ o. All o B M N) p ∙ ap (λ o. All (Some x) o M N) q ∙ ap (λ o. All (Some x) (Some y) o N) r ∙ ap (λ o. All (Some x) (Some y) (Some u) o) l in
+                  let rs : List Read = (a.0.width, x) ∷ (b.0.width, y) ∷ (m.0.width, u) ∷ (n.0.width, v) ∷ [] in
+                  let t : Test = Compare cond in
+                  let ready = ready_two z set serves s c cond a.0.arg b.0.arg a.0.width x y rel usable_a usable_b p (ap (λ w. word_of s.homes w b.0.arg) (sym same) ∙ q) in
+                  inr (select_end z set serves i s c t _ (source_of 15 a.0.arg) (source_of 16 b.0.arg) a.0.width x y m.0.arg n.0.arg m.0.width u v d.0 written.0 ready written.1 may
+                  (home_register z width 15 a.0.arg usable_a a.3.2)
+                  (subst (λ w. IsTested t w (source_of 16 b.0.arg)) (sym a.3.1) (fits_source z OfSum width 16 b.0.arg usable_b b.3.2))
+                  (source_most z 15 a.0.arg (omega arith) usable_a) (source_most z 16 b.0.arg (omega arith) usable_b)
+                  usable_m usable_n (home_register z other 15 m.0.arg usable_m m.3.2) (home_register z other 16 n.0.arg usable_n n.3.2)
+                  r (ap (λ w. word_of s.homes w n.0.arg) (sym same_n) ∙ l)
+                  (ap (λ os. inst_code z.frame i.op os) operands ∙ ap (λ o. inst_code z.frame o (a.0 ∷ b.0 ∷ m.0 ∷ n.0 ∷ d.0 ∷ [])) e)
+                  (step_gives z.start i s rs written.0 d.0.width (if passes t a.0.width x y then u else v) read writes
+                  (computes_word z.start i s rs (if passes t a.0.width x y then u else v) (ap kind_of e) (ap (λ o. computed o a.0.width (x ∷ y ∷ u ∷ v ∷ [])) e))))
+            ] refl
           ] refl
+        ] refl
       ] refl
 
   -- SelectIf of a test of one word
@@ -396,24 +393,24 @@ module _ (z : Setting) (set : IsSet z) (serves : IsFrameOf z.procedure z.frame) 
       elim (word_of s.homes a.0.width a.0.arg) as (λ o. word_of s.homes a.0.width a.0.arg ≡ o → InstRuns z i s c) [
         | None ↦ λ p. inl (step_lost z.start i s (reads ∙ ap (λ o. All o M N) p))
         | Some x ↦ λ p. elim (word_of s.homes m.0.width m.0.arg) as (λ o. word_of s.homes m.0.width m.0.arg ≡ o → InstRuns z i s c) [
-            | None ↦ λ r. inl (step_lost z.start i s (reads ∙ ap (λ o. All o M N) p ∙ ap (λ o. All (Some x) o N) r))
-            | Some u ↦ λ r. elim (word_of s.homes n.0.width n.0.arg) as (λ o. word_of s.homes n.0.width n.0.arg ≡ o → InstRuns z i s c) [
-                | None ↦ λ l. inl (step_lost z.start i s (reads ∙ ap (λ o. All o M N) p ∙ ap (λ o. All (Some x) o N) r ∙ ap (λ o. All (Some x) (Some u) o) l))
-                | Some v ↦ λ l.
-                    let read = reads ∙ ap (λ o. All o M N) p ∙ ap (λ o. All (Some x) o N) r ∙ ap (λ o. All (Some x) (Some u) o) l in
-                    let rs : List Read = (a.0.width, x) ∷ (m.0.width, u) ∷ (n.0.width, v) ∷ [] in
-                    let ready = ready_one z set serves s c t a.0.arg (source_of 16 m.0.arg) a.0.width x rel usable_a (λ r. one.second r (source_of 16 m.0.arg) a.0.width) p in
-                    inr (select_end z set serves i s c t _ (source_of 15 a.0.arg) (source_of 16 m.0.arg) a.0.width x 0 m.0.arg n.0.arg m.0.width u v d.0 written.0 ready written.1 may
-                    (home_register z width 15 a.0.arg usable_a tested.word)
-                    (subst (λ w. IsTested t w (source_of 16 m.0.arg)) (sym tested.width) (one.may (source_of 16 m.0.arg) a.0 a.3))
-                    (source_most z 15 a.0.arg (omega arith) usable_a) (source_most z 16 m.0.arg (omega arith) usable_m)
-                    usable_m usable_n (home_register z other 15 m.0.arg usable_m m.3.2) (home_register z other 16 n.0.arg usable_n n.3.2)
-                    r (ap (λ w. word_of s.homes w n.0.arg) (sym same_n) ∙ l)
-                    (ap (λ os. inst_code z.frame i.op os) operands ∙ ap (λ o. inst_code z.frame o (a.0 ∷ m.0 ∷ n.0 ∷ d.0 ∷ [])) e ∙ one.select_code z.frame a.0 m.0 n.0 d.0)
-                    (step_gives z.start i s rs written.0 d.0.width (if passes t a.0.width x 0 then u else v) read writes
-                    (computes_word z.start i s rs (if passes t a.0.width x 0 then u else v) (ap kind_of e) (ap (λ o. computed o a.0.width (x ∷ u ∷ v ∷ [])) e ∙ one.selects a.0.width x u v))))
-              ] refl
+          | None ↦ λ r. inl (step_lost z.start i s (reads ∙ ap (λ o. All o M N) p ∙ ap (λ o. All (Some x) o N) r))
+          | Some u ↦ λ r. elim (word_of s.homes n.0.width n.0.arg) as (λ o. word_of s.homes n.0.width n.0.arg ≡ o → InstRuns z i s c) [
+            | None ↦ λ l. inl (step_lost z.start i s (reads ∙ ap (λ o. All o M N) p ∙ ap (λ o. All (Some x) o N) r ∙ ap (λ o. All (Some x) (Some u) o) l))
+            | Some v ↦ λ l.
+                let read = reads ∙ ap (λ o. All o M N) p ∙ ap (λ o. All (Some x) o N) r ∙ ap (λ o. All (Some x) (Some u) o) l in
+                let rs : List Read = (a.0.width, x) ∷ (m.0.width, u) ∷ (n.0.width, v) ∷ [] in
+                let ready = ready_one z set serves s c t a.0.arg (source_of 16 m.0.arg) a.0.width x rel usable_a (λ r. one.second r (source_of 16 m.0.arg) a.0.width) p in
+                inr (select_end z set serves i s c t _ (source_of 15 a.0.arg) (source_of 16 m.0.arg) a.0.width x 0 m.0.arg n.0.arg m.0.width u v d.0 written.0 ready written.1 may
+                (home_register z width 15 a.0.arg usable_a tested.word)
+                (subst (λ w. IsTested t w (source_of 16 m.0.arg)) (sym tested.width) (one.may (source_of 16 m.0.arg) a.0 a.3))
+                (source_most z 15 a.0.arg (omega arith) usable_a) (source_most z 16 m.0.arg (omega arith) usable_m)
+                usable_m usable_n (home_register z other 15 m.0.arg usable_m m.3.2) (home_register z other 16 n.0.arg usable_n n.3.2)
+                r (ap (λ w. word_of s.homes w n.0.arg) (sym same_n) ∙ l)
+                (ap (λ os. inst_code z.frame i.op os) operands ∙ ap (λ o. inst_code z.frame o (a.0 ∷ m.0 ∷ n.0 ∷ d.0 ∷ [])) e ∙ one.select_code z.frame a.0 m.0 n.0 d.0)
+                (step_gives z.start i s rs written.0 d.0.width (if passes t a.0.width x 0 then u else v) read writes
+                (computes_word z.start i s rs (if passes t a.0.width x 0 then u else v) (ap kind_of e) (ap (λ o. computed o a.0.width (x ∷ u ∷ v ∷ [])) e ∙ one.selects a.0.width x u v))))
           ] refl
+        ] refl
       ] refl
 
   -- ---- each instruction

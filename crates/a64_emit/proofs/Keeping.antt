@@ -1,38 +1,25 @@
 -- How the relation of a run of Air and the machine is kept.
-use mathlib.Core.Path.{fun_ext}
-use Rattle.std.proofs.Common.{◌≡◌, ◌≢◌, ℕ, ◌+◌, ◌-◌, ◌*◌, ◌/◌, ◌%◌, ◌^◌, ◌<◌, ◌≤◌, ◌⊎◌, Bool, true, false, inl, inr, ⊎_elim, List, [], ◌∷◌, ◌++◌, map, Option, Some, None, refl, sym, ap, ◌∙◌, subst, arith, nat_eq, eq-eqb, length, get_or}
-use Rattle.std.specs.Prelude.{◌&&◌, ◌||◌, nat_le, nat_lt, is_some, if◌then◌else◌, All, Contains, IfSome, IsSomeAnd, slice_get}
-use Rattle.std.specs.List.{list_any}
-use Rattle.std.proofs.lemmas.Bool.{cases_lt, ne_eqb}
-use Rattle.std.proofs.lemmas.Bool.Decides.{nat_tests}
-use Rattle.std.proofs.lemmas.List.Elements.{All-contains}
-use Rattle.std.proofs.lemmas.List.Folds.{list_any_none}
+use Rattle.std.proofs.Common.{◌≡◌, ℕ, ◌+◌, ◌-◌, ◌*◌, ◌%◌, ◌^◌, ◌<◌, ◌≤◌, ◌⊎◌, true, inl, inr, ⊎_elim, Option, Some, None, refl, sym, ap, ◌∙◌, subst, arith}
+use Rattle.std.specs.Prelude.{is_some, IfSome, IsSomeAnd, slice_get}
 use Rattle.std.proofs.lemmas.Option.{get_or_from_slice_get}
 use Rattle.b3_base.specs.Arithmetic.{low}
-use Rattle.b3_base.specs.Memory.{AreApart, AreBytes, byte_address, is_mapped, read_word, write_word}
+use Rattle.b3_base.specs.Memory.{AreBytes, read_word}
 use Rattle.b3_base.specs.Observed.{Memory}
-use Rattle.b3_base.specs.Word.{bits}
 use Rattle.b3_base.specs.declared.word.Width.{Width}
 use Rattle.b3_base.specs.declared.word.Width.TheVariants.{W32, W64}
-use Rattle.b3_base.proofs.MemoryLaws.{is_mapped_all, write_word-AreBytes, write_word_keeps}
-use Rattle.b3_base.proofs.WordLaws.{read-write_apart, read-write_same, read_word-lt, write_word_other}
+use Rattle.b3_base.proofs.WordLaws.{read_word-lt}
 use Rattle.b3_ir.specs.declared.value.Reg.{Reg as Register}
 use Rattle.stackmap.specs.Rules.{IsAllocatable}
 use Rattle.stackmap.specs.declared.site.Rep.TheVariants.{Slot}
-use Rattle.stackmap.specs.declared.site.SavedRow.{SavedRow}
-use Rattle.stackmap.specs.declared.site.SlotRow.{SlotRow}
-use Rattle.exit_table.specs.Good.{AreDisjoint, IsGoodRep, IsGoodSlot, IsWordOffset, saved_span, slot_span, spans_of, word_span}
-use Rattle.a64_inst.specs.Step.{AreWords, Registers}
-use Rattle.air_ir.specs.Operands.{Held, Empty, Holds, Homes, put, read}
+use Rattle.exit_table.specs.Good.{IsGoodRep, IsWordOffset}
+use Rattle.a64_inst.specs.Step.{AreWords}
+use Rattle.air_ir.specs.Operands.{Held, Empty, Holds, read}
 use Rattle.air_ir.specs.Steps.{State}
-use Rattle.air_ir.specs.declared.operand.Home.{Home}
-use Rattle.air_ir.specs.declared.operand.Home.TheVariants.{Reg, Spill}
-use Rattle.air_ir.proofs.HomeLaws.{put-other, put-same}
+use Rattle.air_ir.specs.declared.operand.Home.TheVariants.{Reg}
 use Rattle.air_frame.specs.Frames.{IsFrameOf}
-use Rattle.air_frame.specs.Needs.{names, writes}
+use Rattle.air_frame.specs.Needs.{names}
 use Rattle.a64_layout.specs.Machine.{Machine}
-use Rattle.a64_run.specs.Machine.{saved_at}
-use Rattle.a64_run.specs.Placement.{frame_pointer_of, in_frame, in_slot, is_within, slot_address, visible}
+use Rattle.a64_run.specs.Placement.{frame_pointer_of, visible}
 use Rattle.a64_emit.specs.Places.{spill_offset}
 use Rattle.a64_emit.specs.Related.{Carries, HasFrame, IsRelated, word_below}
 use Rattle.a64_emit.specs.Setting.{IsSet, Setting, row}

@@ -1,13 +1,10 @@
 -- Emitted code is well labelled.
-use Rattle.std.proofs.Common.{◌≡◌, ◌≢◌, ℕ, pos, negsuc, zero, suc, ◌+◌, ◌-◌, ◌*◌, ◌/◌, ◌%◌, ◌^◌, ◌<◌, ◌≤◌, ◌⊎◌, Bool, true, false, inl, inr, ⊎_elim, List, [], ◌∷◌, ◌++◌, Option, Some, None, length, get_or, refl, sym, ap, ◌∙◌, subst, arith, length-append}
-use Rattle.std.specs.Prelude.{All, nat_eq, nat_le, nat_lt, slice_get, if◌then◌else◌}
-use Rattle.std.specs.List.{count_by}
-use Rattle.std.proofs.lemmas.Bool.{cases_lt, ne_eqb}
+use Rattle.std.proofs.Common.{◌≡◌, ℕ, zero, suc, ◌+◌, ◌-◌, ◌/◌, ◌%◌, ◌^◌, ◌<◌, ◌≤◌, ◌⊎◌, Bool, true, false, ⊎_elim, List, [], ◌∷◌, ◌++◌, length, get_or, refl, sym, subst, arith}
+use Rattle.std.specs.Prelude.{All, nat_eq, nat_le, nat_lt, if◌then◌else◌}
+use Rattle.std.proofs.lemmas.Bool.{cases_lt}
 use Rattle.std.proofs.lemmas.Bool.Decides.{nat_tests}
 use Rattle.std.proofs.lemmas.Int.{ints}
 use Rattle.std.proofs.lemmas.List.Elements.{All-head, All-tail}
-use Rattle.std.proofs.lemmas.List.Sums.{sum_by-append}
-use Rattle.std.proofs.lemmas.Option.{slice_get-get_or, slice_get_within, get_or_from_slice_get}
 use Rattle.b3_base.specs.Arithmetic.{low}
 use Rattle.a64_inst.specs.declared.inst.Cond.TheVariants.{Eq}
 use Rattle.b3_base.specs.Word.{bits}
@@ -18,7 +15,7 @@ use Rattle.stackmap.specs.declared.site.SavedRow.{SavedRow}
 use Rattle.a64_inst.specs.WellFormed.{IsReg, IsWellFormed, last_half}
 use Rattle.a64_inst.specs.declared.inst.AccessKind.TheVariants.{LdrX, StrX}
 use Rattle.a64_inst.specs.declared.inst.Inst.{Inst}
-use Rattle.a64_inst.specs.declared.inst.Inst.TheVariants.{Access, AddSubImm, Break, Select}
+use Rattle.a64_inst.specs.declared.inst.Inst.TheVariants.{AddSubReg, Access, AddSubImm}
 use Rattle.a64_inst.specs.declared.item.Item.{Item}
 use Rattle.a64_inst.specs.declared.item.Item.TheVariants.{If, IfBit, IfZero, Jump, Label, Mark, Plain}
 use Rattle.air_ir.specs.declared.frame.Frame.{Frame}
@@ -37,18 +34,17 @@ use Rattle.a64_emit.proofs.Fits.{fitting}
 use Rattle.air_ir.specs.declared.procedure.AirBlock.{AirBlock}
 use Rattle.air_ir.specs.declared.procedure.AirInst.{AirInst}
 use Rattle.air_ir.specs.declared.procedure.AirProc.{AirProc}
-use Rattle.a64_layout.specs.Branch.{IsTest, branch_in}
-use Rattle.a64_layout.specs.Layout.{position_of}
-use Rattle.a64_layout.specs.Text.{is_any_label, is_any_mark, label_count, mark_count}
-use Rattle.a64_emit.specs.Code.{arg_at, block_labels, blocks_items, branch_item, branches, compared, compute_code, copy_code, copy_reg, bring, emitted, fetch, fetch_below, fetch_tested, inst_code, inst_items, insts_items, jump_to, put_result, result_at, result_reg, select_code, set_code, source_at, source_of, test_at, test_count, width_at}
-use Rattle.a64_emit.specs.Computing.{computing, condition, move_reg, reg_of, testing}
+use Rattle.a64_emit.specs.Code.{arg_at, block_labels, blocks_items, branch_item, branches, compared, compute_code, copy_reg, bring, emitted, fetch, fetch_below, fetch_tested, inst_code, inst_items, insts_items, jump_to, put_result, result_at, result_reg, source_at, source_of, test_at, test_count, width_at}
+use Rattle.a64_emit.specs.Computing.{computing, move_reg, reg_of, sum_with}
 use Rattle.a64_emit.specs.Constants.{constant, filling, half_count, half_move, half_moves, half_word, is_inverted}
 use Rattle.a64_emit.specs.Fitting.{IsComputed, IsFitting, IsTested}
 use Rattle.a64_emit.specs.Places.{above_sp, epilogue, leave, load_at, lower_sp, plains, prologue, restores, saves, spill_offset, store_at, unless_zero}
-use Rattle.a64_emit.specs.Switched.{compare_case, switch_items}
+use Rattle.a64_emit.specs.Switched.{compare_case, is_sum_word, switch_items}
+use Rattle.a64_inst.proofs.RangedValues.{in_width-lt}
 use Rattle.a64_emit.specs.declared.source.Source.{Source}
+use Rattle.a64_emit.specs.declared.source.Source.TheVariants.{Constant}
 use Rattle.a64_emit.proofs.Positions.{Each, each_append}
-use Rattle.a64_emit.proofs.Shapes.{computing_plain, move_plain, testing_plain}
+use Rattle.a64_emit.proofs.Shapes.{computing_plain, move_plain, sum_plain, testing_plain}
 
 -- ---- instructions
 
@@ -113,8 +109,10 @@ moves_well width inverted reg word started (suc n) hw le count =
     elim (nat_eq (half_word word hw) (filling inverted)) as (λ b. AllWell (if b then half_moves width inverted reg word started n (hw + 1) else
     half_move width inverted started reg (half_word word hw) hw ∷ half_moves width inverted reg word true n (hw + 1))) [
       | true ↦ moves_well width inverted reg word started n (hw + 1) le (omega arith)
-      | false ↦ (move_well width inverted started reg (half_word word hw) hw le (half_small word hw) (last_is width hw (omega arith)),
-          moves_well width inverted reg word true n (hw + 1) le (omega arith))
+      | false ↦ (
+        move_well width inverted started reg (half_word word hw) hw le (half_small word hw) (last_is width hw (omega arith)),
+        moves_well width inverted reg word true n (hw + 1) le (omega arith),
+      )
     ]
 
 constant_well : (width : Width) (reg word : ℕ) → reg ≤ 31 → AllWell (constant width reg word)
@@ -208,9 +206,11 @@ module _ (f : Frame) (limit : f.bytes < 2 ^ 21) where
       (computing o (width_at os 0) rd (source_at os 0 15) (source_at os 1 16) (source_at os 2 17) ∷ put_result f rd (result_at os))
       (well_append (fetch_below n f os 0 15 ++ fetch_below n f os 1 16) (fetch_below n f os 2 17)
       (well_append (fetch_below n f os 0 15) (fetch_below n f os 1 16) (below_well n os 0 15 (omega arith)) (below_well n os 1 16 (omega arith)))
-      (below_well n os 2 17 (omega arith)))
-      ((computing_plain o (width_at os 0) rd (source_at os 0 15) (source_at os 1 16) (source_at os 2 17) le_rd (source_small 15 (arg_at os 0) (omega arith) (small 0))
-      (source_small 16 (arg_at os 1) (omega arith) (small 1)) (source_small 17 (arg_at os 2) (omega arith) (small 2)) fits).fields, put_well rd (result_at os) le_rd)
+      (below_well n os 2 17 (omega arith))) (
+        (computing_plain o (width_at os 0) rd (source_at os 0 15) (source_at os 1 16) (source_at os 2 17) le_rd (source_small 15 (arg_at os 0) (omega arith) (small 0))
+            (source_small 16 (arg_at os 1) (omega arith) (small 1)) (source_small 17 (arg_at os 2) (omega arith) (small 2)) fits).fields,
+        put_well rd (result_at os) le_rd,
+      )
 
   pub tested_well : (t : Test) (os : List Operand) → AllWell (fetch_tested f t os)
   tested_well t os = well_append (fetch f 15 (arg_at os 0)) (fetch_below (test_count t) f os 1 16) (fetch_well 15 (arg_at os 0) (omega arith)) (below_well (test_count t) os 1 16 (omega arith))
@@ -247,7 +247,7 @@ module _ (f : Frame) (limit : f.bytes < 2 ^ 21) where
   code_well (op.BranchIf t) os small fits = compute_well (op.BranchIf t) os small tt
   code_well o os small fits = compute_well o os small fits
 
--- ---- the frame
+  -- ---- the frame
 
   saves_well : (rows : List SavedRow) → All (IsGoodSaved f.bytes) rows → AllWell (saves f rows)
   unfolding saves
@@ -277,9 +277,13 @@ module _ (f : Frame) (limit : f.bytes < 2 ^ 21) where
 
   pub prologue_well : All (IsGoodSaved f.bytes) f.saved → AllWell (prologue f)
   unfolding prologue
-  prologue_well goods =
-      ((omega arith, omega arith, omega (arith, ints), omega (arith, ints), tt), ((omega arith, omega arith, omega arith),
-      well_append (lower_sp (f.bytes - 16)) (saves f f.saved) (lower_well (f.bytes - 16) (omega arith)) (saves_well f.saved goods)))
+  prologue_well goods = (
+    (omega arith, omega arith, omega (arith, ints), omega (arith, ints), tt),
+    (
+      (omega arith, omega arith, omega arith),
+      well_append (lower_sp (f.bytes - 16)) (saves f f.saved) (lower_well (f.bytes - 16) (omega arith)) (saves_well f.saved goods),
+    ),
+  )
 
   pub epilogue_well : All (IsGoodSaved f.bytes) f.saved → AllWell (epilogue f)
   unfolding epilogue
@@ -323,9 +327,17 @@ branches_fair n t width b reg next then_label else_label fits le lt_then lt_else
       | false ↦ (branch_fair n t true width b reg then_label fits le lt_then, jump_fair n next else_label lt_else)
     ]
 
+word_well : (width : Width) (reg word : ℕ) → reg ≤ 31 → AllWell (constant width 16 word ++ AddSubReg width true true 31 reg 16 0 0 ∷ [])
+word_well W32 reg word le = well_append (constant W32 16 word) _ (constant_well W32 16 word (omega arith)) ((omega arith, le, omega arith, omega arith, omega arith), tt)
+word_well W64 reg word le = well_append (constant W64 16 word) _ (constant_well W64 16 word (omega arith)) ((omega arith, le, omega arith, omega arith, omega arith), tt)
+
 case_well : (width : Width) (reg case : ℕ) → reg ≤ 31 → AllWell (compare_case width reg case)
-case_well W32 reg case le = well_append (constant W32 16 (low W32 case)) _ (constant_well W32 16 (low W32 case) (omega arith)) ((omega arith, le, omega arith, omega arith, omega arith), tt)
-case_well W64 reg case le = well_append (constant W64 16 (low W64 case)) _ (constant_well W64 16 (low W64 case) (omega arith)) ((omega arith, le, omega arith, omega arith, omega arith), tt)
+case_well width reg case le =
+    elim (is_sum_word width (low width case)) as (λ b. is_sum_word width (low width case) ≡ b → AllWell (if b then sum_with width true true 31 reg (low width case) ∷ [] else
+    constant width 16 (low width case) ++ AddSubReg width true true 31 reg 16 0 0 ∷ [])) [
+      | true ↦ λ e. ((sum_plain width true true 31 reg (Constant (low width case)) (omega arith) le (omega arith) (in_width-lt width case, e)).fields, tt)
+      | false ↦ λ e. word_well width reg (low width case) le
+    ] refl
 
 switch_fair : (n : ℕ) (width : Width) (reg next label : ℕ) (cases targets : List ℕ) → reg ≤ 31 → ((j : ℕ) → j < length targets → get_or targets j 0 < n)
     → Each (IsFair n) (switch_items width reg next label cases targets)
@@ -416,10 +428,12 @@ module _ (p : AirProc) (f : Frame) (well : IsGoodProc p) (limit : f.bytes < 2 ^ 
   unfolding blocks_items
   blocks_fair first label [] good le = tt
   blocks_fair first label (block ∷ blocks) good le =
-      let here = All-head (IsGoodBlock p) block blocks good in
-      (omega arith, each_append (IsFair (length p.blocks)) (insts_items f (first + 1) label block.targets block.insts) (blocks_items f (first + 1) (label + block_labels block) blocks)
-      (insts_fair (first + 1) label block.targets block.insts here.insts (λ j lt. (here.targets j 0 lt).1))
-      (blocks_fair (first + 1) (label + block_labels block) blocks (All-tail (IsGoodBlock p) block blocks good) (omega arith)))
+      let here = All-head (IsGoodBlock p) block blocks good in (
+        omega arith,
+        each_append (IsFair (length p.blocks)) (insts_items f (first + 1) label block.targets block.insts) (blocks_items f (first + 1) (label + block_labels block) blocks)
+            (insts_fair (first + 1) label block.targets block.insts here.insts (λ j lt. (here.targets j 0 lt).1))
+            (blocks_fair (first + 1) (label + block_labels block) blocks (All-tail (IsGoodBlock p) block blocks good) (omega arith)),
+      )
 
   pub code_fair : Each (IsFair (length p.blocks)) (emitted p f)
   unfolding emitted

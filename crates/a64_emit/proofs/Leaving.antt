@@ -1,30 +1,27 @@
 -- The epilogue: registers are restored, the frame is left, and the machine stands before its RET.
-use Rattle.std.proofs.Common.{◌≡◌, ◌≢◌, ℕ, pos, zero, suc, ◌+◌, ◌-◌, ◌*◌, ◌/◌, ◌%◌, ◌^◌, ◌<◌, ◌≤◌, ◌⊎◌, Bool, true, false, inl, inr, ⊎_elim, List, [], ◌∷◌, ◌++◌, Option, Some, None, length, get_or, refl, sym, ap, ◌∙◌, subst, arith, eq-eqb}
-use Rattle.std.specs.Prelude.{All, Contains, is_some, map, nat_eq, nat_le, nat_lt, slice_get, if◌then◌else◌}
-use Rattle.std.proofs.lemmas.Bool.{cases_lt, ne_eqb}
+use Rattle.std.proofs.Common.{◌≡◌, ◌≢◌, ℕ, pos, suc, ◌+◌, ◌-◌, ◌%◌, ◌^◌, ◌<◌, ◌≤◌, ◌⊎◌, true, false, inl, inr, ⊎_elim, List, [], ◌∷◌, ◌++◌, Some, None, refl, sym, ap, ◌∙◌, subst, arith, eq-eqb}
+use Rattle.std.specs.Prelude.{All, Contains, nat_eq}
+use Rattle.std.proofs.lemmas.Bool.{cases_lt}
 use Rattle.std.proofs.lemmas.Bool.Decides.{nat_tests}
 use Rattle.std.proofs.lemmas.List.Elements.{All-head, All-tail}
 use Rattle.b3_base.specs.Memory.{byte_address, read_word}
 use Rattle.b3_base.specs.Observed.{Memory}
 use Rattle.b3_base.specs.declared.word.Width.TheVariants.{W64}
-use Rattle.exit_table.specs.Good.{IsGoodFrame, IsGoodSaved}
+use Rattle.exit_table.specs.Good.{IsGoodSaved}
 use Rattle.stackmap.specs.declared.site.SavedRow.{SavedRow}
-use Rattle.a64_inst.specs.Step.{AreWords, Registers, Stepped, step_of, goes_on, put, add_sub_imm, load_pair, branch_reg}
-use Rattle.a64_inst.specs.declared.inst.BranchKind.TheVariants.{Ret}
-use Rattle.a64_inst.specs.declared.inst.Inst.{Inst}
-use Rattle.a64_inst.specs.declared.inst.Inst.TheVariants.{AddSubImm, BranchReg, PairSp}
+use Rattle.a64_inst.specs.Step.{AreWords, Registers, step_of, goes_on, put, add_sub_imm, load_pair}
+use Rattle.a64_inst.specs.declared.inst.Inst.TheVariants.{AddSubImm, PairSp}
 use Rattle.a64_layout.specs.Machine.{Machine, moved_to}
-use Rattle.a64_run.specs.Machine.{saved_at, touched}
-use Rattle.a64_run.specs.Placement.{frame_pointer_of, in_frame}
+use Rattle.a64_run.specs.Machine.{saved_at}
+use Rattle.a64_run.specs.Placement.{frame_pointer_of}
 use Rattle.air_frame.specs.Frames.{IsFrameOf}
-use Rattle.a64_emit.specs.Emitted.{IsSafe}
-use Rattle.a64_emit.specs.Places.{above_sp, epilogue, leave, load_at, restores}
+use Rattle.a64_emit.specs.Places.{above_sp, load_at, restores}
 use Rattle.a64_emit.specs.Related.{HasFrame, word_below}
-use Rattle.a64_emit.specs.Setting.{IsSet, Setting, row}
+use Rattle.a64_emit.specs.Setting.{IsSet, Setting}
 use Rattle.a64_emit.proofs.Entering.{low_byte, with_sp}
-use Rattle.a64_emit.proofs.Keeping.{placed, whole_of}
-use Rattle.a64_emit.proofs.Straight.{AreAlike, Does, DoesOne, IsWhole, does_alike, does_both, does_first, does_none, does_one}
-use Rattle.a64_emit.proofs.Words.{IsPlaced, Puts, TouchesWell, does_safely, load_puts, put_other, put_same, put_words, touches_nothing, whole_same, with_memory, with_reg}
+use Rattle.a64_emit.proofs.Keeping.{whole_of}
+use Rattle.a64_emit.proofs.Straight.{Does, DoesOne, IsWhole, does_both, does_first, does_none, does_one}
+use Rattle.a64_emit.proofs.Words.{IsPlaced, TouchesWell, does_safely, load_puts, put_other, put_same, put_words, touches_nothing, whole_same, with_reg}
 
 -- ---- registers are restored
 

@@ -1,7 +1,7 @@
 -- Emitted code is no longer than its procedure weighs.
-use Rattle.std.proofs.Common.{◌≡◌, ◌≢◌, ℕ, zero, suc, ◌+◌, ◌-◌, ◌*◌, ◌^◌, ◌<◌, ◌≤◌, max, Bool, true, false, ⊎_elim, List, [], ◌∷◌, ◌++◌, Option, Some, None, map, length, get_or, refl, sym, ap, ◌∙◌, subst, arith, length-append}
-use Rattle.std.specs.Prelude.{All, slice_get}
-use Rattle.std.specs.List.{count_by, filter, sum_by}
+use Rattle.std.proofs.Common.{◌≡◌, ℕ, ◌+◌, ◌^◌, ◌<◌, ◌≤◌, true, List, [], ◌∷◌, ◌++◌, length, get_or, refl, ap, ◌∙◌, arith, length-append}
+use Rattle.std.specs.Prelude.{All}
+use Rattle.std.specs.List.{sum_by}
 use Rattle.std.proofs.lemmas.List.{length-map}
 use Rattle.std.proofs.lemmas.List.Elements.{All-head, All-tail}
 use Rattle.std.proofs.lemmas.List.Sums.{count_by-le-length, length-filter, sum_by-append, sum_by-cons}
@@ -9,9 +9,9 @@ use Rattle.b3_base.specs.declared.word.Width.{Width}
 use Rattle.stackmap.specs.declared.site.Returns.{Returns}
 use Rattle.stackmap.specs.declared.site.SavedRow.{SavedRow}
 use Rattle.a64_inst.specs.declared.item.Item.{Item}
-use Rattle.a64_inst.specs.declared.item.Item.TheVariants.{Label, Plain}
-use Rattle.air_ir.specs.Forms.{AllFit, HasOperands, Result, Takes, home, test_takes}
-use Rattle.air_ir.specs.Weight.{arg_words, inst_weight, op_words, words_by, weight}
+use Rattle.a64_inst.specs.declared.item.Item.TheVariants.{Label}
+use Rattle.air_ir.specs.Forms.{AllFit, HasOperands, Takes, home, test_takes}
+use Rattle.air_ir.specs.Weight.{inst_weight, op_words, words_by, weight}
 use Rattle.air_ir.specs.WellFormed.{IsGoodBlock, IsGoodInst, IsWellFormed}
 use Rattle.air_ir.specs.declared.frame.Frame.{Frame}
 use Rattle.air_ir.specs.declared.op.AirOp.{AirOp}
@@ -27,7 +27,7 @@ use Rattle.air_frame.specs.Needs.{callee_saved, writes}
 use Rattle.a64_layout.specs.Branch.{size_of}
 use Rattle.a64_layout.specs.Layout.{most_words}
 use Rattle.a64_emit.specs.Built.{IsBuilt, is_built}
-use Rattle.a64_emit.specs.Code.{arg_at, block_labels, blocks_items, compute_code, copy_code, emitted, inst_code, inst_items, insts_items, jump_to, own_labels, select_code, set_code, test_count, width_at}
+use Rattle.a64_emit.specs.Code.{arg_at, block_labels, blocks_items, compute_code, copy_code, emitted, inst_code, inst_items, insts_items, own_labels, select_code, set_code, test_count, width_at}
 use Rattle.a64_emit.specs.Fitting.{AreFitting}
 use Rattle.a64_emit.specs.Places.{epilogue, plains, prologue}
 use Rattle.a64_emit.proofs.Sizes.{compute_most, most_is, operand_words, plain_words, words_of}

@@ -1,24 +1,18 @@
 -- Constants put in registers, and copies.
-use Rattle.std.proofs.Common.{◌≡◌, ◌≢◌, ℕ, zero, suc, ◌+◌, ◌-◌, ◌*◌, ◌/◌, ◌%◌, ◌^◌, ◌<◌, ◌≤◌, ◌⊎◌, Bool, true, false, inl, inr, ⊎_elim, List, [], ◌∷◌, ◌++◌, Option, Some, None, refl, sym, ap, ◌∙◌, subst, arith, nat_eq, eq-eqb, eqb-true}
-use Rattle.std.specs.Prelude.{not, if◌then◌else◌}
-use Rattle.std.proofs.lemmas.Bool.{ne_eqb}
-use Rattle.b3_base.specs.Arithmetic.{low}
+use Rattle.std.proofs.Common.{◌≡◌, ◌≢◌, ℕ, zero, suc, ◌+◌, ◌-◌, ◌*◌, ◌/◌, ◌%◌, ◌^◌, ◌<◌, ◌≤◌, Bool, true, false, List, [], ◌∷◌, None, refl, sym, ap, ◌∙◌, subst, arith, nat_eq, eqb-true}
+use Rattle.std.specs.Prelude.{if◌then◌else◌}
 use Rattle.b3_base.specs.Word.{bits}
 use Rattle.b3_base.specs.declared.word.Width.{Width}
 use Rattle.b3_base.specs.declared.word.Width.TheVariants.{W32, W64}
-use Rattle.a64_inst.specs.Step.{AreWords, Bytes, Registers, Stepped, step_of, goes_on, low_bits, put, read, move_wide, moved, with_half}
+use Rattle.a64_inst.specs.Step.{AreWords, Bytes, Registers, step_of, goes_on, low_bits, put, move_wide, with_half}
 use Rattle.a64_inst.specs.Values.{complement}
-use Rattle.a64_inst.specs.WellFormed.{IsWellFormed, last_half}
 use Rattle.a64_inst.specs.declared.inst.Inst.{Inst}
-use Rattle.a64_inst.specs.declared.inst.Inst.TheVariants.{MoveWide}
-use Rattle.a64_inst.specs.declared.inst.MoveOp.{MoveOp}
-use Rattle.a64_inst.specs.declared.inst.MoveOp.TheVariants.{Movk, Movn, Movz}
 use Rattle.a64_layout.specs.Machine.{Machine, moved_to}
 use Rattle.a64_emit.specs.Constants.{constant, filling, half_count, half_move, half_moves, half_word, is_inverted}
 use Rattle.a64_emit.specs.Setting.{Setting}
 use Rattle.a64_run.specs.Machine.{touched}
 use Rattle.a64_emit.proofs.Ops.{puts_of, read_is}
-use Rattle.a64_emit.proofs.Straight.{Does, DoesOne, IsWhole, does_first, does_none}
+use Rattle.a64_emit.proofs.Straight.{DoesOne, IsWhole, does_first, does_none}
 use Rattle.a64_emit.proofs.Words.{Puts, put_other, put_same, put_words, puts_by_one, puts_one, whole_same, with_reg}
 
 -- ---- values

@@ -1,6 +1,6 @@
 -- The operands of a procedure's instructions may be fetched, and their results put in their places.
-use Rattle.std.proofs.Common.{◌≡◌, ◌≢◌, ℕ, zero, suc, ◌+◌, ◌<◌, ◌≤◌, Bool, true, false, List, [], ◌∷◌, ◌++◌, Option, Some, None, refl, sym, ap, ◌∙◌, subst, arith, nat_eq, eq-eqb, length, get_or}
-use Rattle.std.specs.Prelude.{◌||◌, All, slice_get, if◌then◌else◌}
+use Rattle.std.proofs.Common.{◌≡◌, ℕ, zero, suc, ◌<◌, Bool, true, false, List, [], ◌∷◌, Some, refl, sym, ap, ◌∙◌, subst, arith, eq-eqb}
+use Rattle.std.specs.Prelude.{◌||◌, All, slice_get}
 use Rattle.std.specs.List.{list_any}
 use Rattle.std.proofs.lemmas.List.Folds.{list_any_at}
 use Rattle.std.proofs.lemmas.Option.{get_or_from_slice_get, slice_get_within}
@@ -8,7 +8,7 @@ use Rattle.b3_base.specs.declared.word.Width.{Width}
 use Rattle.b3_base.specs.declared.word.Width.TheVariants.{W32, W64}
 use Rattle.stackmap.specs.declared.site.Returns.{Returns}
 use Rattle.stackmap.specs.declared.site.Returns.TheVariants as kind
-use Rattle.air_ir.specs.Forms.{AllFit, BitOf, Fits, HasOperands, Immediates, IsWord, NoImmediate, OfSum, Takes, Word, home, operand_in, returned, test_takes}
+use Rattle.air_ir.specs.Forms.{AllFit, BitOf, HasOperands, Immediates, IsWord, NoImmediate, Takes, Word, home, operand_in, returned, test_takes}
 use Rattle.air_ir.specs.Kinds.{target_count}
 use Rattle.air_ir.specs.Operands.{Target, and_target, is_read, targets}
 use Rattle.air_ir.specs.WellFormed.{IsGoodInst, MayName, NamesOwn}
@@ -21,17 +21,15 @@ use Rattle.air_ir.specs.declared.operand.Arg.TheVariants.{At, Imm, Addr, Index, 
 use Rattle.air_ir.specs.declared.operand.Home.{Home}
 use Rattle.air_ir.specs.declared.operand.Home.TheVariants.{Reg, Spill, Tmp}
 use Rattle.air_ir.specs.declared.operand.Operand.{Operand}
-use Rattle.air_ir.specs.declared.operand.Role.{Role}
 use Rattle.air_ir.specs.declared.operand.Role.TheVariants.{Def, Use}
 use Rattle.air_ir.specs.declared.procedure.AirBlock.{AirBlock}
 use Rattle.air_ir.specs.declared.procedure.AirInst.{AirInst}
-use Rattle.air_ir.specs.declared.procedure.AirProc.{AirProc}
 use Rattle.air_frame.specs.Needs.{arg_names, block_names, block_writes, inst_names, inst_writes, is_register, names, writes}
 use Rattle.a64_emit.specs.Setting.{Setting}
 use Rattle.a64_emit.proofs.AirSteps.{IsWritten}
 use Rattle.a64_emit.proofs.BranchEnds.{AllUsable}
 use Rattle.a64_emit.proofs.Fetching.{IsPlaceFor, IsUsable}
-use Rattle.a64_emit.proofs.Instructions.{AreOpen, IsOpen, home_word}
+use Rattle.a64_emit.proofs.Instructions.{AreOpen, home_word}
 
 -- ---- lists
 

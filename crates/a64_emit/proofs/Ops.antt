@@ -1,9 +1,9 @@
 -- What the one instruction of an op puts in its register.
-use Rattle.std.proofs.Common.{◌≡◌, ◌≢◌, ℕ, ◌+◌, ◌-◌, ◌*◌, ◌/◌, ◌%◌, ◌^◌, ◌<◌, ◌≤◌, Bool, true, false, inl, inr, ⊎_elim, List, [], ◌∷◌, Option, Some, None, refl, sym, ap, ◌∙◌, subst, arith, nat_eq, eq-eqb, lit<}
-use Rattle.std.specs.Prelude.{◌||◌, ◌&&◌, nat_le, nat_lt, not, if◌then◌else◌}
+use Rattle.std.proofs.Common.{◌≡◌, ℕ, ◌+◌, ◌-◌, ◌*◌, ◌/◌, ◌%◌, ◌^◌, ◌<◌, ◌≤◌, Bool, true, false, [], ◌∷◌, Some, None, refl, sym, ap, ◌∙◌, subst, arith}
+use Rattle.std.specs.Prelude.{◌||◌, nat_le, nat_lt, if◌then◌else◌}
 use Rattle.std.specs.Int.Bits.{bit_and, bit_or, bit_xor, or_zero_l}
 use Rattle.std.proofs.Math.Nat.{mod-mod}
-use Rattle.std.proofs.lemmas.Bool.{cases_lt, ne_eqb}
+use Rattle.std.proofs.lemmas.Bool.{ne_eqb}
 use Rattle.std.proofs.lemmas.Bool.Decides.{nat_tests}
 use Rattle.b3_base.specs.Arithmetic.{extended, leading_zeros, low, mul_high as high_product, sign_extended}
 use Rattle.b3_base.specs.BitMask.{bit_mask, element_bits}
@@ -12,7 +12,7 @@ use Rattle.b3_base.specs.Word.{bits}
 use Rattle.b3_base.specs.declared.word.Width.{Width}
 use Rattle.b3_base.specs.declared.word.Width.TheVariants.{W32, W64}
 use Rattle.b3_base.proofs.MaskSearch.{found_turned}
-use Rattle.a64_inst.specs.Step.{AreWords, Bytes, Registers, Stepped, step_of, goes_on, put, read, write, low_bits, operand, shifted, sum_of, add_sub_imm, add_sub_reg, logic_imm, logic_reg, bit_field, divide, shift_reg, count_zeros, mul_add, mul_high}
+use Rattle.a64_inst.specs.Step.{Bytes, Registers, step_of, goes_on, put, read, write, low_bits, operand, shifted, sum_of, add_sub_imm, add_sub_reg, logic_imm, logic_reg, bit_field, divide, shift_reg, count_zeros, mul_add, mul_high}
 use Rattle.a64_inst.specs.StepData.{read_low, shift_of, quotient}
 use Rattle.a64_inst.specs.Values.{logic, sets_flags}
 use Rattle.a64_inst.specs.declared.inst.Inst.{Inst}
@@ -22,12 +22,12 @@ use Rattle.a64_inst.specs.declared.inst.LogicOp.TheVariants.{And, Orr, Eor, Ands
 use Rattle.a64_inst.specs.declared.inst.ShiftKind.{ShiftKind}
 use Rattle.a64_inst.specs.declared.inst.ShiftKind.TheVariants.{Lslv, Lsrv, Asrv, Rorv}
 use Rattle.a64_inst.proofs.RangedValues.{in_width-lt}
-use Rattle.b3_meaning.specs.Opcodes.{amount, difference, product, shifted_left, sum}
+use Rattle.b3_meaning.specs.Opcodes.{amount, difference, product, sum}
 use Rattle.air_ir.specs.Forms.{OfLogic, OfSum, is_short, IsImmediate}
 use Rattle.air_ir.specs.Words.{computed}
 use Rattle.air_ir.specs.declared.op.AirOp.{AirOp}
 use Rattle.air_ir.specs.declared.op.AirOp.TheVariants as op
-use Rattle.a64_emit.specs.Computing.{computing, logic_by, logic_with, move_reg, move_shifted, reg_of, shift_by, short_sum, sum_by, sum_with}
+use Rattle.a64_emit.specs.Computing.{computing, logic_by, move_reg, move_shifted, reg_of, shift_by, short_sum, sum_by}
 use Rattle.a64_emit.specs.Fitting.{IsComputed, IsMasked, IsSummed}
 use Rattle.a64_emit.specs.declared.source.Source.{Source}
 use Rattle.a64_emit.specs.declared.source.Source.TheVariants.{InReg, Constant}

@@ -1,8 +1,8 @@
 -- Where the blocks stand in the code of a procedure.
-use Rattle.std.proofs.Common.{◌≡◌, ℕ, zero, suc, ◌+◌, ◌-◌, ◌<◌, ◌≤◌, Bool, true, false, not, cond, ⊎_elim, List, [], ◌∷◌, ◌++◌, Some, None, length, get_or, refl, sym, ap, ◌∙◌, subst, arith, append_assoc, length-append, eq-eqb}
+use Rattle.std.proofs.Common.{◌≡◌, ℕ, zero, suc, ◌+◌, ◌-◌, ◌<◌, ◌≤◌, Bool, true, false, not, cond, ⊎_elim, List, [], ◌∷◌, ◌++◌, Some, length, get_or, refl, sym, ap, ◌∙◌, subst, arith, append_assoc, length-append, eq-eqb}
 use Rattle.std.proofs.lemmas.List.{append-nil}
 use Rattle.std.proofs.lemmas.Option.{slice_get-get_or}
-use Rattle.std.specs.Prelude.{map, nat_eq, slice_get, if◌then◌else◌}
+use Rattle.std.specs.Prelude.{nat_eq, slice_get, if◌then◌else◌}
 use Rattle.std.specs.List.{position_or_len}
 use Rattle.std.proofs.lemmas.Bool.{cases_lt, ne_eqb}
 use Rattle.a64_inst.specs.declared.inst.Inst.{Inst}
@@ -185,10 +185,12 @@ above_label a b lt = ne_eqb a b (λ e. omega arith)
 blocks_clear : (f : Frame) (first label : ℕ) (blocks : List AirBlock) (other : ℕ) → other < first → Each (IsNot other) (blocks_items f first label blocks)
 unfolding blocks_items
 blocks_clear f first label [] other lt = tt
-blocks_clear f first label (block ∷ blocks) other lt =
-    (above_label first other lt, each_append (IsNot other) (insts_items f (first + 1) label block.targets block.insts) (blocks_items f (first + 1) (label + block_labels block) blocks)
-    (none_is other (insts_items f (first + 1) label block.targets block.insts) (insts_inner f (first + 1) label block.targets block.insts))
-    (blocks_clear f (first + 1) (label + block_labels block) blocks other (omega arith)))
+blocks_clear f first label (block ∷ blocks) other lt = (
+  above_label first other lt,
+  each_append (IsNot other) (insts_items f (first + 1) label block.targets block.insts) (blocks_items f (first + 1) (label + block_labels block) blocks)
+      (none_is other (insts_items f (first + 1) label block.targets block.insts) (insts_inner f (first + 1) label block.targets block.insts))
+      (blocks_clear f (first + 1) (label + block_labels block) blocks other (omega arith)),
+)
 
 pub block_among : (f : Frame) (first label : ℕ) (blocks : List AirBlock) (i : ℕ) (block : AirBlock) → slice_get blocks i ≡ Some block
     → BlockAmong f (blocks_items f first label blocks) first blocks i block
@@ -220,8 +222,11 @@ block_among f first label (b ∷ bs) (suc i) block there =
       own = more.own;
       split = ap (λ (xs : List Item). Label first ∷ (items ++ xs)) (more.split ∙ ap (λ n. more.before ++ tail n) e)
           ∙ ap (λ (xs : List Item). Label first ∷ xs) (sym (append_assoc items more.before (tail (first + suc i))));
-      clear = λ other le. (other_label first other (omega arith), each_append (IsNot other) items more.before
-          (none_is other items (insts_inner f (first + 1) label b.targets b.insts)) (more.clear other (omega arith)));
+      clear = λ other le. (
+        other_label first other (omega arith),
+        each_append (IsNot other) items more.before
+            (none_is other items (insts_inner f (first + 1) label b.targets b.insts)) (more.clear other (omega arith)),
+      );
       more = λ lt. let rest = more.more (omega arith) in (rest.0, rest.1 ∙ ap (λ n. Label (n + 1) ∷ rest.0) e);
       last = λ is. more.last (omega arith);
       none = λ is. absurd (omega arith);

@@ -1,19 +1,16 @@
 -- The procedure that the tests emit is well formed.
-use Rattle.std.proofs.Common.{◌≡◌, ℕ, ◌+◌, ◌*◌, ◌^◌, ◌<◌, ◌≤◌, true, inl, List, [], ◌∷◌, Some, None, length, refl, arith}
+use Rattle.std.proofs.Common.{◌≡◌, ℕ, ◌^◌, ◌<◌, true, inl, [], ◌∷◌, None, length, refl, arith}
 use Rattle.std.specs.Prelude.{All}
 use Rattle.std.proofs.lemmas.List.Elements.{All-cons, All-nil}
 use Rattle.b3_base.specs.declared.word.Width.TheVariants.{W64}
-use Rattle.air_ir.specs.Forms.{AllFit, AnyWord, Result, Takes, Word}
+use Rattle.air_ir.specs.Forms.{AllFit, AnyWord, Result, Word}
 use Rattle.air_ir.specs.Kinds.{target_count}
 use Rattle.air_ir.specs.Weight.{weight}
 use Rattle.air_ir.specs.WellFormed.{IsGoodBlock, IsGoodInst, IsWellFormed, NamesOwn}
 use Rattle.air_ir.specs.declared.op.AirOp.TheVariants as op
-use Rattle.air_ir.specs.declared.operand.Arg.{Arg}
 use Rattle.air_ir.specs.declared.operand.Arg.TheVariants.{At, Imm}
-use Rattle.air_ir.specs.declared.operand.Home.{Home}
 use Rattle.air_ir.specs.declared.operand.Home.TheVariants.{Spill}
 use Rattle.air_ir.specs.declared.operand.Operand.{Operand}
-use Rattle.air_ir.specs.declared.operand.Role.TheVariants.{Use, Def}
 use Rattle.air_ir.specs.declared.procedure.AirBlock.{AirBlock}
 use Rattle.air_ir.specs.declared.procedure.AirInst.{AirInst}
 use Rattle.a64_emit.specs.Built.{IsBuilt, is_built}

@@ -1,9 +1,9 @@
 -- The instructions of ops and tests have their fields in range, and access no memory.
-use Rattle.std.proofs.Common.{◌≡◌, ◌≢◌, ℕ, ◌+◌, ◌-◌, ◌*◌, ◌/◌, ◌%◌, ◌^◌, ◌<◌, ◌≤◌, Bool, true, false, List, [], ◌∷◌, Option, Some, None, refl, sym, ap, ◌∙◌, subst, arith}
+use Rattle.std.proofs.Common.{◌≡◌, ℕ, ◌-◌, ◌*◌, ◌/◌, ◌%◌, ◌^◌, ◌<◌, ◌≤◌, Bool, true, false, Option, Some, None, refl, sym, ap, subst, arith}
 use Rattle.std.specs.Prelude.{nat_le, IsSome, if◌then◌else◌}
 use Rattle.std.proofs.Math.Nat.{mod-lt}
 use Rattle.std.proofs.lemmas.Bool.Decides.{nat_tests}
-use Rattle.b3_base.specs.BitMask.{bit_mask, element_bits}
+use Rattle.b3_base.specs.BitMask.{element_bits}
 use Rattle.b3_base.specs.MaskFields.{fields_of_mask}
 use Rattle.b3_base.specs.Word.{bits}
 use Rattle.b3_base.specs.declared.word.Width.{Width}
@@ -20,7 +20,7 @@ use Rattle.a64_inst.specs.declared.inst.LogicOp.TheVariants as logic
 use Rattle.a64_inst.specs.declared.inst.ShiftKind.{ShiftKind}
 use Rattle.a64_inst.specs.declared.inst.ShiftKind.TheVariants.{Lslv, Lsrv, Asrv, Rorv}
 use Rattle.a64_run.specs.Machine.{touched}
-use Rattle.air_ir.specs.Forms.{OfLogic, OfSum, is_short, IsImmediate}
+use Rattle.air_ir.specs.Forms.{OfSum, is_short, IsImmediate}
 use Rattle.air_ir.specs.declared.op.AirOp.{AirOp}
 use Rattle.air_ir.specs.declared.op.AirOp.TheVariants as op
 use Rattle.air_ir.specs.declared.op.Test.{Test}
@@ -92,8 +92,14 @@ logic_plain width o rd rn (Constant k) le_rd le_rn le_rm fits =
     let turn : named.1 % element_bits named.0 named.2 < element_bits named.0 named.2 = mod-lt named.1 (element_bits-pos named.0 named.2) in
     let size : element_bits named.0 named.2 ≤ 64 = element_bits-le named.0 named.2 in
     record {
-      fields = (le_rd, le_rn, subst (λ v. v < 2) (sym n) named.3, subst (λ v. v < 64) (sym immr) (less_most _ _ turn size), subst (λ v. v < 64) (sym imms) named.5,
-          some_there _ k (fields_name width k named));
+      fields = (
+        le_rd,
+        le_rn,
+        subst (λ v. v < 2) (sym n) named.3,
+        subst (λ v. v < 64) (sym immr) (less_most _ _ turn size),
+        subst (λ v. v < 64) (sym imms) named.5,
+        some_there _ k (fields_name width k named),
+      );
       touches = λ r. refl;
     }
 

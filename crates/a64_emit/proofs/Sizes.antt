@@ -1,28 +1,20 @@
 -- Emitted code is no longer than its procedure weighs.
-use Rattle.std.proofs.Common.{◌≡◌, ◌≢◌, ℕ, zero, suc, ◌+◌, ◌-◌, ◌*◌, ◌/◌, ◌%◌, ◌^◌, ◌<◌, ◌≤◌, max, Bool, true, false, ⊎_elim, List, [], ◌∷◌, ◌++◌, Option, Some, None, map, length, get_or, take, refl, sym, ap, ◌∙◌, subst, arith, length-append}
-use Rattle.std.specs.Prelude.{All, nat_eq, nat_le, nat_lt, slice_get, if◌then◌else◌}
-use Rattle.std.specs.List.{filter, sum_by}
-use Rattle.std.proofs.lemmas.Bool.{cases_lt}
-use Rattle.std.proofs.lemmas.List.Elements.{All-head, All-tail}
+use Rattle.std.proofs.Common.{◌≡◌, ℕ, zero, suc, ◌+◌, ◌-◌, ◌/◌, ◌%◌, ◌<◌, ◌≤◌, Bool, true, false, List, [], ◌∷◌, ◌++◌, length, get_or, take, refl, sym, ap, ◌∙◌, subst, arith, length-append}
+use Rattle.std.specs.Prelude.{nat_eq, nat_le, nat_lt, slice_get, if◌then◌else◌}
+use Rattle.std.specs.List.{sum_by}
 use Rattle.std.proofs.lemmas.List.{take_all}
-use Rattle.std.proofs.lemmas.List.Sums.{sum_by-append, sum_by-cons, sum_by_more, sum_by_more_le}
+use Rattle.std.proofs.lemmas.List.Sums.{sum_by-cons, sum_by_more, sum_by_more_le}
 use Rattle.std.proofs.lemmas.Option.{slice_get-get_or}
-use Rattle.b3_base.specs.Arithmetic.{low}
 use Rattle.b3_base.specs.declared.word.Width.{Width}
 use Rattle.b3_base.specs.declared.word.Width.TheVariants.{W32, W64}
-use Rattle.stackmap.specs.declared.site.SavedRow.{SavedRow}
-use Rattle.a64_inst.specs.declared.inst.Cond.TheVariants.{Eq}
 use Rattle.a64_inst.specs.declared.inst.Inst.{Inst}
 use Rattle.a64_inst.specs.declared.inst.Inst.TheVariants.{Access, AddSubImm}
 use Rattle.a64_inst.specs.declared.inst.AccessKind.TheVariants.{LdrX, StrX}
 use Rattle.a64_inst.specs.declared.item.Item.{Item}
-use Rattle.a64_inst.specs.declared.item.Item.TheVariants.{If, IfBit, IfZero, Jump, Label, Plain}
-use Rattle.air_ir.specs.Weight.{arg_words, home_words, inst_weight, op_words, words_by, weight}
+use Rattle.a64_inst.specs.declared.item.Item.TheVariants.{Label, Plain}
+use Rattle.air_ir.specs.Weight.{arg_words}
 use Rattle.air_ir.specs.declared.frame.Frame.{Frame}
 use Rattle.air_ir.specs.declared.op.AirOp.{AirOp}
-use Rattle.air_ir.specs.declared.op.AirOp.TheVariants as op
-use Rattle.air_ir.specs.declared.op.Test.{Test}
-use Rattle.air_ir.specs.declared.op.Test.TheVariants.{Compare, NonZero, Bit}
 use Rattle.air_ir.specs.declared.operand.Arg.{Arg}
 use Rattle.air_ir.specs.declared.operand.Arg.TheVariants.{At, Imm, Addr, Index, FrameSlot}
 use Rattle.air_ir.specs.declared.operand.Home.TheVariants.{Reg, Spill, Tmp}
@@ -31,11 +23,10 @@ use Rattle.air_ir.specs.declared.operand.Role.TheVariants.{Use}
 use Rattle.a64_layout.specs.Branch.{size_in, size_of}
 use Rattle.a64_layout.specs.Layout.{most_words, place}
 use Rattle.a64_layout.proofs.Least.{place-suc, place-zero}
-use Rattle.a64_emit.specs.Code.{arg_at, branch_code, branch_item, branches, bring, compared, compute_code, copy_code, copy_reg, fetch, fetch_below, fetch_tested, inst_code, inst_items, jump_to, put_result, result_at, result_reg, select_code, set_code, source_at, test_at, test_count, width_at}
-use Rattle.a64_emit.specs.Computing.{computing, move_reg, reg_of}
-use Rattle.a64_emit.specs.Constants.{constant, filling, half_count, half_move, half_moves, half_word, is_inverted}
-use Rattle.a64_emit.specs.Places.{above_sp, epilogue, leave, load_at, lower_sp, plains, prologue, restores, saves, spill_offset, store_at, unless_zero}
-use Rattle.a64_emit.specs.Switched.{compare_case, switch_items}
+use Rattle.a64_emit.specs.Code.{arg_at, bring, compute_code, fetch, fetch_below, put_result, result_at, result_reg, source_at, width_at}
+use Rattle.a64_emit.specs.Computing.{computing, move_reg}
+use Rattle.a64_emit.specs.Constants.{constant, filling, half_move, half_moves, half_word, is_inverted}
+use Rattle.a64_emit.specs.Places.{above_sp, load_at, plains, spill_offset, store_at}
 
 -- ---- words of items, where all branches are long
 

@@ -1,24 +1,24 @@
 -- The relation after a result is put in its place.
-use Rattle.std.proofs.Common.{◌≡◌, ◌≢◌, ℕ, zero, suc, ◌+◌, ◌-◌, ◌*◌, ◌/◌, ◌%◌, ◌^◌, ◌<◌, ◌≤◌, ◌⊎◌, Bool, true, false, inl, inr, ⊎_elim, List, [], ◌∷◌, ◌++◌, map, Option, Some, None, refl, sym, ap, ◌∙◌, subst, arith, nat_eq, eq-eqb, eqb-true, length}
-use Rattle.std.specs.Prelude.{◌&&◌, ◌||◌, is_some, if◌then◌else◌, All, Contains, slice_get, cond}
+use Rattle.std.proofs.Common.{◌≡◌, ◌≢◌, ℕ, ◌+◌, ◌-◌, ◌*◌, ◌%◌, ◌^◌, ◌<◌, ◌≤◌, Bool, true, false, inl, inr, ⊎_elim, List, [], ◌∷◌, ◌++◌, map, Some, None, refl, sym, ap, ◌∙◌, subst, arith, nat_eq, eqb-true}
+use Rattle.std.specs.Prelude.{◌||◌, is_some, if◌then◌else◌, All, Contains, slice_get, cond}
 use Rattle.std.specs.List.{filter, list_any}
-use Rattle.std.proofs.lemmas.Bool.{cases_lt, ne_eqb}
+use Rattle.std.proofs.lemmas.Bool.{cases_lt}
 use Rattle.std.proofs.lemmas.Bool.Decides.{nat_tests}
 use Rattle.std.proofs.lemmas.List.Elements.{All-contains, All-cons, All-head, All-nil, All-tail}
 use Rattle.b3_base.specs.Arithmetic.{low}
-use Rattle.b3_base.specs.Memory.{AreApart, AreBytes, byte_address, is_mapped, read_word, write_word}
+use Rattle.b3_base.specs.Memory.{AreApart, AreBytes, read_word, write_word}
 use Rattle.b3_base.specs.Observed.{Memory}
 use Rattle.b3_base.specs.declared.word.Width.{Width}
-use Rattle.b3_base.specs.declared.word.Width.TheVariants.{W32, W64}
+use Rattle.b3_base.specs.declared.word.Width.TheVariants.{W64}
 use Rattle.b3_base.proofs.MemoryLaws.{write_word-AreBytes, write_word_keeps}
 use Rattle.b3_base.proofs.WordLaws.{read-write_apart, read-write_same}
 use Rattle.b3_ir.specs.declared.value.Reg.{Reg as Register}
 use Rattle.stackmap.specs.Rules.{IsAllocatable}
 use Rattle.stackmap.specs.declared.site.Rep.TheVariants.{Slot}
 use Rattle.stackmap.specs.declared.site.SavedRow.{SavedRow}
-use Rattle.exit_table.specs.Good.{AreDisjoint, IsGoodRep, IsGoodSaved, IsWordOffset, Span, saved_span, slot_span, spans_of, word_span}
+use Rattle.exit_table.specs.Good.{AreDisjoint, IsGoodRep, IsGoodSaved, IsWordOffset, Span, saved_span, slot_span, word_span}
 use Rattle.a64_inst.specs.Step.{AreWords}
-use Rattle.air_ir.specs.Operands.{Held, Holds, Homes, put}
+use Rattle.air_ir.specs.Operands.{Held, Holds, put}
 use Rattle.air_ir.specs.Steps.{State}
 use Rattle.air_ir.specs.declared.operand.Home.{Home}
 use Rattle.air_ir.specs.declared.operand.Home.TheVariants.{Reg, Spill}
@@ -27,11 +27,11 @@ use Rattle.air_frame.specs.Frames.{IsFrameOf}
 use Rattle.air_frame.specs.Needs.{callee_saved, names, writes}
 use Rattle.a64_layout.specs.Machine.{Machine}
 use Rattle.a64_run.specs.Machine.{saved_at}
-use Rattle.a64_run.specs.Placement.{frame_pointer_of, in_frame, visible}
+use Rattle.a64_run.specs.Placement.{frame_pointer_of, visible}
 use Rattle.a64_emit.specs.Places.{spill_offset}
-use Rattle.a64_emit.specs.Related.{Carries, HasFrame, IsRelated, word_below}
+use Rattle.a64_emit.specs.Related.{Carries, HasFrame, IsRelated}
 use Rattle.a64_emit.specs.Setting.{IsSet, Setting, row}
-use Rattle.a64_emit.proofs.FrameWords.{all_front, hidden_store, hidden_word, word_mapped, words_apart}
+use Rattle.a64_emit.proofs.FrameWords.{all_front, hidden_store, hidden_word, words_apart}
 use Rattle.a64_emit.proofs.Keeping.{IsKept, allocatable_kept, some_is, spill_stands}
 
 -- a state with something else in a home
@@ -152,9 +152,11 @@ module _ (z : Setting) (set : IsSet z) (serves : IsFrameOf z.procedure z.frame) 
         (subst (Carries (s.homes (Reg r))) (sym (p.others r.0 (allocatable_kept r may_r) (reg_differs r reg differ))) (rel.registers r may_r)))
         (cases_home (Reg r) (Reg reg));
     spills = λ n offset named there.
-        let word_n = rel.spills n offset named there in
-        (word_n.0, ap (λ (m : Memory). read_word m (frame_pointer_of z.entry - offset) 8) p.memory ∙ word_n.1,
-        subst (λ h. Carries h word_n.0) (sym (put-other s.homes (Reg reg) (Spill n) (Holds width result) (λ e. absurd cc))) word_n.2);
+        let word_n = rel.spills n offset named there in (
+          word_n.0,
+          ap (λ (m : Memory). read_word m (frame_pointer_of z.entry - offset) 8) p.memory ∙ word_n.1,
+          subst (λ h. Carries h word_n.0) (sym (put-other s.homes (Reg reg) (Spill n) (Holds width result) (λ e. absurd cc))) word_n.2,
+        );
     memory = rel.memory ∙ ap (visible (row z) z.entry) (sym p.memory);
   }
 
@@ -223,21 +225,23 @@ module _ (z : Setting) (set : IsSet z) (serves : IsFrameOf z.procedure z.frame) 
             ⊎_elim
             (λ (same : Spill m ≡ Spill n).
             let number : m ≡ n = cc in
-            let place : offset ≡ spill_offset z.frame n = some_is offset (spill_offset z.frame n) (sym there ∙ ap (slice_get z.frame.spills) number ∙ stands.0) in
-            (word,
-            ap (λ (m : Memory). read_word m (frame_pointer_of z.entry - offset) 8) p.memory ∙ ap (λ (o : ℕ). read_word (write_word c.memory at 8 word) (frame_pointer_of z.entry - o) 8) place
-            ∙ read-write_same c.memory at 8 word (omega arith) ∙ ap Some (small_word word p.small),
-            subst (λ h. Carries h word) (sym (put-same s.homes (Spill n) (Spill m) (Holds width result) same)) is))
+            let place : offset ≡ spill_offset z.frame n = some_is offset (spill_offset z.frame n) (sym there ∙ ap (slice_get z.frame.spills) number ∙ stands.0) in (
+              word,
+              ap (λ (m : Memory). read_word m (frame_pointer_of z.entry - offset) 8) p.memory ∙ ap (λ (o : ℕ). read_word (write_word c.memory at 8 word) (frame_pointer_of z.entry - o) 8) place
+                  ∙ read-write_same c.memory at 8 word (omega arith) ∙ ap Some (small_word word p.small),
+              subst (λ h. Carries h word) (sym (put-same s.homes (Spill n) (Spill m) (Holds width result) same)) is,
+            ))
             (λ (differ : Spill m ≢ Spill n).
             let word_m = rel.spills m offset named_m there in
             let stands_m = spill_stands z set serves m named_m in
-            let place : spill_offset z.frame m ≡ offset = some_is (spill_offset z.frame m) offset (sym stands_m.0 ∙ there) in
-            (word_m.0,
-            ap (λ (m : Memory). read_word m (frame_pointer_of z.entry - offset) 8) p.memory
-            ∙ read-write_apart c.memory (frame_pointer_of z.entry - offset) 8 at 8 word
-            (others_apart m n offset (spill_offset z.frame n) (spill_differs m n differ) named_m named there stands.0 (subst (IsWordOffset z.frame.bytes) place stands_m.1.0) stands.1.0)
-            ∙ word_m.1,
-            subst (λ h. Carries h word_m.0) (sym (put-other s.homes (Spill n) (Spill m) (Holds width result) differ)) word_m.2))
+            let place : spill_offset z.frame m ≡ offset = some_is (spill_offset z.frame m) offset (sym stands_m.0 ∙ there) in (
+              word_m.0,
+              ap (λ (m : Memory). read_word m (frame_pointer_of z.entry - offset) 8) p.memory
+                  ∙ read-write_apart c.memory (frame_pointer_of z.entry - offset) 8 at 8 word
+                  (others_apart m n offset (spill_offset z.frame n) (spill_differs m n differ) named_m named there stands.0 (subst (IsWordOffset z.frame.bytes) place stands_m.1.0) stands.1.0)
+                  ∙ word_m.1,
+              subst (λ h. Carries h word_m.0) (sym (put-other s.homes (Spill n) (Spill m) (Holds width result) differ)) word_m.2,
+            ))
             (cases_home (Spill m) (Spill n));
         memory = rel.memory ∙ sym (ap (visible (row z) z.entry) p.memory ∙ store_memory c.memory (spill_offset z.frame n) word stands.1);
       }

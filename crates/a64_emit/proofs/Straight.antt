@@ -1,14 +1,11 @@
 -- Straight code: instructions that each go on to the next one.
-use Rattle.std.proofs.Common.{◌≡◌, ℕ, zero, suc, ◌+◌, ◌*◌, ◌%◌, ◌^◌, ◌<◌, ◌≤◌, true, List, [], ◌∷◌, ◌++◌, Option, Some, None, length, refl, sym, ap, ◌∙◌, subst, arith, add-one, nat_eq, eq-eqb}
-use Rattle.std.specs.Prelude.{slice_get, ◌&&◌, if◌then◌else◌}
-use Rattle.std.proofs.lemmas.Option.{slice_get_within}
+use Rattle.std.proofs.Common.{◌≡◌, ℕ, zero, suc, ◌+◌, ◌%◌, ◌^◌, ◌<◌, ◌≤◌, true, List, [], ◌∷◌, ◌++◌, Some, None, length, refl, sym, ap, ◌∙◌, subst, arith, add-one, eq-eqb}
+use Rattle.std.specs.Prelude.{slice_get, if◌then◌else◌}
 use Rattle.b3_base.specs.Run.{iterate}
 use Rattle.b3_base.proofs.Run.{iterate-zero, iterate-one, iterate-suc, iterate-add, moments_joined}
 use Rattle.a64_inst.specs.Step.{Stepped, step_of, goes_on}
 use Rattle.a64_inst.specs.declared.inst.Inst.{Inst}
-use Rattle.a64_inst.specs.declared.item.Item.{Item}
 use Rattle.a64_inst.specs.declared.item.Item.TheVariants.{Plain}
-use Rattle.a64_inst.specs.declared.state.Outcome.TheVariants.{Next}
 use Rattle.air_ir.specs.Blocks.{Config as AirConfig}
 use Rattle.air_ir.specs.Meaning.{World}
 use Rattle.a64_layout.specs.Branch.{size_in}

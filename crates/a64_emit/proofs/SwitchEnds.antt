@@ -1,27 +1,25 @@
 -- A Switch leads to the target of the case that its word is equal to.
-use Rattle.std.proofs.Common.{◌≡◌, ◌≢◌, ℕ, zero, suc, ◌+◌, ◌-◌, ◌*◌, ◌/◌, ◌%◌, ◌^◌, ◌<◌, ◌≤◌, ◌⊎◌, Bool, true, false, not, inl, inr, ⊎_elim, List, [], ◌∷◌, ◌++◌, Option, Some, None, map, length, get_or, refl, sym, ap, ◌∙◌, subst, arith, length-append}
+use Rattle.std.proofs.Common.{◌≡◌, ◌≢◌, ℕ, suc, ◌+◌, ◌^◌, ◌<◌, ◌≤◌, true, false, ⊎_elim, List, [], ◌∷◌, ◌++◌, Some, None, length, get_or, refl, ap, ◌∙◌, subst, arith, length-append}
 use Rattle.std.specs.Prelude.{nat_eq, slice_get, if◌then◌else◌}
-use Rattle.std.proofs.lemmas.Bool.{cases_lt, ne_eqb}
+use Rattle.std.proofs.lemmas.Bool.{cases_lt}
 use Rattle.std.proofs.lemmas.Bool.Decides.{nat_tests}
 use Rattle.std.proofs.lemmas.Option.{slice_get-get_or, slice_get_within}
 use Rattle.b3_base.specs.Arithmetic.{low}
-use Rattle.b3_base.specs.Observed.{Start}
 use Rattle.b3_base.specs.Word.{bits}
 use Rattle.b3_base.specs.declared.word.Width.{Width}
 use Rattle.b3_base.specs.declared.word.Width.TheVariants.{W32, W64}
-use Rattle.a64_inst.specs.Step.{AreWords, Registers, step_of, goes_on}
+use Rattle.a64_inst.specs.Step.{Registers}
 use Rattle.a64_inst.specs.Values.{complement, flags_of_sum, holds, sum_of}
 use Rattle.a64_inst.specs.declared.inst.Cond.TheVariants.{Eq}
 use Rattle.a64_inst.specs.declared.inst.Inst.{Inst}
 use Rattle.a64_inst.specs.declared.inst.Inst.TheVariants.{AddSubReg}
 use Rattle.a64_inst.specs.declared.item.Item.{Item}
-use Rattle.a64_inst.specs.declared.item.Item.TheVariants.{If, Plain}
+use Rattle.a64_inst.specs.declared.item.Item.TheVariants.{If}
 use Rattle.air_ir.specs.Blocks as air
 use Rattle.air_ir.specs.Forms.{AllFit, NoImmediate, Word, home}
-use Rattle.air_ir.specs.Kinds.{Switches, kind_of}
 use Rattle.air_ir.specs.Meaning.{To, World, case_number, meaning, operation}
-use Rattle.air_ir.specs.Operands.{Read, targets, word_of, words}
-use Rattle.air_ir.specs.Steps.{State, step}
+use Rattle.air_ir.specs.Operands.{word_of, words}
+use Rattle.air_ir.specs.Steps.{State}
 use Rattle.air_ir.specs.declared.op.AirOp.TheVariants as op
 use Rattle.air_ir.specs.declared.op.Test.TheVariants.{Compare}
 use Rattle.air_ir.specs.declared.operand.Operand.{Operand}
@@ -32,29 +30,30 @@ use Rattle.a64_layout.specs.Layout.{place, position_of}
 use Rattle.a64_layout.specs.Machine.{Machine, moved_to, test_holds}
 use Rattle.a64_layout.specs.Run as run
 use Rattle.a64_emit.specs.Code.{arg_at, fetch, source_at, source_of, width_at}
-use Rattle.a64_emit.specs.Computing.{reg_of}
+use Rattle.a64_emit.specs.Computing.{reg_of, sum_with}
 use Rattle.a64_emit.specs.Constants.{constant}
 use Rattle.a64_emit.specs.Places.{plains}
 use Rattle.a64_emit.specs.Related.{IsRelated}
-use Rattle.a64_emit.specs.Setting.{IsSet, Setting, address_of, meaning_of}
-use Rattle.a64_emit.specs.Switched.{compare_case, switch_items}
+use Rattle.a64_emit.specs.Setting.{IsSet, Setting, meaning_of}
+use Rattle.a64_emit.specs.Switched.{compare_case, is_sum_word, switch_items}
 use Rattle.a64_emit.specs.declared.source.Source.{Source}
-use Rattle.a64_emit.specs.declared.source.Source.TheVariants.{InReg}
+use Rattle.a64_emit.specs.declared.source.Source.TheVariants.{Constant, InReg}
 use Rattle.a64_layout.proofs.Least.{place_mono}
 use Rattle.a64_emit.proofs.Ahead.{switch_words, words_ahead}
 use Rattle.a64_emit.proofs.AirSteps.{step_lost}
+use Rattle.a64_emit.proofs.Shapes.{sum_plain}
 use Rattle.a64_emit.proofs.BranchEnds.{AllUsable, home_register, one_read, one_there, one_writes, word_home}
 use Rattle.a64_emit.proofs.Branching.{NextAt, Since, alike_related, branch_goes, branch_test, item_proper, jump_reaches, one_runs, reaches_step, words_there}
 use Rattle.a64_emit.proofs.Computes.{scratch_15, scratch_16}
 use Rattle.a64_emit.proofs.Endings.{Ends, among_plains, leaves_to}
-use Rattle.a64_emit.proofs.Fetching.{Fetched, IsUsable, fetch_word, fetched_keeps, gives_same, kept_differs, source_differs}
-use Rattle.a64_emit.proofs.Keeping.{KeepsAll, keeps_related, whole_of}
+use Rattle.a64_emit.proofs.Fetching.{IsUsable, fetch_word, fetched_keeps, gives_same, kept_differs, source_differs}
+use Rattle.a64_emit.proofs.Keeping.{keeps_related, whole_of}
 use Rattle.a64_emit.proofs.Moves.{constant_puts}
 use Rattle.a64_emit.proofs.Ops.{Gives, IsRegister, gives-small}
 use Rattle.a64_emit.proofs.Positions.{Among, among_first, among_rest, length_plains}
-use Rattle.a64_emit.proofs.Straight.{AreAlike, Does, DoesOne, Reaches, Runs, does_both, does_one, leads_on, straight_runs}
+use Rattle.a64_emit.proofs.Straight.{Does, DoesOne, Reaches, Runs, does_both, does_one, leads_on, straight_runs}
 use Rattle.a64_emit.proofs.Tests.{compare_is, with_flags}
-use Rattle.a64_emit.proofs.Words.{Puts, does_safely, touches_nothing}
+use Rattle.a64_emit.proofs.Words.{does_safely, touches_nothing}
 
 -- the difference of two words is 0 where they are equal
 same_words : (width : Width) (x y : ℕ) → x < 2 ^ bits width → y < 2 ^ bits width → nat_eq (sum_of width x (complement width y) 1) 0 ≡ nat_eq y x
@@ -76,22 +75,27 @@ case_number-le width x (case ∷ cases) =
     elim (nat_eq (low width case) x) as (λ b. (if b then 0 else suc (case_number width x cases)) ≤ suc (length cases)) [ true ↦ omega arith | false ↦ omega arith ]
 
 -- a machine with the flags of a word and a case
-pub record Compared (z : Setting) (s : State) (c : Machine) (a : Source) (width : Width) (x case : ℕ) : Type 0 where
+pub record ComparedBy (z : Setting) (s : State) (c : Machine) (insts : List Inst) (a : Source) (width : Width) (x case : ℕ) : Type 0 where
   pub after : Machine
-  pub does : Does z c (compare_case width (reg_of a) case) after
+  pub does : Does z c insts after
   pub related : IsRelated z s after
   pub gives : Gives after.registers a width x
   pub equal : holds Eq after.registers.flags ≡ nat_eq (low width case) x
+
+register_most : (r : Registers) (a : Source) (width : Width) (x : ℕ) → IsRegister a → Gives r a width x → reg_of a ≤ 31
+register_most r (InReg reg) width x is gives = omega (arith, gives.0)
+register_most r (Constant word) width x is gives = absurd is
 
 -- each target is a block
 abbrev pub AllWithin : Setting → List ℕ → Type 0
 AllWithin z targets_of = (j : ℕ) → j < length targets_of → get_or targets_of j 0 < length z.procedure.blocks
 
 module _ (z : Setting) (set : IsSet z) (serves : IsFrameOf z.procedure z.frame) (unmarked : (k : ℕ) → run.mark_before z.code k ≡ None) where
-  compares : (s : State) (c : Machine) (a : Source) (width : Width) (x case : ℕ) → IsRelated z s c → IsRegister a → ((r : ℕ) → a ≡ InReg r → r ≢ 16)
-      → Gives c.registers a width x → Compared z s c a width x case
+  -- by a register
+  compares_put : (s : State) (c : Machine) (a : Source) (width : Width) (x case : ℕ) → IsRelated z s c → IsRegister a → ((r : ℕ) → a ≡ InReg r → r ≢ 16)
+      → Gives c.registers a width x → ComparedBy z s c (constant width 16 (low width case) ++ AddSubReg width true true 31 (reg_of a) 16 0 0 ∷ []) a width x case
   unfolding flags_of_sum
-  compares s c a width x case rel is differ gives =
+  compares_put s c a width x case rel is differ gives =
       let y : ℕ = low width case in
       let p = constant_puts z c width 16 y (whole_of z set serves c rel.frame) rel.frame.words (omega arith) (λ e. omega arith) (low-small width case) in
       let m : Machine = p.after in
@@ -105,11 +109,49 @@ module _ (z : Setting) (set : IsSet z) (serves : IsFrameOf z.procedure z.frame) 
       record {
         after = d;
         does = does_both z c m d (constant width 16 y) (inst ∷ []) p.does (does_one z m d inst one);
-        related = keeps_related z s m d (record { sp = refl; memory = refl; x = λ r kept. refl;
-            words = record { x = rel_m.frame.words.x; sp = rel_m.frame.words.sp; pc = rel_m.frame.words.pc } }) rel_m;
+        related = keeps_related z s m d (record {
+          sp = refl;
+          memory = refl;
+          x = λ r kept. refl;
+          words = record { x = rel_m.frame.words.x; sp = rel_m.frame.words.sp; pc = rel_m.frame.words.pc };
+        }) rel_m;
         gives = gives_same m.registers d.registers a width x (λ r is. refl) gives_a;
         equal = same_words width x y (gives-small c.registers a width x gives) (low-small width case);
       }
+
+  -- by an immediate
+  compares_with : (s : State) (c : Machine) (a : Source) (width : Width) (x case : ℕ) → IsRelated z s c → IsRegister a → is_sum_word width (low width case) ≡ true
+      → Gives c.registers a width x → ComparedBy z s c (sum_with width true true 31 (reg_of a) (low width case) ∷ []) a width x case
+  unfolding flags_of_sum
+  compares_with s c a width x case rel is short gives =
+      let y : ℕ = low width case in
+      let inst : Inst = sum_with width true true 31 (reg_of a) y in
+      let plain = sum_plain width true true 31 (reg_of a) (Constant y) (omega arith) (register_most c.registers a width x is gives) (omega arith) (low-small width case, short) in
+      let d : Machine = record { registers = with_flags c.registers (flags_of_sum width x (complement width y) 1); memory = c.memory } in
+      let one : DoesOne z c inst d = does_safely z c d inst (whole_of z set serves c rel.frame) (touches_nothing c inst (λ pc. plain.touches (moved_to pc c).registers)) refl
+      (λ pc. compare_is (moved_to pc c).registers c.memory width a (Constant y) x y is (gives_same c.registers (moved_to pc c).registers a width x (λ r is. refl) gives) (low_low width case)
+      (low-small width case, short)) in
+      record {
+        after = d;
+        does = does_one z c d inst one;
+        related = keeps_related z s c d (record {
+          sp = refl;
+          memory = refl;
+          x = λ r kept. refl;
+          words = record { x = rel.frame.words.x; sp = rel.frame.words.sp; pc = rel.frame.words.pc };
+        }) rel;
+        gives = gives_same c.registers d.registers a width x (λ r is. refl) gives;
+        equal = same_words width x y (gives-small c.registers a width x gives) (low-small width case);
+      }
+
+  compares : (s : State) (c : Machine) (a : Source) (width : Width) (x case : ℕ) → IsRelated z s c → IsRegister a → ((r : ℕ) → a ≡ InReg r → r ≢ 16)
+      → Gives c.registers a width x → ComparedBy z s c (compare_case width (reg_of a) case) a width x case
+  compares s c a width x case rel is differ gives =
+      elim (is_sum_word width (low width case)) as (λ b. is_sum_word width (low width case) ≡ b
+      → ComparedBy z s c (if b then sum_with width true true 31 (reg_of a) (low width case) ∷ [] else constant width 16 (low width case) ++ AddSubReg width true true 31 (reg_of a) 16 0 0 ∷ []) a width x case) [
+        | true ↦ λ e. compares_with s c a width x case rel is e gives
+        | false ↦ λ e. compares_put s c a width x case rel is differ gives
+      ] refl
 
   pub switch_reaches : (from : World) (s : State) (a : Source) (width : Width) (x next label : ℕ) (cases targets_of : List ℕ) (k : ℕ) (c : Machine)
       → length targets_of ≡ suc (length cases) → AllWithin z targets_of → Among z.code k (switch_items width (reg_of a) next label cases targets_of)

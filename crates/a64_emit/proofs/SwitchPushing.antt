@@ -1,10 +1,10 @@
 -- How the code of a Switch grows by that of one case more.
-use Rattle.std.proofs.Common.{◌≡◌, ℕ, zero, suc, ◌+◌, ◌<◌, ◌≤◌, Bool, true, false, nat_eq, List, [], ◌∷◌, ◌++◌, Some, refl, sym, ap, ◌∙◌, subst, arith, length, drop, append_assoc, append-nil}
-use Rattle.std.specs.Prelude.{slice_get, if◌then◌else◌}
+use Rattle.std.proofs.Common.{◌≡◌, ℕ, zero, suc, ◌+◌, ◌≤◌, List, [], ◌∷◌, ◌++◌, Some, refl, sym, ap, ◌∙◌, arith, length, drop, append_assoc, append-nil}
+use Rattle.std.specs.Prelude.{slice_get}
 use Rattle.b3_base.specs.declared.word.Width.{Width}
 use Rattle.a64_inst.specs.declared.inst.Cond.TheVariants.{Eq}
 use Rattle.a64_inst.specs.declared.item.Item.{Item}
-use Rattle.a64_inst.specs.declared.item.Item.TheVariants.{If, Jump}
+use Rattle.a64_inst.specs.declared.item.Item.TheVariants.{If}
 use Rattle.a64_emit.specs.Code.{jump_to}
 use Rattle.a64_emit.specs.Places.{plains}
 use Rattle.a64_emit.specs.Switched.{compare_case, switch_items}

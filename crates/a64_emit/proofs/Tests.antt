@@ -1,32 +1,29 @@
 -- The flags of a test.
-use Rattle.std.proofs.Common.{◌≡◌, ◌≢◌, ℕ, ℤ, pos, ◌+ℤ◌, ◌+◌, ◌-◌, ◌*◌, ◌/◌, ◌%◌, ◌^◌, ◌<◌, ◌≤◌, Bool, true, false, inl, inr, ⊎_elim, List, [], ◌∷◌, Option, Some, None, refl, sym, ap, ◌∙◌, subst, arith, nat_eq, eq-eqb}
-use Rattle.std.specs.Prelude.{◌||◌, ◌&&◌, nat_le, nat_lt, not, if◌then◌else◌}
+use Rattle.std.proofs.Common.{◌≡◌, ℕ, pos, ◌+ℤ◌, ◌+◌, ◌-◌, ◌*◌, ◌/◌, ◌%◌, ◌^◌, ◌<◌, ◌≤◌, Bool, true, false, refl, sym, ap, ◌∙◌, arith, nat_eq}
+use Rattle.std.specs.Prelude.{nat_le, not, if◌then◌else◌}
 use Rattle.std.specs.Int.{bit_at}
-use Rattle.std.proofs.lemmas.Bool.{cases_lt, ne_eqb}
+use Rattle.std.proofs.lemmas.Bool.{ne_eqb}
 use Rattle.std.proofs.lemmas.Bool.Decides.{nat_tests}
 use Rattle.std.proofs.lemmas.Int.{ints}
 use Rattle.std.proofs.lemmas.Nat.{pow_pos}
 use Rattle.std.proofs.lemmas.Nat.Bits.{bit_at_cat_high}
-use Rattle.b3_base.specs.Arithmetic.{low}
 use Rattle.b3_base.specs.Word.{bits}
 use Rattle.b3_base.specs.declared.word.Width.{Width}
 use Rattle.b3_base.specs.declared.word.Width.TheVariants.{W32, W64}
 use Rattle.a64_inst.specs.Fields.{bit}
-use Rattle.a64_inst.specs.Step.{AreWords, Bytes, Registers, Stepped, step_of, goes_on, read, low_bits, complement, operand, shifted, sum_of, add_sub_imm, add_sub_reg}
+use Rattle.a64_inst.specs.Step.{Bytes, Registers, step_of, goes_on, complement, operand, shifted, sum_of, add_sub_imm, add_sub_reg}
 use Rattle.a64_inst.specs.StepData.{read_low}
-use Rattle.a64_inst.specs.Values.{flags_of_sum, holds, is_negative, is_signed, passes_signed, signed}
-use Rattle.a64_inst.specs.declared.inst.Inst.{Inst}
+use Rattle.a64_inst.specs.Values.{flags_of_sum, holds, is_negative, signed}
 use Rattle.a64_inst.specs.declared.inst.Inst.TheVariants.{AddSubImm, AddSubReg}
 use Rattle.a64_inst.specs.declared.state.Flags.{Flags}
-use Rattle.air_ir.specs.Forms.{OfSum, is_short, IsImmediate}
-use Rattle.air_ir.specs.Words.{test}
+use Rattle.air_ir.specs.Forms.{is_short}
 use Rattle.air_ir.specs.declared.op.Test.{Test}
 use Rattle.air_ir.specs.declared.op.Test.TheVariants.{Compare, NonZero, Bit}
-use Rattle.a64_emit.specs.Computing.{condition, reg_of, short_sum, sum_by, sum_with, testing}
+use Rattle.a64_emit.specs.Computing.{condition, reg_of, short_sum, sum_by, testing}
 use Rattle.a64_emit.specs.Fitting.{IsSummed, IsTested}
 use Rattle.a64_emit.specs.declared.source.Source.{Source}
 use Rattle.a64_emit.specs.declared.source.Source.TheVariants.{InReg, Constant}
-use Rattle.a64_emit.proofs.Ops.{Gives, IsRegister, gives-small, low_is, low_small, not_zero, read_is, short_high, turned_short, unshifted}
+use Rattle.a64_emit.proofs.Ops.{Gives, IsRegister, gives-small, low_is, low_small, not_zero, short_high, turned_short, unshifted}
 
 -- registers with other flags
 abbrev pub with_flags : Registers → Flags → Registers
@@ -64,7 +61,6 @@ add_flags width x k small long short =
 zero_low : (width : Width) → 0 % 2 ^ bits width ≡ 0
 zero_low W32 = refl
 zero_low W64 = refl
-
 
 module _ (s : Registers) (m : Bytes) where
   compare_reg : (width : Width) (a b : Source) (x y : ℕ) → IsRegister a → IsRegister b → Gives s a width x → Gives s b width y

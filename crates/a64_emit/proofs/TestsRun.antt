@@ -1,12 +1,11 @@
 -- SetIf and SelectIf.
-use Rattle.std.proofs.Common.{◌≡◌, ◌≢◌, ℕ, ◌+◌, ◌-◌, ◌*◌, ◌%◌, ◌^◌, ◌<◌, ◌≤◌, ◌⊎◌, Bool, true, false, inl, inr, ⊎_elim, List, [], ◌∷◌, ◌++◌, map, Option, Some, None, refl, sym, ap, ◌∙◌, subst, arith}
+use Rattle.std.proofs.Common.{◌≡◌, ℕ, ◌+◌, ◌≤◌, Bool, true, false, List, [], ◌∷◌, ◌++◌, Some, None, refl, sym, ap, ◌∙◌, subst, arith}
 use Rattle.std.specs.Prelude.{not, if◌then◌else◌, ◌&&◌}
 use Rattle.std.specs.Bool.{beq}
-use Rattle.b3_base.specs.Word.{bits}
 use Rattle.b3_base.specs.declared.word.Width.{Width}
-use Rattle.b3_base.specs.declared.word.Width.TheVariants.{W32, W64}
+use Rattle.b3_base.specs.declared.word.Width.TheVariants.{W32}
 use Rattle.b3_meaning.specs.Opcodes.{truth}
-use Rattle.a64_inst.specs.Step.{AreWords, Bytes, Registers, Stepped, step_of, goes_on, low_bits, put, read, select}
+use Rattle.a64_inst.specs.Step.{Bytes, Registers, step_of, goes_on, low_bits, put, read, select}
 use Rattle.a64_inst.specs.StepData.{read_low}
 use Rattle.a64_inst.specs.Values.{holds}
 use Rattle.a64_inst.specs.declared.inst.Cond.{Cond}
@@ -16,15 +15,13 @@ use Rattle.a64_inst.specs.declared.inst.Inst.TheVariants.{Select}
 use Rattle.a64_inst.specs.declared.state.Flags.{Flags}
 use Rattle.a64_layout.specs.Branch.{opposite_cond}
 use Rattle.a64_layout.specs.Machine.{Machine, moved_to}
-use Rattle.air_ir.specs.Kinds.{Computes, kind_of}
 use Rattle.air_ir.specs.Meaning.{meaning}
-use Rattle.air_ir.specs.Operands.{Held, Holds, and_word, targets, word_of, words}
-use Rattle.air_ir.specs.Steps.{Goes, State, Undefined, step}
-use Rattle.air_ir.specs.declared.op.AirOp.{AirOp}
+use Rattle.air_ir.specs.Operands.{Holds, word_of}
+use Rattle.air_ir.specs.Steps.{Goes, State, step}
 use Rattle.air_ir.specs.declared.op.Test.{Test}
 use Rattle.air_ir.specs.declared.op.Test.TheVariants.{Compare, NonZero, Bit}
 use Rattle.air_ir.specs.declared.operand.Arg.{Arg}
-use Rattle.air_ir.specs.declared.operand.Arg.TheVariants.{At, Imm}
+use Rattle.air_ir.specs.declared.operand.Arg.TheVariants.{At}
 use Rattle.air_ir.specs.declared.operand.Home.{Home}
 use Rattle.air_ir.specs.declared.operand.Operand.{Operand}
 use Rattle.air_ir.specs.declared.procedure.AirInst.{AirInst}
@@ -36,13 +33,13 @@ use Rattle.a64_emit.specs.Related.{IsRelated}
 use Rattle.a64_emit.specs.Setting.{IsSet, Setting}
 use Rattle.a64_emit.specs.declared.source.Source.{Source}
 use Rattle.a64_emit.proofs.AirSteps.{IsWritten}
-use Rattle.a64_emit.proofs.Computes.{Carried, Two, does_more, ends_by, fetch_two, le_more, place_usable, scratch_15, source_most}
-use Rattle.a64_emit.proofs.Fetching.{Fetched, Finished, IsPlaceFor, IsUsable, fetch_word, fetched_keeps, result_most}
-use Rattle.a64_emit.proofs.Keeping.{KeepsAll, keeps_related, whole_of}
+use Rattle.a64_emit.proofs.Computes.{Carried, does_more, ends_by, fetch_two, le_more, scratch_15, source_most}
+use Rattle.a64_emit.proofs.Fetching.{IsPlaceFor, IsUsable, fetch_word, fetched_keeps, result_most}
+use Rattle.a64_emit.proofs.Keeping.{keeps_related, whole_of}
 use Rattle.a64_emit.proofs.Ops.{Gives, IsRegister, gives-small, low_is, puts_of}
-use Rattle.a64_emit.proofs.Shapes.{IsPlain, testing_plain}
+use Rattle.a64_emit.proofs.Shapes.{testing_plain}
 use Rattle.a64_emit.proofs.Storing.{with_home}
-use Rattle.a64_emit.proofs.Straight.{Does, DoesOne, does_both, does_first, does_none, does_one}
+use Rattle.a64_emit.proofs.Straight.{Does, DoesOne, does_both, does_first}
 use Rattle.a64_emit.proofs.Tests.{GivesSecond, condition_holds, passes, test_flags, testing_is, with_flags}
 use Rattle.a64_emit.proofs.Words.{does_safely, touches_nothing}
 

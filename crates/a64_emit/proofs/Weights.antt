@@ -1,47 +1,33 @@
 -- The words of each instruction, and of a procedure.
-use Rattle.std.proofs.Common.{◌≡◌, ◌≢◌, ℕ, zero, suc, ◌+◌, ◌-◌, ◌*◌, ◌/◌, ◌%◌, ◌^◌, ◌<◌, ◌≤◌, max, Bool, true, false, ⊎_elim, List, [], ◌∷◌, ◌++◌, Option, Some, None, map, length, get_or, refl, sym, ap, ◌∙◌, subst, arith, length-append}
-use Rattle.std.specs.Prelude.{All, nat_eq, nat_le, nat_lt, slice_get, if◌then◌else◌}
-use Rattle.std.specs.List.{filter, sum_by}
-use Rattle.std.proofs.lemmas.Bool.{cases_lt}
-use Rattle.std.proofs.lemmas.List.{length-map}
-use Rattle.std.proofs.lemmas.List.Elements.{All-head, All-tail}
-use Rattle.std.proofs.lemmas.List.Sums.{count_by-le-length, length-filter, sum_by-append, sum_by-cons}
+use Rattle.std.proofs.Common.{◌≡◌, ℕ, suc, ◌+◌, ◌-◌, ◌*◌, ◌/◌, ◌%◌, ◌≤◌, Bool, true, false, List, [], ◌∷◌, ◌++◌, length, get_or, refl, sym, ap, subst, arith, length-append}
+use Rattle.std.specs.Prelude.{nat_eq, if◌then◌else◌}
+use Rattle.std.specs.List.{sum_by}
+use Rattle.std.proofs.lemmas.List.Sums.{sum_by-append, sum_by-cons}
 use Rattle.b3_base.specs.Arithmetic.{low}
 use Rattle.b3_base.specs.declared.word.Width.{Width}
-use Rattle.b3_base.specs.declared.word.Width.TheVariants.{W32, W64}
-use Rattle.stackmap.specs.declared.site.Returns.{Returns}
+use Rattle.b3_base.specs.declared.word.Width.TheVariants.{W64}
 use Rattle.stackmap.specs.declared.site.SavedRow.{SavedRow}
 use Rattle.a64_inst.specs.declared.inst.Cond.{Cond}
 use Rattle.a64_inst.specs.declared.inst.Cond.TheVariants.{Eq}
 use Rattle.a64_inst.specs.declared.inst.Inst.{Inst}
 use Rattle.a64_inst.specs.declared.inst.Inst.TheVariants.{AddSubImm, AddSubReg}
 use Rattle.a64_inst.specs.declared.item.Item.{Item}
-use Rattle.a64_inst.specs.declared.item.Item.TheVariants.{If, IfBit, IfZero, Jump, Label, Plain}
-use Rattle.air_ir.specs.Forms.{AllFit, HasOperands, Takes, home, test_takes}
-use Rattle.air_ir.specs.Weight.{arg_words, inst_weight, op_words, words_by, weight}
-use Rattle.air_ir.specs.WellFormed.{IsGoodBlock, IsGoodInst, IsWellFormed}
+use Rattle.a64_inst.specs.declared.item.Item.TheVariants.{If, Jump}
+use Rattle.air_ir.specs.Forms.{AllFit, Takes}
+use Rattle.air_ir.specs.Weight.{arg_words}
 use Rattle.air_ir.specs.declared.frame.Frame.{Frame}
-use Rattle.air_ir.specs.declared.op.AirOp.{AirOp}
-use Rattle.air_ir.specs.declared.op.AirOp.TheVariants as op
 use Rattle.air_ir.specs.declared.op.Test.{Test}
 use Rattle.air_ir.specs.declared.op.Test.TheVariants.{Compare, NonZero, Bit}
 use Rattle.air_ir.specs.declared.operand.Arg.{Arg}
 use Rattle.air_ir.specs.declared.operand.Operand.{Operand}
-use Rattle.air_ir.specs.declared.procedure.AirBlock.{AirBlock}
-use Rattle.air_ir.specs.declared.procedure.AirInst.{AirInst}
-use Rattle.air_ir.specs.declared.procedure.AirProc.{AirProc}
-use Rattle.air_frame.specs.Frames.{IsFrameOf}
-use Rattle.air_frame.specs.Needs.{callee_saved, writes}
 use Rattle.a64_layout.specs.Branch.{size_of}
-use Rattle.a64_layout.specs.Layout.{most_words}
-use Rattle.a64_emit.specs.Built.{IsBuilt, is_built}
-use Rattle.a64_emit.specs.Code.{arg_at, block_labels, blocks_items, branch_code, branch_item, branches, bring, compared, compute_code, copy_code, copy_reg, emitted, fetch, fetch_below, fetch_tested, inst_code, inst_items, insts_items, jump_to, own_labels, put_result, result_at, result_reg, select_code, set_code, source_at, test_at, test_count, width_at}
+use Rattle.a64_emit.specs.Code.{arg_at, branch_code, branch_item, branches, bring, compared, copy_code, copy_reg, fetch, fetch_tested, jump_to, put_result, result_reg, select_code, set_code, source_at, test_at, test_count, width_at}
 use Rattle.a64_emit.specs.Computing.{reg_of}
 use Rattle.a64_emit.specs.Constants.{constant}
-use Rattle.a64_emit.specs.Fitting.{AreFitting}
 use Rattle.a64_emit.specs.Places.{above_sp, epilogue, leave, load_at, lower_sp, plains, prologue, restores, saves, store_at, unless_zero}
-use Rattle.a64_emit.specs.Switched.{compare_case, switch_items}
-use Rattle.a64_emit.proofs.Sizes.{bring_most, below_most, compute_most, constant_most, fetch_most, load_most, most_is, operand_words, place_least, place_words, plain_words, put_most, store_most, words_of}
+use Rattle.a64_emit.specs.Switched.{compare_case, compare_word, is_sum_word, switch_items}
+use Rattle.a64_emit.specs.Computing.{sum_with}
+use Rattle.a64_emit.proofs.Sizes.{bring_most, constant_most, fetch_most, load_most, operand_words, place_least, plain_words, put_most, store_most, words_of}
 
 -- ---- operands
 
@@ -72,6 +58,16 @@ branches_most t width reg next then_label else_label =
       | false ↦ let sum = sum_by-cons (size_of true) (branch_item t true width reg then_label) (jump_to next else_label) in omega arith
     ]
 
+case_most : (width : Width) (reg word : ℕ) → length (compare_word width reg word) ≤ 5
+case_most width reg word =
+    let put = constant_most width 16 word in
+    let inst : Inst = AddSubReg width true true 31 reg 16 0 0 in
+    let count = length-append (constant width 16 word) (inst ∷ []) in
+    elim (is_sum_word width word) as (λ b. length (if b then sum_with width true true 31 reg word ∷ [] else constant width 16 word ++ inst ∷ []) ≤ 5) [
+      | true ↦ omega arith
+      | false ↦ omega arith
+    ]
+
 switch_most : (width : Width) (reg next label : ℕ) (cases targets : List ℕ) → words_of (switch_items width reg next label cases targets) ≤ 7 * length cases + 1
 unfolding switch_items
 switch_most width reg next label [] [] = omega arith
@@ -80,9 +76,7 @@ switch_most width reg next label (case ∷ cases) [] = omega arith
 switch_most width reg next label (case ∷ cases) (target ∷ targets) =
     let items : List Item = switch_items width reg next label cases targets in
     let more = switch_most width reg next label cases targets in
-    let word = constant_most width 16 (low width case) in
-    let inst : Inst = AddSubReg width true true 31 reg 16 0 0 in
-    let count : length (compare_case width reg case) ≡ length (constant width 16 (low width case)) + 1 = length-append (constant width 16 (low width case)) (inst ∷ []) in
+    let count = case_most width reg (low width case) in
     let plain = plain_words (compare_case width reg case) in
     let both = sum_by-append (size_of true) (plains (compare_case width reg case)) (If Eq target ∷ items) in
     let sum = sum_by-cons (size_of true) (If Eq target) items in

@@ -1,5 +1,5 @@
 -- The labels of emitted code are its blocks', each once, and each that is named is there.
-use Rattle.std.proofs.Common.{◌≡◌, ◌≢◌, ℕ, zero, suc, ◌+◌, ◌-◌, ◌*◌, ◌^◌, ◌<◌, ◌≤◌, Bool, true, false, cond, ⊎_elim, List, [], ◌∷◌, ◌++◌, Option, Some, None, length, get_or, refl, sym, ap, ◌∙◌, subst, arith}
+use Rattle.std.proofs.Common.{◌≡◌, ℕ, zero, suc, ◌+◌, ◌^◌, ◌<◌, Bool, true, false, cond, List, [], ◌∷◌, ◌++◌, Option, Some, None, length, get_or, refl, sym, ◌∙◌, subst, arith}
 use Rattle.std.specs.Prelude.{All, slice_get}
 use Rattle.std.specs.List.{count_by, sum_by}
 use Rattle.std.proofs.lemmas.List.Sums.{sum_by-append, sum_by-cons}
@@ -21,7 +21,7 @@ use Rattle.a64_layout.proofs.Least.{no_some, one_branch}
 use Rattle.a64_emit.specs.Code.{block_labels, blocks_items, emitted, insts_items}
 use Rattle.a64_emit.specs.Places.{plains, prologue}
 use Rattle.a64_emit.proofs.Labelled.{IsFair, code_fair}
-use Rattle.a64_emit.proofs.Positions.{BlockStands, Each, IsInner, block_stands, each_append, each_at, insts_inner, plains_inner}
+use Rattle.a64_emit.proofs.Positions.{BlockStands, Each, block_stands, each_at, insts_inner, plains_inner}
 
 -- ---- counts
 

@@ -1,19 +1,17 @@
 -- The code of a procedure of Air.
-use Rattle.std.proofs.Common.{◌≡◌, ℕ, zero, ◌+◌, ◌^◌, ◌<◌, ◌≤◌, List, [], Some, None, refl, sym, ap, ◌∙◌, subst, arith, length, get_or}
-use Rattle.std.specs.Prelude.{All, slice_get}
+use Rattle.std.proofs.Common.{◌≡◌, ℕ, ◌^◌, ◌<◌, ◌≤◌, [], Some, None, refl, sym, ap, ◌∙◌, subst, arith, length, get_or}
+use Rattle.std.specs.Prelude.{slice_get}
 use Rattle.std.proofs.lemmas.Option.{slice_get-get_or}
-use Rattle.a64_inst.specs.declared.item.Item.{Item}
 use Rattle.air_ir.specs.Weight.{weight}
 use Rattle.air_ir.specs.WellFormed.{IsWellFormed}
 use Rattle.air_ir.specs.declared.frame.Frame.{Frame}
-use Rattle.air_ir.specs.declared.procedure.AirBlock.{AirBlock}
 use Rattle.air_ir.specs.declared.procedure.AirProc.{AirProc}
 use Rattle.air_frame.specs.Frames.{IsFrameOf}
-use Rattle.a64_layout.specs.Layout.{most_words, place, position_of}
+use Rattle.a64_layout.specs.Layout.{most_words, position_of}
 use Rattle.a64_layout.specs.Run as run
 use Rattle.a64_emit.specs.Built.{IsBuilt}
 use Rattle.a64_emit.specs.Code.{emitted}
-use Rattle.a64_emit.specs.Emitted.{CarriesOut, IsCodeOfAir, IsSettingOf, first_state}
+use Rattle.a64_emit.specs.Emitted.{CarriesOut, IsCodeOfAir, IsSettingOf}
 use Rattle.a64_emit.specs.Setting.{Setting}
 use Rattle.a64_emit.proofs.BlockEnds.{ahead_of_blocks}
 use Rattle.a64_emit.proofs.CodeOfAir.{block_carried, entry_carried}

@@ -1,26 +1,22 @@
 -- One instruction that puts a word in a register, or stores one in the frame.
-use Rattle.std.proofs.Common.{◌≡◌, ◌≢◌, ℕ, ◌+◌, ◌-◌, ◌*◌, ◌/◌, ◌%◌, ◌^◌, ◌<◌, ◌≤◌, min, Bool, true, false, inl, inr, ⊎_elim, List, [], ◌∷◌, ◌++◌, Option, Some, None, refl, sym, ap, ◌∙◌, subst, arith, nat_eq, eq-eqb}
-use Rattle.std.specs.Prelude.{is_some, nat_le, if◌then◌else◌}
-use Rattle.std.proofs.lemmas.Bool.{cases_lt, ne_eqb}
-use Rattle.std.proofs.lemmas.Bool.Decides.{nat_tests}
-use Rattle.b3_base.specs.Memory.{AreBytes, byte_address, is_mapped, read_word, write_word}
+use Rattle.std.proofs.Common.{◌≡◌, ◌≢◌, ℕ, ◌+◌, ◌-◌, ◌*◌, ◌/◌, ◌%◌, ◌^◌, ◌<◌, ◌≤◌, min, true, false, List, [], ◌∷◌, Option, Some, None, refl, sym, ap, ◌∙◌, subst, arith, nat_eq, eq-eqb}
+use Rattle.std.specs.Prelude.{nat_le, if◌then◌else◌}
+use Rattle.std.proofs.lemmas.Bool.{ne_eqb}
+use Rattle.b3_base.specs.Memory.{byte_address, is_mapped, read_word, write_word}
 use Rattle.b3_base.specs.declared.word.Width.TheVariants.{W64}
-use Rattle.b3_base.proofs.MemoryLaws.{is_mapped_all, write_word-AreBytes, write_word_keeps}
 use Rattle.a64_inst.specs.Step.{AreWords, Registers, Stepped, step_of, goes_on, put, access, add_sub_imm}
 use Rattle.a64_inst.specs.StepMemory.{access_address}
-use Rattle.a64_inst.specs.WellFormed.{IsWellFormed}
 use Rattle.a64_inst.specs.declared.inst.AccessKind.TheVariants.{LdrX, StrX}
 use Rattle.a64_inst.specs.declared.inst.Inst.{Inst}
 use Rattle.a64_inst.specs.declared.inst.Inst.TheVariants.{Access, AddSubImm}
 use Rattle.exit_table.specs.Good.{IsWordOffset}
 use Rattle.a64_layout.specs.Machine.{Machine, moved_to}
 use Rattle.a64_run.specs.Machine.{touched}
-use Rattle.a64_run.specs.Placement.{frame_pointer_of, in_frame}
-use Rattle.a64_emit.specs.Emitted.{IsSafe}
+use Rattle.a64_run.specs.Placement.{frame_pointer_of}
 use Rattle.a64_emit.specs.Places.{above_sp, load_at, store_at}
 use Rattle.a64_emit.specs.Related.{word_below}
-use Rattle.a64_emit.specs.Setting.{IsSet, Setting, row}
-use Rattle.a64_emit.proofs.Straight.{Does, DoesOne, IsWhole, does_both, does_first, does_none, does_one}
+use Rattle.a64_emit.specs.Setting.{Setting}
+use Rattle.a64_emit.proofs.Straight.{Does, DoesOne, IsWhole, does_first, does_one}
 
 -- a machine with a word in a register, and with another memory
 abbrev pub with_reg : Machine → ℕ → ℕ → Machine

@@ -1,6 +1,6 @@
 -- The ops that are emitted.
 use Rattle.std.specs.Prelude.{◌≡◌, Bool, true, false, All}
-use Rattle.air_ir.specs.Kinds.{Kind, Copies, Computes, Loads, Stores, Checks, ChecksResult, Calls, Patches, SlotAddresses, FramePointers, Branches, Jumps, Switches, Returns, Fails, kind_of}
+use Rattle.air_ir.specs.Kinds.{Kind, Copies, Computes, Branches, Jumps, Switches, Returns, Fails, kind_of}
 use Rattle.air_ir.specs.declared.op.AirOp.{AirOp}
 use Rattle.air_ir.specs.declared.op.AirOp.TheVariants.{Shuffle}
 use Rattle.air_ir.specs.declared.procedure.AirBlock.{AirBlock}

@@ -1,11 +1,11 @@
 -- What emitted code is: labelled code in which the items from each block's label on do what the block does, up to the label
 -- of the next one or to the instruction that ends the run.
-use Rattle.std.specs.Prelude.{◌≡◌, ℕ, ◌+◌, ◌<◌, ◌≤◌, ◌%◌, min, true, false, List, [], ◌++◌, length, Option, Some, None, slice_get}
+use Rattle.std.specs.Prelude.{◌≡◌, ℕ, ◌<◌, ◌≤◌, ◌%◌, min, true, List, [], ◌++◌, length, Option, Some, slice_get}
 use Rattle.b3_base.specs.Memory.{byte_address}
 use Rattle.b3_base.specs.Observed.{Answer, Observation}
 use Rattle.b3_base.specs.Run.{iterate}
 use Rattle.b3_base.specs.declared.observation.Status.TheVariants.{Returned}
-use Rattle.a64_inst.specs.Registers.{AreWords, Registers}
+use Rattle.a64_inst.specs.Registers.{AreWords}
 use Rattle.a64_inst.specs.Step.{step_of}
 use Rattle.a64_inst.specs.declared.inst.BranchKind.TheVariants.{Ret}
 use Rattle.a64_inst.specs.declared.inst.Inst.{Inst}

@@ -1,8 +1,8 @@
 -- Which constants the sources of ops may be. No public clause cites this module.
-use Rattle.std.specs.Prelude.{ℕ, ◌+◌, ◌^◌, ◌<◌, List, All, length, sum_by}
+use Rattle.std.specs.Prelude.{◌+◌, ◌^◌, ◌<◌, List, All, length, sum_by}
 use Rattle.b3_base.specs.Word.{bits}
 use Rattle.b3_base.specs.declared.word.Width.{Width}
-use Rattle.air_ir.specs.Forms.{Immediates, NoImmediate, AnyWord, OfLogic, OfSum, IsImmediate}
+use Rattle.air_ir.specs.Forms.{Immediates, OfLogic, OfSum, IsImmediate}
 use Rattle.air_ir.specs.declared.op.AirOp.{AirOp}
 use Rattle.air_ir.specs.declared.op.AirOp.TheVariants as op
 use Rattle.air_ir.specs.declared.op.Test.{Test}

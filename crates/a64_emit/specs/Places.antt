@@ -1,5 +1,5 @@
 -- How words of the frame are loaded and stored, and how a procedure is entered and left.
-use Rattle.std.specs.Prelude.{ℕ, pos, negsuc, ◌+◌, ◌-◌, ◌/◌, ◌%◌, Bool, true, false, nat_eq, nat_le, if◌then◌else◌, List, [], ◌∷◌, ◌++◌, map, get_or}
+use Rattle.std.specs.Prelude.{ℕ, pos, negsuc, ◌-◌, ◌/◌, ◌%◌, true, false, nat_eq, nat_le, if◌then◌else◌, List, [], ◌∷◌, ◌++◌, map, get_or}
 use Rattle.b3_base.specs.declared.word.Width.TheVariants.{W64}
 use Rattle.stackmap.specs.declared.site.SavedRow.{SavedRow}
 use Rattle.a64_inst.specs.declared.inst.AccessKind.TheVariants.{LdrX, StrX}

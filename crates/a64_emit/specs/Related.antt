@@ -1,5 +1,5 @@
 -- When the machine, at the label of a block, stands as the run of Air does before the block.
-use Rattle.std.specs.Prelude.{◌≡◌, ℕ, ◌+◌, ◌-◌, ◌≤◌, true, List, Option, Some, None, is_some, slice_get, Contains}
+use Rattle.std.specs.Prelude.{◌≡◌, ℕ, ◌+◌, ◌-◌, ◌≤◌, true, Option, Some, None, is_some, slice_get, Contains}
 use Rattle.b3_base.specs.Arithmetic.{low}
 use Rattle.b3_base.specs.Memory.{AreBytes, read_word}
 use Rattle.b3_ir.specs.declared.value.Reg.{Reg as Register}

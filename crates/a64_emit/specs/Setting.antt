@@ -1,6 +1,6 @@
 -- What a run of emitted code goes by: a procedure of Air and its frame, the code, where its words stand, a machine
 -- start, and the start of the run of Air that agrees with it.
-use Rattle.std.specs.Prelude.{◌≡◌, ℕ, ◌+◌, ◌*◌, ◌%◌, ◌^◌, ◌≤◌, Bool, false, true, ◌&&◌, not, List, length, map, is_some}
+use Rattle.std.specs.Prelude.{◌≡◌, ℕ, ◌+◌, ◌*◌, ◌%◌, ◌^◌, ◌≤◌, false, true, ◌&&◌, not, List, length, map, is_some}
 use Rattle.b3_base.specs.Observed.{MachineStart, Start}
 use Rattle.b3_base.specs.Ranged.{IsRangedMachineStart}
 use Rattle.exit_table.specs.declared.tables.FrameRow.{FrameRow}
@@ -9,7 +9,7 @@ use Rattle.air_ir.specs.declared.frame.Frame.{Frame}
 use Rattle.air_ir.specs.declared.procedure.AirProc.{AirProc}
 use Rattle.air_frame.specs.Frames.{row_of}
 use Rattle.a64_layout.specs.Layout.{Set, place}
-use Rattle.a64_layout.specs.Machine.{Machine, Outside, items_at, moved_to}
+use Rattle.a64_layout.specs.Machine.{Machine, Outside, items_at}
 use Rattle.a64_layout.specs.Run.{Meaning}
 use Rattle.a64_inst.specs.declared.inst.Inst.{Inst}
 use Rattle.a64_run.specs.Placement.{argument_words, entry_memory, frame_pointer_of, in_frame, in_slot, slot_address, visible}

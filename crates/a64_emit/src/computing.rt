@@ -8,6 +8,7 @@ ghost use Rattle.a64_inst.specs.StepData.{shift_of};
 ghost use Rattle.a64_inst.specs.declared.inst.Inst.TheVariants.{AddSubReg, BitField, Divide, MulAdd};
 ghost use Rattle.a64_layout.specs.Branch.{opposite_cond};
 ghost use Rattle.a64_emit.specs.Computing.{computing, condition, logic_by, logic_with, move_reg, move_shifted, reg_of, shift_by, short_sum, sum_by, sum_with, takes_two, testing};
+ghost use Rattle.a64_emit.specs.Switched.{is_sum_word};
 ghost use Rattle.a64_emit.specs.Fitting.{IsComputed, IsSummed, IsMasked, IsTested};
 
 use crate::source::Source;
@@ -65,7 +66,7 @@ fn less_word(width: Width, word: u64) -> u64
 }
 
 /// ADD or SUB with a word, by the other one of them where the word isn't short.
-fn sum_with(width: Width, sub: bool, flags: bool, rd: u8, rn: u8, word: u64) -> Inst
+pub(crate) fn sum_with(width: Width, sub: bool, flags: bool, rd: u8, rn: u8, word: u64) -> Inst
     requires small { word < 2 ^ bits width }
     requires fits { IsImmediate OfSum width word }
     ensures { result ≡ sum_with width sub flags rd rn word }
@@ -75,6 +76,14 @@ fn sum_with(width: Width, sub: bool, flags: bool, rd: u8, rn: u8, word: u64) -> 
     } else {
         short_sum(width, !sub, flags, rd, rn, less_word(width, word))
     }
+}
+
+/// Whether a word of a width is an immediate of a difference, or of a sum.
+pub(crate) fn is_sum_word(width: Width, word: u64) -> bool
+    requires { word < 2 ^ bits width }
+    ensures { result ≡ is_sum_word width word }
+{
+    is_short(word) || is_short(less_word(width, word))
 }
 
 fn sum_by(width: Width, sub: bool, flags: bool, rd: u8, rn: u8, by: Source) -> Inst
@@ -243,14 +252,7 @@ fn extend(width: Width, rd: u8, rn: u8, last: u32) -> Inst
 
 /// What an op computes of up to three sources, at a width, into `rd`.
 #[tactic(auto, unfolding(crate::specs::Computing::computing))]
-pub(crate) fn computing(
-    op: &AirOp,
-    width: Width,
-    rd: u8,
-    a: Source,
-    b: Source,
-    c: Source,
-) -> Inst
+pub(crate) fn computing(op: &AirOp, width: Width, rd: u8, a: Source, b: Source, c: Source) -> Inst
     requires { IsComputed op.now width b }
     ensures { result ≡ computing op.now width rd a b c }
 {

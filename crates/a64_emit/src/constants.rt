@@ -130,7 +130,10 @@ fn push_filling(
     if started {
         return Ok(());
     }
-    push(code, half_move(width, inverted, false, reg, filling(inverted), 0))
+    push(
+        code,
+        half_move(width, inverted, false, reg, filling(inverted), 0),
+    )
 }
 
 /// The half-words of a word that aren't the filling.

@@ -1,10 +1,12 @@
 //! The items of a Switch.
 
-ghost use Rattle.std.specs.Prelude.{◌≡◌, ◌++◌, OnOk};
+ghost use Rattle.std.specs.Prelude.{◌≡◌, ◌^◌, ◌<◌, ◌++◌, OnOk};
 ghost use Rattle.b3_base.specs.Arithmetic.{low};
+ghost use Rattle.b3_base.specs.Word.{bits};
 ghost use Rattle.a64_emit.specs.Places.{plains};
 ghost use Rattle.a64_emit.specs.Switched.{compare_case, switch_items, switch_labels};
 
+use crate::computing::{is_sum_word, sum_with};
 use crate::constants::push_constant;
 use crate::places::push;
 use crate::terminals::push_jump;
@@ -19,7 +21,8 @@ pub(crate) fn switch_labels(cases: &Words) -> u32
 }
 
 fn low_word(width: Width, word: u64) -> u64
-    ensures { result ≡ low width word }
+    ensures value { result ≡ low width word }
+    ensures small { result < 2 ^ bits width }
 {
     match width {
         Width::W32 => word % 0x1_0000_0000,
@@ -31,7 +34,11 @@ fn low_word(width: Width, word: u64) -> u64
 fn push_case(code: &mut Labelled, width: Width, reg: u8, case: u64) -> Result<(), NoMemory>
     ensures { OnOk result (code.new ≡ code.old ++ plains (compare_case width reg case)) }
 {
-    push_constant(code, width, 16, low_word(width, case))?;
+    let word = low_word(width, case);
+    if is_sum_word(width, word) {
+        return push(code, sum_with(width, true, true, 31, reg, word));
+    }
+    push_constant(code, width, 16, word)?;
     push(
         code,
         Inst::AddSubReg {

@@ -1,4 +1,3 @@
-use Rattle.std.proofs.Common.{arith}
 use Rattle.a64_emit.proofs.Pushing.{restores_next, restores_none}
 use Rattle.a64_emit.proofs.places.push_restores.Goals as goal
 

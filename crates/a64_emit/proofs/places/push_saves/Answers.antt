@@ -1,4 +1,3 @@
-use Rattle.std.proofs.Common.{arith}
 use Rattle.a64_emit.proofs.Pushing.{saves_next, saves_none}
 use Rattle.a64_emit.proofs.places.push_saves.Goals as goal
 

@@ -1,4 +1,4 @@
-use Rattle.std.proofs.Common.{arith, subst, sym}
+use Rattle.std.proofs.Common.{subst, sym}
 use Rattle.a64_emit.specs.Emitted.{IsCodeOfAir}
 use Rattle.a64_emit.proofs.Fits.{blocks_fit}
 use Rattle.a64_emit.proofs.Light.{labels_fit}

@@ -1,5 +1,4 @@
-use Rattle.std.proofs.Common.{◌≡◌, ◌+◌, ◌++◌, ap, subst, sym, ◌∙◌, arith}
-use Rattle.a64_emit.specs.Code.{blocks_items}
+use Rattle.std.proofs.Common.{arith}
 use Rattle.a64_emit.proofs.BlockPushing.{blocks_done, blocks_next, labels_left}
 use Rattle.a64_emit.proofs.procedure.push_blocks.Goals as goal
 
