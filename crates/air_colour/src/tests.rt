@@ -74,10 +74,14 @@ fn a_clique_of_26_is_spilled_once(rt: HostRuntime) -> Result<(), Fail> {
     Ok(())
 }
 
+fn add_move(graph: &mut Interference, m: Copied) -> Result<(), NoMemory> {
+    graph.moves.push(m)
+}
+
 /// A colouring of a graph with moves.
 fn coloured(alloc: Global, mut graph: Interference, moves: &[Copied]) -> Result<Assignment, Fail> {
     for m in moves {
-        graph.moves.push(*m)?;
+        add_move(&mut graph, *m)?;
     }
     if graph.moves() > 1000 {
         return Err("too many".into());

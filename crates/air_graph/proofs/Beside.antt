@@ -1,5 +1,5 @@
 -- The lists of neighbours beside the row of bits.
-use Rattle.std.proofs.Common.{◌≡◌, ℕ, zero, suc, ◌<◌, ◌≤◌, ◌⊎◌, ◌↔◌, inl, inr, Bool, true, false, List, [], ◌∷◌, ◌++◌, length, get_or, replicate, arith, refl, sym, ap, ◌∙◌, subst}
+use Rattle.std.proofs.Common.{◌≡◌, ℕ, suc, ◌<◌, ◌⊎◌, ◌↔◌, inl, inr, Bool, true, false, List, [], ◌∷◌, ◌++◌, length, get_or, replicate, arith, refl, sym, ap, ◌∙◌, subst}
 use Rattle.std.specs.Prelude.{Contains}
 use Rattle.std.specs.FinSet as set
 use Rattle.std.specs.Ordering.{nat_cmp}
@@ -7,7 +7,7 @@ use Rattle.std.proofs.lemmas.Bool.{cases_eq, cases_lt, false≢true, le-ltb, lt-
 use Rattle.std.proofs.lemmas.List.{get_or-replicate, length-replicate}
 use Rattle.std.proofs.lemmas.List.Elements.{Contains-append_left, Contains-push, Contains-push_cases}
 use Rattle.bit_rows.specs.BitRows.{BitSet}
-use Rattle.air_graph.specs.Edges.{AreNear, ArePair, EdgeSet, IsListOf, IsOnce, has_edge, pair_number}
+use Rattle.air_graph.specs.Edges.{AreNear, EdgeSet, IsListOf, IsOnce, has_edge, pair_number}
 use Rattle.air_graph.proofs.Triangle.{added, pair_of}
 
 abbrev pub no_edges : ℕ → EdgeSet

@@ -1,10 +1,8 @@
 -- What an instruction does to homes, by lists of numbers.
-use Rattle.std.proofs.Common.{◌≡◌, ℕ, ◌+◌, ◌<◌, ◌⊎◌, ◌↔◌, inl, inr, Bool, true, false, not, ◌||◌, Some, List, ◌++◌, length, get_or, take, arith, refl, sym, ap, ◌∙◌, subst}
+use Rattle.std.proofs.Common.{◌≡◌, ℕ, ◌+◌, ◌<◌, ◌⊎◌, ◌↔◌, inl, inr, Bool, true, false, not, ◌||◌, Some, List, ◌++◌, length, get_or, take, refl, sym, ap, ◌∙◌, subst}
 use Rattle.std.specs.Prelude.{Contains, filter, filter_map}
-use Rattle.std.proofs.lemmas.Bool.{false≢true, or_left, or_right}
+use Rattle.std.proofs.lemmas.Bool.{false≢true, or_left}
 use Rattle.std.proofs.lemmas.List.Elements.{Contains-append_cases, Contains-append_left, Contains-append_right}
-use Rattle.b3_base.specs.declared.word.Width.{Width}
-use Rattle.flow_live.specs.Graph.{Place}
 use Rattle.flow_live.specs.declared.touch.Touch.{Touch}
 use Rattle.flow_live.specs.declared.touch.Touch.TheVariants as touch
 use Rattle.air_ir.specs.WellFormed.{StandsAt}
@@ -18,12 +16,11 @@ use Rattle.air_ir.specs.declared.procedure.AirInst.{AirInst}
 use Rattle.air_ir.specs.declared.procedure.AirProc.{AirProc}
 use Rattle.air_flow.specs.Flow.{inst_touches, touches_at}
 use Rattle.air_flow.specs.Interfere.{IsCopied, IsEarly, Meets}
-use Rattle.air_flow.specs.Living.{HasName, IsDefinedBy, IsLiveAfter, IsTouchedBy, IsUsedBy, IsUsedLateBy}
+use Rattle.air_flow.specs.Living.{IsDefinedBy, IsLiveAfter, IsTouchedBy, IsUsedBy, IsUsedLateBy}
 use Rattle.air_flow.proofs.Names.{touches_are}
 use Rattle.air_graph.specs.Edges.{EdgeSet}
-use Rattle.air_graph.specs.Homes.{home_at, number_of}
-use Rattle.air_graph.specs.Moves.{inst_moves}
-use Rattle.air_graph.specs.Walk.{Adds, AreBelow, IsMet, IsTouchedOf, defined_by, early_arg, early_of, early_role, in_list, is_move, name_at, used_by, used_late_by}
+use Rattle.air_graph.specs.Homes.{home_at}
+use Rattle.air_graph.specs.Walk.{Adds, AreBelow, IsMet, IsTouchedOf, defined_by, early_of, early_role, in_list, is_move, name_at, used_by, used_late_by}
 use Rattle.air_graph.specs.declared.moves.Copied.{Copied}
 use Rattle.air_graph.specs.declared.touched.Touched.{Touched}
 use Rattle.air_graph.proofs.Adding.{FromTo, adds_step, contains_more, filtered, listed, moved}

@@ -1,11 +1,11 @@
 -- The numbers of pairs.
-use Rattle.std.proofs.Common.{◌≡◌, ℕ, zero, suc, ◌+◌, ◌-◌, ◌*◌, ◌/◌, ◌^◌, ◌<◌, ◌≤◌, ◌⊎◌, ◌↔◌, inl, inr, Bool, true, false, cond, ◌||◌, eqb, arith, refl, sym, ap, ◌∙◌, subst, ltb}
+use Rattle.std.proofs.Common.{◌≡◌, ℕ, zero, suc, ◌+◌, ◌-◌, ◌*◌, ◌/◌, ◌^◌, ◌<◌, ◌≤◌, ◌⊎◌, ◌↔◌, inl, inr, Bool, true, false, cond, eqb, arith, refl, sym, ap, ◌∙◌, subst, ltb}
 use Rattle.std.proofs.Math.Nat.{mul-suc, suc-mul}
 use Rattle.std.proofs.lemmas.Bool.{cases_lt, eqb-true, eq-eqb, false≢true, le-ltb, lt-ltb, or_cases, or_left, or_right}
 use Rattle.std.specs.FinSet as set
 use Rattle.bit_rows.specs.BitRows.{BitSet}
 use Rattle.bit_rows.proofs.Sets.{contains-insert_nat}
-use Rattle.air_graph.specs.Edges.{ArePair, EdgeSet, has_edge, pair_number, pairs_below}
+use Rattle.air_graph.specs.Edges.{ArePair, pair_number, pairs_below}
 
 -- twice as many, as a product
 twice : (n : ℕ) → pairs_below n + pairs_below n ≡ n * (n - 1)

@@ -1,10 +1,10 @@
 -- The walk over the instructions of a block and over the blocks.
-use Rattle.std.proofs.Common.{◌≡◌, ℕ, ◌+◌, ◌-◌, ◌<◌, ◌≤◌, ◌⊎◌, ◌↔◌, inl, inr, true, false, Some, List, length, get_or, take, arith, refl, sym, ap, ◌∙◌, subst, [], ◌∷◌}
+use Rattle.std.proofs.Common.{◌≡◌, ℕ, ◌+◌, ◌-◌, ◌<◌, ◌≤◌, ◌⊎◌, ◌↔◌, inl, inr, true, false, Some, List, length, get_or, arith, refl, sym, ap, ◌∙◌, subst, []}
 use Rattle.std.specs.Prelude.{Contains, slice_get}
 use Rattle.std.proofs.lemmas.Bool.{cases_lt}
 use Rattle.std.proofs.lemmas.Option.{slice_get-get_or, slice_get_within}
 use Rattle.b3_ir.specs.declared.value.Reg.{Reg as Register}
-use Rattle.flow_live.specs.Graph.{LiveOut, Place}
+use Rattle.flow_live.specs.Graph.{LiveOut}
 use Rattle.air_ir.specs.Blocks.{block_of}
 use Rattle.air_ir.specs.WellFormed.{StandsAt}
 use Rattle.air_ir.specs.declared.op.AirOp.TheVariants as op
@@ -14,8 +14,8 @@ use Rattle.air_ir.specs.declared.procedure.AirBlock.{AirBlock}
 use Rattle.air_ir.specs.declared.procedure.AirInst.{AirInst}
 use Rattle.air_ir.specs.declared.procedure.AirProc.{AirProc}
 use Rattle.air_flow.specs.Flow.{flow_of, touches_at}
-use Rattle.air_flow.specs.Interfere.{AreRegisters, Interfere, Meets}
-use Rattle.air_flow.specs.Living.{HasName, IsDefinedBy, IsLive, IsLiveAfter, LiveByTouches, LiveOn, LivesOn}
+use Rattle.air_flow.specs.Interfere.{Interfere, Meets}
+use Rattle.air_flow.specs.Living.{IsLiveAfter, LiveByTouches, LiveOn, LivesOn}
 use Rattle.air_graph.specs.Edges.{EdgeSet, has_edge}
 use Rattle.air_graph.specs.Homes.{home_at, number_of, register_at}
 use Rattle.air_graph.specs.Walk.{Adds, AreBelow, IsLiveNow, IsMet, IsTouchedOf, LiveNow, MeetAt, name_at}

@@ -1,6 +1,6 @@
 -- The homes that are coloured, by numbers: the temporaries of a procedure by theirs, and after them the 25 registers
 -- that values may stand in, x0 to x14 and x19 to x28, in rising order.
-use Rattle.std.specs.Prelude.{ℕ, ◌+◌, ◌-◌, ◌≤◌, Bool, cond, nat_lt, Option, Some, None, false}
+use Rattle.std.specs.Prelude.{ℕ, ◌+◌, ◌-◌, Bool, cond, nat_lt, Option, Some, None, false}
 use Rattle.air_ir.specs.declared.operand.Home.{Home}
 use Rattle.air_ir.specs.declared.operand.Home.TheVariants.{Tmp, Reg, Spill}
 use Rattle.air_graph.specs.Edges.{EdgeSet, has_edge}

@@ -1,9 +1,8 @@
 -- No public clause cites this module. What the walk over a procedure keeps.
-use Rattle.std.specs.Prelude.{◌≡◌, ◌≢◌, ◌↔◌, ℕ, ◌+◌, ◌-◌, ◌<◌, ◌≤◌, ◌⊎◌, ◌&&◌, Bool, true, cond, not, nat_eq, nat_lt, Option, Some, None, List, [], ◌++◌, length}
-use Rattle.std.specs.Prelude.{Contains, filter, filter_map}
+use Rattle.std.specs.Prelude.{◌≡◌, ◌≢◌, ◌↔◌, ℕ, ◌+◌, ◌-◌, ◌<◌, ◌⊎◌, ◌&&◌, Bool, true, cond, nat_eq, nat_lt, Option, Some, None, List, length}
+use Rattle.std.specs.Prelude.{Contains, filter_map}
 use Rattle.std.specs.List.{list_any}
-use Rattle.b3_base.specs.declared.word.Width.{Width}
-use Rattle.flow_live.specs.Graph.{LiveOut, Place}
+use Rattle.flow_live.specs.Graph.{LiveOut}
 use Rattle.flow_live.specs.declared.touch.Touch.{Touch}
 use Rattle.flow_live.specs.declared.touch.Touch.TheVariants as touch
 use Rattle.air_ir.specs.Blocks.{block_of}

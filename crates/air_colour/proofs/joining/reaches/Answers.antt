@@ -17,7 +17,7 @@ pub returns-then-k-neighbours : goal.returns-then-k-neighbours
 returns-then-k-neighbours c =
     let front = count_front (λ b. slice_index_or c.args.left.now b false) c.near-near.result.now c.loop-b.b-index in
     let all = listed_count (λ b. slice_index_or c.args.left.now b false) (has c.args.edges.now c.args.a) c.near-near.result.now (length c.args.left.now)
-        c.near-near.ensures.is (λ x i. let lt = c.near-near.ensures.below x i in omega (arith, lt, c.requires.room.names)) in
+    c.near-near.ensures.is (λ x i. let lt = c.near-near.ensures.below x i in omega (arith, lt, c.requires.room.names)) in
     sym (le-leb c.args.k (neighbours_left c.args.edges.now c.args.left.now c.args.a)
     (omega (arith, front, all, c.loop-b.invariant.counted, c.if-k-neighbours.true)))
 

@@ -1,4 +1,4 @@
-use Rattle.std.proofs.Common.{◌≡◌, ℕ, ◌+◌, ◌<◌, arith, get_or, sym, ap, ◌∙◌, subst, take}
+use Rattle.std.proofs.Common.{ℕ, ◌+◌, arith, get_or, sym, ap, ◌∙◌, subst, take}
 use Rattle.std.proofs.lemmas.List.Elements.{Contains-get_or}
 use Rattle.air_graph.specs.Edges.{EdgeSet}
 use Rattle.air_graph.specs.Walk.{Adds}

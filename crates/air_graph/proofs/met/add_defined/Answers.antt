@@ -1,8 +1,7 @@
-use Rattle.std.proofs.Common.{◌≡◌, ℕ, ◌+◌, ◌<◌, List, length, take, ◌⊎◌, arith, get_or, sym, ap, ◌∙◌, subst}
+use Rattle.std.proofs.Common.{◌≡◌, ℕ, ◌+◌, List, length, take, ◌⊎◌, arith, get_or, sym, ap, ◌∙◌, subst}
 use Rattle.std.specs.Prelude.{Contains}
 use Rattle.std.proofs.Math.Seq.{take-length}
 use Rattle.std.proofs.lemmas.List.Elements.{Contains-get_or}
-use Rattle.air_graph.specs.Edges.{EdgeSet}
 use Rattle.air_graph.specs.Walk.{Adds, AreBelow, IsMet}
 use Rattle.air_graph.proofs.Adding.{FromTo}
 use Rattle.air_graph.proofs.Meeting.{defined_step, met_below}

@@ -1,4 +1,4 @@
-use Rattle.std.proofs.Common.{arith, sym, ◌∙◌}
+use Rattle.std.proofs.Common.{arith}
 use Rattle.std.proofs.lemmas.Grind.{common_steps}
 use Rattle.air_graph.proofs.Meeting.{met_early, met_late}
 use Rattle.air_graph.proofs.met.met_by.Goals as goal

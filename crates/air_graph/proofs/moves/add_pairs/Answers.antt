@@ -1,4 +1,3 @@
-use Rattle.std.proofs.Common.{◌≡◌}
 use Rattle.air_graph.proofs.Pairs.{pair_added, pairs_all}
 use Rattle.air_graph.proofs.moves.add_pairs.Goals as goal
 

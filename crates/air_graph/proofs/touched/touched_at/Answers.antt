@@ -1,4 +1,4 @@
-use Rattle.std.proofs.Common.{◌≡◌, ℕ, ◌<◌, List, length, arith, sym, ap, ◌∙◌}
+use Rattle.std.proofs.Common.{ℕ, ◌<◌, List, length, arith, ap, ◌∙◌}
 use Rattle.flow_live.specs.declared.touch.Touch.{Touch}
 use Rattle.air_flow.specs.Flow.{touches_at}
 use Rattle.air_graph.specs.Walk.{defined_by, used_by, used_late_by}

@@ -1,4 +1,4 @@
-use Rattle.std.proofs.Common.{◌≡◌, ◌++◌, take}
+use Rattle.std.proofs.Common.{◌≡◌, take}
 use Rattle.std.specs.Prelude.{filter_map}
 use Rattle.air_flow.specs.Flow.{touches_at}
 use Rattle.air_graph.specs.Walk.{defined_by, used_by, used_late_by}

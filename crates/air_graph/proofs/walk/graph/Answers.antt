@@ -1,8 +1,8 @@
-use Rattle.std.proofs.Common.{◌≡◌, ℕ, ◌+◌, ◌<◌, ◌↔◌, true, length, arith, refl, sym, ap, ◌∙◌, subst}
+use Rattle.std.proofs.Common.{◌≡◌, ℕ, ◌+◌, ◌↔◌, true, length, arith, refl, sym, ap, ◌∙◌, subst}
 use Rattle.air_ir.specs.declared.procedure.AirProc.{AirProc}
 use Rattle.air_flow.specs.Interfere.{Interfere}
 use Rattle.air_graph.specs.Edges.{EdgeSet, has_edge}
-use Rattle.air_graph.specs.Walk.{Adds, MeetAt}
+use Rattle.air_graph.specs.Walk.{Adds}
 use Rattle.air_graph.proofs.Beside.{blank}
 use Rattle.air_graph.proofs.Walking.{AreHigh, MeetBelow, MeetIn, block_step, whole}
 use Rattle.air_graph.proofs.walk.graph.Goals as goal

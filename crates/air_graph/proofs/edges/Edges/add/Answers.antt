@@ -1,4 +1,4 @@
-use Rattle.std.proofs.Common.{◌≡◌, ℕ, ◌<◌, ◌⊎◌, ◌↔◌, true, false, List, [], ◌∷◌, ◌++◌, drop, get_or, length, length-set, take, take_at, arith, ap, sym, ◌∙◌, subst, refl, get_or-set_same}
+use Rattle.std.proofs.Common.{◌≡◌, ℕ, ◌⊎◌, ◌↔◌, true, false, List, [], ◌∷◌, ◌++◌, drop, get_or, length, length-set, take, take_at, arith, ap, sym, ◌∙◌, subst, refl, get_or-set_same}
 use Rattle.std.proofs.lemmas.Bool.{false≢true, lt-ltb, le-ltb}
 use Rattle.std.specs.FinSet as set
 use Rattle.bit_rows.specs.BitRows.{BitRows, BitSet, row_of}

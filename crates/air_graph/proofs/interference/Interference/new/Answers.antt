@@ -1,4 +1,4 @@
-use Rattle.std.proofs.Common.{◌≡◌, ℕ, ◌+◌, inl, inr, arith, ap, ◌∙◌}
+use Rattle.std.proofs.Common.{◌≡◌, ◌+◌, inl, inr, arith, ap}
 use Rattle.air_graph.specs.Edges.{EdgeSet}
 use Rattle.air_graph.proofs.Beside.{blank}
 use Rattle.air_graph.proofs.interference.Interference.new.Goals as goal
