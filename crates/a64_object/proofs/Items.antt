@@ -276,6 +276,7 @@ module _ (q : AirProc) (frame : Frame) (code : List Item) (long : Set) (words : 
       where
         broken : run.Broken ≡ at_item k after → ⊥
         broken is = cc
+
         by : (o : Option Item) → slice_get code j ≡ o → (item : Item) × (slice_get code j ≡ Some item)
         by (Some item) there = (item, there)
         by None there = absurd (broken (sym (item_is (meaning_of z) code long j c None there) ∙ goes))

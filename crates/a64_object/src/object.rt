@@ -51,7 +51,12 @@ fn joined_object(alloc: Global, valid: &Valid) -> Result<Object, NoMemory>
 }
 
 /// One more procedure at the end of an object.
-fn push_procedure(alloc: Global, object: &mut Object, valid: &Valid, at: usize) -> Result<(), NoMemory>
+fn push_procedure(
+    alloc: Global,
+    object: &mut Object,
+    valid: &Valid,
+    at: usize,
+) -> Result<(), NoMemory>
     requires there { at < length valid.now }
     requires taken { IsTaken (procedure_at valid.now at) }
     requires short { length object.old.text < 2 ^ 24 }

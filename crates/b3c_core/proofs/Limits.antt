@@ -56,16 +56,25 @@ children_counted : (which : LimitName) → ((n : ℕ) → counted which (Compute
     → sum_by (λ (v : Value). length v.children + case_count v.body) vs ≤ sum_by (count_of which) (parts_of_values vs)
 children_counted which all [] = omega arith
 children_counted which all (v ∷ vs) =
-    omega (arith, sum_by-cons (count_of which) (part_of_value v) (parts_of_values vs), sum_by-cons (λ (x : Value). length x.children + case_count x.body) v vs,
-    all (operands v), same_cases v.body, children_counted which all vs)
+    omega (
+      arith,
+      sum_by-cons (count_of which) (part_of_value v) (parts_of_values vs),
+      sum_by-cons (λ (x : Value). length x.children + case_count x.body) v vs,
+      all (operands v),
+      same_cases v.body,
+      children_counted which all vs,
+    )
 
 in_block : (c : Placed → ℕ) (b : Block) → sum_by c (parts_of_values b.values) ≤ sum_by c (parts_of_block b)
 in_block c b = omega (arith, sum_by-cons c (record { line = b.line; part = Heading }) (parts_of_values b.values))
 
 in_procedure : (c : Placed → ℕ) (p : Procedure) → sum_by c (flat_map parts_of_block p.blocks) ≤ sum_by c (parts_of p)
 in_procedure c p =
-    omega (arith, sum_by-cons c (record { line = p.line; part = Header }) (parts_of_slots p.slots ++ flat_map parts_of_block p.blocks),
-    sum_by-append c (parts_of_slots p.slots) (flat_map parts_of_block p.blocks))
+    omega (
+      arith,
+      sum_by-cons c (record { line = p.line; part = Header }) (parts_of_slots p.slots ++ flat_map parts_of_block p.blocks),
+      sum_by-append c (parts_of_slots p.slots) (flat_map parts_of_block p.blocks),
+    )
 
 total_counted : (which : LimitName) → ((n : ℕ) → counted which (Computed n) ≡ 1) → (p : Procedure) → total p ≤ sum_by (count_of which) (parts_of p)
 total_counted which one p =

@@ -15,7 +15,9 @@ pub returns : goal.returns
 returns c =
     let q = c.in_ok-selected.ensures in
     let r = c.in_ok-placed.ensures in
-    record { placed = placed_of (procedure_at c.args.valid.now c.args.proc) c.in_ok-selected.selected c.in_ok-placed.placed c.in_ok-assignment.assignment
-    c.same_blocks_laws.ensures.onward c.spill_counts.ensures.below c.spill_counts.ensures.named
-    q.same q.light q.few q.kept q.returns_32 q.returns_64 q.arithmetic
-    r.is r.same r.well r.no_tmps r.kept r.spills r.lighter r.comes }
+    record {
+      placed = placed_of (procedure_at c.args.valid.now c.args.proc) c.in_ok-selected.selected c.in_ok-placed.placed c.in_ok-assignment.assignment
+          c.same_blocks_laws.ensures.onward c.spill_counts.ensures.below c.spill_counts.ensures.named
+          q.same q.light q.few q.kept q.returns_32 q.returns_64 q.arithmetic
+          r.is r.same r.well r.no_tmps r.kept r.spills r.lighter r.comes;
+    }

@@ -13,17 +13,19 @@ pub emit-requires-clause-short : goal.emit-requires-clause-short
 emit-requires-clause-short c = short_asked (procedure_at c.args.valid.now c.args.proc) c.in_ok-placed.placed c.requires.taken c.in_ok-placed.ensures.placed
 
 pub returns : goal.returns
-returns c = record { made = record {
-  air = c.in_ok-placed.placed;
-  frame = c.in_ok-frame.frame;
-  code = c.in_ok-emitted.emitted.code;
-  text = c.in_ok-text.text;
-  placed = c.in_ok-placed.ensures.placed;
-  is_frame = c.in_ok-frame.ensures;
-  is_code = c.in_ok-emitted.ensures.code;
-  is_text = c.in_ok-text.ensures.text;
-  few = c.in_ok-text.ensures.words;
-  unmarked = c.in_ok-text.ensures.marks ∙ c.in_ok-emitted.ensures.code.unmarked;
-  words_are = refl;
-  row_is = row_is_so (procedure_at c.args.valid.now c.args.proc) c.in_ok-placed.placed c.in_ok-frame.frame c.frame_row-row.result c.requires.taken c.in_ok-placed.ensures.placed c.frame_row-row.ensures;
-} }
+returns c = record {
+  made = record {
+    air = c.in_ok-placed.placed;
+    frame = c.in_ok-frame.frame;
+    code = c.in_ok-emitted.emitted.code;
+    text = c.in_ok-text.text;
+    placed = c.in_ok-placed.ensures.placed;
+    is_frame = c.in_ok-frame.ensures;
+    is_code = c.in_ok-emitted.ensures.code;
+    is_text = c.in_ok-text.ensures.text;
+    few = c.in_ok-text.ensures.words;
+    unmarked = c.in_ok-text.ensures.marks ∙ c.in_ok-emitted.ensures.code.unmarked;
+    words_are = refl;
+    row_is = row_is_so (procedure_at c.args.valid.now c.args.proc) c.in_ok-placed.placed c.in_ok-frame.frame c.frame_row-row.result c.requires.taken c.in_ok-placed.ensures.placed c.frame_row-row.ensures;
+  };
+}
