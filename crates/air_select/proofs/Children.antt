@@ -87,7 +87,8 @@ pub fit_cases : (t : Tables) (b : ℕ) (op : Opcode) (i id : ℕ) → fits t.ind
 fit_cases t b op i id e = go (is_constant (known t.index id).opcode) refl e
   where
     go : (c : Bool) → is_constant (known t.index id).opcode ≡ c
-        → (if c then constant_fits op i (width_at t.index id) (known t.index id).word else (nat_eq b (known t.index id).block && condition_fits t.index op i (known t.index id))) ≡ true
+        → (if c then constant_fits op i (width_at t.index id) (known t.index id).word else
+        (nat_eq b (known t.index id).block && condition_fits t.index op i (known t.index id))) ≡ true
         → FitsAsConstant t op i id ⊎ FitsAsCondition t b op i id
     go true ec e = inl (record { constant = ec; fits = e })
     go false ec e =
@@ -139,12 +140,14 @@ module _ (p : Procedure) (valid : IsKept p) (t : Tables) (sound : IsSound p t) (
         let at = stands p c d in_c in
         let rules = valid.rules c at.0 d at.1 in
         let role = constant_role d.kind.opcode const in
-        let row = row_by_role d.kind.opcode d.ty (types_of p d) (reported_count d) d.body (allowed d.kind.opcode d.ty (types_of p d) rules.typed) rules.fits.body in
+        let row = row_by_role d.kind.opcode d.ty (types_of p d) (reported_count d) d.body (allowed d.kind.opcode d.ty (types_of p d) rules.typed)
+        rules.fits.body in
         let body = body_below (2 ^ bits (width_of d.ty)) d.body (subst (λ q. IsRow q d.ty (types_of p d) d.body) role row) in
         ap (λ (k : Known). k.word) (sound.is_known c d in_c) ∙ some_is (word_in d.body) w (sym (reached.constants d (word_in d.body) ran role body.0) ∙ now)
 
     -- what is known of a constant that has run is its word
-    pub known_word : (id w : ℕ) → Ran p valid passed before id → is_constant (known t.index id).opcode ≡ true → st.words id ≡ Some w → (known t.index id).word ≡ w
+    pub known_word : (id w : ℕ) → Ran p valid passed before id → is_constant (known t.index id).opcode ≡ true → st.words id ≡ Some w
+        → (known t.index id).word ≡ w
     known_word id w ran const now =
         let c = ran_in_block p b passed before rest is ran.0 ran.2 in
         subst (λ (q : ℕ). st.words q ≡ Some w → is_constant (known t.index q).opcode ≡ true → (known t.index q).word ≡ w) ran.1
@@ -159,14 +162,16 @@ module _ (p : Procedure) (valid : IsKept p) (t : Tables) (sound : IsSound p t) (
         go false e = at_home s.homes (width_at t.index id) (home t.index id) w (r.words id w now e)
         go true e =
             of_immediate s.homes (width_at t.index id) (known t.index id).word
-            ∙ ap (λ n. Some (low (width_at t.index id) n)) (known_word id w ran (reads e) now) ∙ ap Some (low_word (width_at t.index id) w (word_small id w now))
+            ∙ ap (λ n. Some (low (width_at t.index id) n)) (known_word id w ran (reads e) now)
+            ∙ ap Some (low_word (width_at t.index id) w (word_small id w now))
 
     -- the words that the uses of some ids read
     abbrev pub typed : List ℕ → List ℕ → List Read
     typed (c ∷ cs) (w ∷ ws) = (width_at t.index c, w) ∷ typed cs ws
     typed _ _ = []
 
-    pub children_words : (cs ws : List ℕ) (os : List Operand) (more : List Read) → ((id : ℕ) → Contains cs id → Ran p valid passed before id) → ((id : ℕ) → Contains cs id → IsReadable t id)
+    pub children_words : (cs ws : List ℕ) (os : List Operand) (more : List Read) → ((id : ℕ) → Contains cs id → Ran p valid passed before id)
+        → ((id : ℕ) → Contains cs id → IsReadable t id)
         → b3.words_of (type_of p) st.words cs ≡ Some ws → words s.homes os ≡ Some more
         → words s.homes (map (use_of t) cs ++ os) ≡ Some (typed cs ws ++ more)
     children_words [] ws os more ran reads now others = others ∙ ap (λ (l : List ℕ). Some (typed [] l ++ more)) (sym (words_nil (type_of p) st.words ws now))

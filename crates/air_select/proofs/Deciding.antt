@@ -58,7 +58,8 @@ pub record Decides (homes : Homes) (c : Condition) (word : ℕ) : Type 0 where
   pub reads : List Read
   pub words_are : (os : List Operand) (more : List Read) → words homes os ≡ Some more → words homes (c.over ++ os) ≡ Some (reads ++ more)
   pub writes : (os : List Operand) → targets (c.over ++ os) ≡ targets os
-  pub tells : (more : List Read) → test c.test (air.width_of (reads ++ more)) (map (λ (r : Read). r.1) (reads ++ more)) ≡ Some (not (nat_eq word 0), map (λ (r : Read). r.1) more)
+  pub tells : (more : List Read) → test c.test (air.width_of (reads ++ more)) (map (λ (r : Read). r.1) (reads ++ more)) ≡ Some
+      (not (nat_eq word 0), map (λ (r : Read). r.1) more)
 
 -- ---- comparisons
 
@@ -89,7 +90,8 @@ comparison_row opcode.AboveEqual e = (refl, refl)
 comparison_row opcode.BelowEqual e = (refl, refl)
 comparison_row _ e = absurd (cc)
 
-comparison_takes : (o : Opcode) (ty : Ty) (types : List Ty) → is_comparison o ≡ true → (h : AllowsTypes o ty types) → AreTaken h.alike (Alike ∷ Alike ∷ []) NoMore types
+comparison_takes : (o : Opcode) (ty : Ty) (types : List Ty) → is_comparison o ≡ true → (h : AllowsTypes o ty types)
+    → AreTaken h.alike (Alike ∷ Alike ∷ []) NoMore types
 comparison_takes opcode.Equal ty types e h = h.children
 comparison_takes opcode.NotEqual ty types e h = h.children
 comparison_takes opcode.LessThan ty types e h = h.children
@@ -138,7 +140,8 @@ gives_some a b e = cc
 module _ (p : Procedure) (t : Tables) (start : Start) (v : Value) (h : Here p t start v) where
   -- ---- a condition that is not folded
 
-  plain_decides : (c w : ℕ) → Contains v.children c → h.st.words c ≡ Some w → folds t c ≡ false → Decides h.s.homes (record { test = NonZero; over = use_of t c ∷ [] }) w
+  plain_decides : (c w : ℕ) → Contains v.children c → h.st.words c ≡ Some w → folds t c ≡ false
+      → Decides h.s.homes (record { test = NonZero; over = use_of t c ∷ [] }) w
   plain_decides c w has now un = record {
     reads = (width_at t.index c, w) ∷ [];
     words_are = λ os more e.
@@ -162,12 +165,14 @@ module _ (p : Procedure) (t : Tables) (start : Start) (v : Value) (h : Here p t 
   stands_before : (c : ℕ) → Contains v.children c → h.block ≡ (known t.index c).block → (d : Value) × (d.id ≡ c) × Contains h.before d
   stands_before c has block =
       let first = first_arrival p h.block h.passed h.reached.path in
-      let covered : IsCovered p h.block h.before c = All-contains (IsCovered p h.block h.before) v.children c (h.valid.rules h.block h.before v (at p t start v h)).covered has in
+      let covered : IsCovered p h.block h.before c =
+      All-contains (IsCovered p h.block h.before) v.children c (h.valid.rules h.block h.before v (at p t start v h)).covered has in
       let d = covered first.0 first.1 in
       ⊎_elim
       (λ (early : Contains h.before d.0). (d.0, d.1, early))
       (λ (there : (b : ℕ) × Contains first.0 b × Contains (values_of p b) d.0).
-      let blocks : h.block ≡ there.0 = block ∙ ap (λ (q : ℕ). (known t.index q).block) (sym d.1) ∙ ap (λ (k : Known). k.block) (h.sound.is_known there.0 d.0 there.2) in
+      let blocks : h.block ≡ there.0 = block ∙ ap (λ (q : ℕ). (known t.index q).block) (sym d.1)
+      ∙ ap (λ (k : Known). k.block) (h.sound.is_known there.0 d.0 there.2) in
       absurd (first.2 (subst (λ (b : ℕ). Contains first.0 b) (sym blocks) there.1)))
       d.2
 
@@ -204,11 +209,13 @@ module _ (p : Procedure) (t : Tables) (start : Start) (v : Value) (h : Here p t 
         let x = child d.children 0 in
         let y = child d.children 1 in
         let two = two_here (type_of p) h.st.words d_allows.alike Alike Alike d.children done.words
-        (two_children (type_of p) h.st.words d_allows.alike Alike Alike d.children done.words (comparison_takes d.kind.opcode d.ty (types_of p d) is d_allows) done.children) in
+        (two_children (type_of p) h.st.words d_allows.alike Alike Alike d.children done.words (comparison_takes d.kind.opcode d.ty (types_of p d) is d_allows)
+        done.children) in
         let same : done.word ≡ w = some_is done.word w (sym done.has ∙ now) in
         let typed : AreWordsOf (types_of p d) done.words = typed_words d.children done.words done.children in
         let right : computed (op_of d.kind.opcode) (first_width (types_of p d)) done.words ≡ Some w =
-        one_op_right d.kind.opcode (comparison_op d.kind.opcode is).0 d.kind.chill d.ty (types_of p d) done.words w d_allows typed (done.gives ∙ ap Gives same) in
+        one_op_right d.kind.opcode (comparison_op d.kind.opcode is).0 d.kind.chill d.ty (types_of p d) done.words w d_allows typed
+        (done.gives ∙ ap Gives same) in
         let first : first_width (types_of p d) ≡ width_at t.index x = first_of d.children two.x_at ∙ sym (d_width x) in
         let truth_is : Some (truth (compares (condition d.kind.opcode) (width_at t.index x) two.wx two.wy)) ≡ Some w =
         ap (λ (k : Width). computed (op.SetIf (Compare (condition d.kind.opcode))) k (two.wx ∷ two.wy ∷ [])) (sym first)
@@ -220,14 +227,16 @@ module _ (p : Procedure) (t : Tables) (start : Start) (v : Value) (h : Here p t 
               d_child 0 x two.wx row.1 two.x_at two.x_in two.x_now (use_of t y ∷ os) ((width_at t.index y, two.wy) ∷ more)
               (d_child 1 y two.wy row.1 two.y_at two.y_in two.y_now os more e);
           writes = λ os. writes_use (width_at t.index x) (arg_of t x) (use_of t y ∷ os) ∙ writes_use (width_at t.index y) (arg_of t y) os;
-          tells = λ more. ap (λ b. Some (b, map (λ (r : Read). r.1) more)) (truth_tells (compares (condition d.kind.opcode) (width_at t.index x) two.wx two.wy) w truth_is);
+          tells = λ more. ap (λ b. Some (b, map (λ (r : Read). r.1) more))
+          (truth_tells (compares (condition d.kind.opcode) (width_at t.index x) two.wx two.wy) w truth_is);
         }
       where
         first_of : (cs : List ℕ) → slice_get cs 0 ≡ Some (child cs 0) → first_width (map (type_of p) cs) ≡ width_of (type_of p (child cs 0))
         first_of [] e = absurd (cc)
         first_of (c ∷ cs) e = refl
 
-    bit_tested : d.kind.opcode ≡ opcode.BitAnd → is_constant (known t.index (child d.children 1)).opcode ≡ true → is_bit (known t.index (child d.children 1)).word ≡ true
+    bit_tested : d.kind.opcode ≡ opcode.BitAnd → is_constant (known t.index (child d.children 1)).opcode ≡ true
+        → is_bit (known t.index (child d.children 1)).word ≡ true
         → Decides h.s.homes (record { test = Bit (bit_of (known t.index (child d.children 1)).word); over = use_of t (child d.children 0) ∷ [] }) w
     bit_tested ed const bit =
         let done : HasResult p h.st d = h.reached.pure d early (ap role_of ed) in
@@ -266,12 +275,14 @@ module _ (p : Procedure) (t : Tables) (start : Start) (v : Value) (h : Here p t 
     folded_decides fits = subst (λ (k : Known). Decides h.s.homes (condition_by k) w) (sym d_known) (go (is_comparison d.kind.opcode) refl fits)
       where
         go : (is : Bool) → is_comparison d.kind.opcode ≡ is → (is ≡ true) ⊎ (is_bit_test t.index (known_in h.block d) ≡ true)
-            → Decides h.s.homes (if is then record { test = Compare (condition d.kind.opcode); over = use_of t (child d.children 0) ∷ use_of t (child d.children 1) ∷ [] }
+            → Decides h.s.homes (if is then record { test = Compare (condition d.kind.opcode); over =
+            use_of t (child d.children 0) ∷ use_of t (child d.children 1) ∷ [] }
             else record { test = Bit (bit_of (known t.index (child d.children 1)).word); over = use_of t (child d.children 0) ∷ [] }) w
         go true e fits = compared e
         go false e (inl bad) = absurd (cc)
         go false e (inr bit) =
-            let outer = and_parts (is_and d.kind.opcode) (is_constant (known t.index (child d.children 1)).opcode && is_bit (known t.index (child d.children 1)).word) bit in
+            let outer = and_parts (is_and d.kind.opcode) (is_constant (known t.index (child d.children 1)).opcode && is_bit
+            (known t.index (child d.children 1)).word) bit in
             let inner = and_parts (is_constant (known t.index (child d.children 1)).opcode) (is_bit (known t.index (child d.children 1)).word) outer.1 in
             bit_tested (and_is d.kind.opcode outer.0) inner.0 inner.1
 
@@ -288,7 +299,8 @@ module _ (p : Procedure) (t : Tables) (start : Start) (v : Value) (h : Here p t 
                 let d = stands_before c has fitting.block in
                 subst (λ (q : ℕ). Decides h.s.homes (folded_condition t q) w) d.1
                 (folded_decides d.0 d.2 w (ap h.st.words d.1 ∙ now)
-                (subst (λ (k : Known). (is_comparison k.opcode ≡ true) ⊎ (is_bit_test t.index k ≡ true)) (ap (known t.index) (sym d.1) ∙ d_known d.0 d.2 w (ap h.st.words d.1 ∙ now)) (kinds (known t.index c) fitting.fits)))
+                (subst (λ (k : Known). (is_comparison k.opcode ≡ true) ⊎ (is_bit_test t.index k ≡ true))
+                (ap (known t.index) (sym d.1) ∙ d_known d.0 d.2 w (ap h.st.words d.1 ∙ now)) (kinds (known t.index c) fitting.fits)))
           ]
 
       go : (f : Bool) → folds t c ≡ f → Decides h.s.homes (if f then folded_condition t c else record { test = NonZero; over = use_of t c ∷ [] }) w

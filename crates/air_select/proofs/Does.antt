@@ -103,7 +103,8 @@ module _ (p : Procedure) (t : Tables) (start : Start) (v : Value) (h : Here p t 
   -- what it leads to
   pub effect_is : b3.effect (type_of p) start h.st v ≡ b3.effect_by (role_of v.kind.opcode) start h.st v (types_of p v) words_here
   effect_is =
-      let all : b3.effect (type_of p) start h.st v ≡ b3.effect_on (type_of p) start h.st v (b3.words_of (type_of p) h.st.words v.children) = rw rules.typed refl in
+      let all : b3.effect (type_of p) start h.st v ≡ b3.effect_on (type_of p) start h.st v (b3.words_of (type_of p) h.st.words v.children) =
+      rw rules.typed refl in
       all ∙ ap (b3.effect_on (type_of p) start h.st v) are_words
 
   below_is : (limit : ℕ) (out : Outcome) (w : ℕ) → IsBelow limit out → out ≡ Gives w → w < limit
@@ -112,7 +113,8 @@ module _ (p : Procedure) (t : Tables) (start : Start) (v : Value) (h : Here p t 
   below_is limit Misfits w below e = absurd (cc)
 
   -- the word that a pure opcode gives is one of its type
-  pub result_small : (w : ℕ) → role_of v.kind.opcode ≡ role.Pure → result v.kind.opcode v.kind.chill v.ty words_here (types_of p v) ≡ Gives w → w < 2 ^ bits (width_of v.ty)
+  pub result_small : (w : ℕ) → role_of v.kind.opcode ≡ role.Pure → result v.kind.opcode v.kind.chill v.ty words_here (types_of p v) ≡ Gives w
+      → w < 2 ^ bits (width_of v.ty)
   result_small w pure e =
       below_is (limit_of (width_of v.ty)) (result v.kind.opcode v.kind.chill v.ty words_here (types_of p v)) w
       (result_fits v.kind.opcode v.kind.chill v.ty words_here (types_of p v) pure allows are_typed) e

@@ -47,13 +47,15 @@ module _ (p : Procedure) (valid : IsKept p) where
     child_ran v at id has = All-contains (IsCovered p b before) v.children id (valid.rules b before v at).covered has passed reached.path
 
     -- and so have those of a value that has run earlier in the block
-    pub grandchild_ran : (w : Value) → Contains before w → (rest : List Value) → values_of p b ≡ before ++ rest → (id : ℕ) → Contains w.children id → Ran passed before id
+    pub grandchild_ran : (w : Value) → Contains before w → (rest : List Value) → values_of p b ≡ before ++ rest → (id : ℕ) → Contains w.children id
+        → Ran passed before id
     grandchild_ran w has rest is id child =
         let cut = contains_split before w has in
         let at : StandsAfter p b cut.0 w =
         (cut.1 ++ rest, is ∙ ap (λ (l : List Value). l ++ rest) cut.2 ∙ append_assoc cut.0 (w ∷ cut.1) rest) in
         let d = All-contains (IsCovered p b cut.0) w.children id (valid.rules b cut.0 w at).covered child passed reached.path in
-        (d.0, d.1, ⊎_elim (λ here. inl (subst (λ (l : List Value). Contains l d.0) (sym cut.2) (Contains-append_left cut.0 (w ∷ cut.1) d.0 here))) (λ there. inr there) d.2)
+        (d.0, d.1, ⊎_elim (λ here. inl (subst (λ (l : List Value). Contains l d.0) (sym cut.2) (Contains-append_left cut.0 (w ∷ cut.1) d.0 here)))
+        (λ there. inr there) d.2)
 
     -- what has run stands in a block
     pub ran_stands : (rest : List Value) → values_of p b ≡ before ++ rest → (v : Value) → HasRun p passed before v → (c : ℕ) × Contains (values_of p c) v

@@ -109,13 +109,16 @@ module _ (p : Procedure) (kept : IsKept p) (t : Tables) (sound : IsSound p t) wh
         → AllFit (Word (width_of ty) NoImmediate ∷ Result (width_of r) ∷ []) (map (use_of t) v.children ++ result_of t v ∷ [])
     unary ty r c e tc some own none =
         subst (λ (l : List ℕ). AllFit (Word (width_of ty) NoImmediate ∷ Result (width_of r) ∷ []) (map (use_of t) l ++ result_of t v ∷ [])) (sym e)
-        (fit_two (Word (width_of ty) NoImmediate) (Result (width_of r)) (use_of t c) (result_of t v) (child_as 0 c ty (first_at c [] e) none tc some) (own_result r own))
+        (fit_two (Word (width_of ty) NoImmediate) (Result (width_of r)) (use_of t c) (result_of t v) (child_as 0 c ty (first_at c [] e) none tc some)
+        (own_result r own))
 
     -- ---- by the row
-    module _ (a : Ty) (some : a ≢ Void) (none : (k : Known) → condition_fits t.index o 0 k ≡ false) (none' : (k : Known) → condition_fits t.index o 1 k ≡ false) where
+    module _ (a : Ty) (some : a ≢ Void) (none : (k : Known) → condition_fits t.index o 0 k ≡ false)
+        (none' : (k : Known) → condition_fits t.index o 1 k ≡ false) where
       -- two children of one type
       pub alike_two : (r : Ty) → AreTaken a (Alike ∷ Alike ∷ []) NoMore (types_of p v) → v.ty ≡ r
-          → AllFit (Word (width_of a) NoImmediate ∷ Word (width_of a) (second_immediates o) ∷ Result (width_of r) ∷ []) (map (use_of t) v.children ++ result_of t v ∷ [])
+          → AllFit (Word (width_of a) NoImmediate ∷ Word (width_of a) (second_immediates o) ∷ Result (width_of r) ∷ [])
+          (map (use_of t) v.children ++ result_of t v ∷ [])
       alike_two r taken own =
           let cs = two_of (type_of p) a Alike Alike v.children taken in
           binary a a r cs.0 cs.1 cs.2 cs.3 cs.4 some some own none none'
@@ -155,7 +158,8 @@ module _ (p : Procedure) (kept : IsKept p) (t : Tables) (sound : IsSound p t) wh
             dividend = subst (λ (w : Ty). Fits (Word (width_of w) NoImmediate) (use_of t (child v.children 0))) (sym own)
                 (subst (λ (c : ℕ). Fits (Word (width_of a) NoImmediate) (use_of t c)) (sym first) both.0);
             divisor = subst (λ (w : Ty). Fits (Word (width_of w) NoImmediate) (use_of t (child v.children 1))) (sym own)
-                (subst (λ (c : ℕ). Fits (Word (width_of a) NoImmediate) (use_of t c)) (sym second) (subst (λ (m : Immediates). Fits (Word (width_of a) m) (use_of t cs.1)) never both.1));
+                (subst (λ (c : ℕ). Fits (Word (width_of a) NoImmediate) (use_of t c)) (sym second)
+                (subst (λ (m : Immediates). Fits (Word (width_of a) m) (use_of t cs.1)) never both.1));
           }
 
 -- what a value's own temporaries hold fits

@@ -96,5 +96,6 @@ module _ (start : Start) where
   unfolding steps
   steps_none s junk = refl
 
-  pub steps_last : (i : AirInst) (s : State) (junk : List ℕ) (o : Outcome × List ℕ) → step (meaning start) i s junk ≡ o → steps (meaning start) (i ∷ []) s junk ≡ o
+  pub steps_last : (i : AirInst) (s : State) (junk : List ℕ) (o : Outcome × List ℕ) → step (meaning start) i s junk ≡ o
+      → steps (meaning start) (i ∷ []) s junk ≡ o
   steps_last i s junk o e = steps-one (meaning start) i s junk ∙ e

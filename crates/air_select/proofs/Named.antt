@@ -146,7 +146,8 @@ module _ (q : AirProc) (t : Tables) (tmps : q.tmps ≡ tmp_count t.index) where
         (all_three IsOwn (use_of t (child v.children 1)) (use_of t (child v.children 2)) (result_of t v)
         (use_own (child v.children 1)) (use_own (child v.children 2)) (home_below v.id)))
 
-    move_own : (width : Width) (from : Arg) (to : ℕ) → IsOwn (use_at width from) → to < q.tmps → All IsOwnInst (inst v op.Move (use_at width from ∷ def_at width (Tmp to) ∷ []) ∷ [])
+    move_own : (width : Width) (from : Arg) (to : ℕ) → IsOwn (use_at width from) → to < q.tmps
+        → All IsOwnInst (inst v op.Move (use_at width from ∷ def_at width (Tmp to) ∷ []) ∷ [])
     move_own width from to a b =
         all_one IsOwnInst (inst v op.Move (use_at width from ∷ def_at width (Tmp to) ∷ [])) (all_two IsOwn (use_at width from) (def_at width (Tmp to)) a b)
 

@@ -53,7 +53,8 @@ module _ (p : Procedure) (t : Tables) (start : Start) (v : Value) (h : Here p t 
 
   no_code_pure : folds t v.id ≡ true → role_of v.kind.opcode ≡ role.Pure → Wanted (role_of v.kind.opcode) (steps (meaning start) [] h.s junk)
   no_code_pure gone pure =
-      subst (λ (r : Role). Wanted r (steps (meaning start) [] h.s junk)) (sym pure) (no_code gone (result v.kind.opcode v.kind.chill v.ty (words_here p t start v h) (types_of p v)))
+      subst (λ (r : Role). Wanted r (steps (meaning start) [] h.s junk)) (sym pure)
+      (no_code gone (result v.kind.opcode v.kind.chill v.ty (words_here p t start v h) (types_of p v)))
 
   folded_does : folds t v.id ≡ true → Wanted (role_of v.kind.opcode) (steps (meaning start) [] h.s junk)
   folded_does gone = elim (h.sound.kinds h.block v (here p t start v h) gone) [
@@ -106,7 +107,8 @@ module _ (p : Procedure) (t : Tables) (start : Start) (v : Value) (h : Here p t 
   pub value_does : is_built v.kind.opcode ≡ true → Does p t start v junk (b3.effect (type_of p) start h.st v) (steps (meaning start) (value_code t v) h.s junk)
   unfolding value_code
   value_does built =
-      subst (λ (e : b3.Effect). Does p t start v junk e (steps (meaning start) (value_code t v) h.s junk)) (sym (effect_is p t start v h)) (go (folds t v.id) refl)
+      subst (λ (e : b3.Effect). Does p t start v junk e (steps (meaning start) (value_code t v) h.s junk)) (sym (effect_is p t start v h))
+      (go (folds t v.id) refl)
     where
       go : (f : Bool) → folds t v.id ≡ f → Wanted (role_of v.kind.opcode) (steps (meaning start) (if f then [] else code_of t v.kind.opcode v) h.s junk)
       go true e = folded_does e

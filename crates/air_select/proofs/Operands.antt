@@ -86,7 +86,8 @@ module _ (p : Procedure) (valid : IsKept p) (t : Tables) (sound : IsSound p t) w
       let rules = valid.rules at.0 st.0 w st.1 in
       let is : known t.index c ≡ known_in at.0 w = ap (known t.index) (sym found.1) ∙ sound.is_known at.0 w in_b in
       let role = constant_role w.kind.opcode (sym (ap (λ (k : Known). is_constant k.opcode) is) ∙ const) in
-      let row = row_by_role w.kind.opcode w.ty (types_of p w) (reported_count w) w.body (allowed w.kind.opcode w.ty (types_of p w) rules.typed) rules.fits.body in
+      let row = row_by_role w.kind.opcode w.ty (types_of p w) (reported_count w) w.body (allowed w.kind.opcode w.ty (types_of p w) rules.typed)
+      rules.fits.body in
       let body = body_below (2 ^ bits (width_of w.ty)) w.body (subst (λ q. IsRow q w.ty (types_of p w) w.body) role row) in
       subst (λ (k : Known). k.word < 2 ^ bits (width_of k.ty)) (sym is) body.1
 
@@ -96,7 +97,8 @@ module _ (p : Procedure) (valid : IsKept p) (t : Tables) (sound : IsSound p t) w
         → IsWord (immediates_at v.kind.opcode i) (width_at t.index c) (arg_of t c)
     word_fits i c at none typed = by (folds t c) refl
       where
-        by : (f : Bool) → folds t c ≡ f → IsWord (immediates_at v.kind.opcode i) (width_at t.index c) (if f then Imm (known t.index c).word else At (home t.index c))
+        by : (f : Bool) → folds t c ≡ f → IsWord (immediates_at v.kind.opcode i) (width_at t.index c)
+            (if f then Imm (known t.index c).word else At (home t.index c))
         by false e = tt
         by true e = elim (fit_cases t b v.kind.opcode i c (sound.uses_fit b i c v here at e)) [
           | inl constant ↦ (

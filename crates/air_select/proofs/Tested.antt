@@ -136,7 +136,8 @@ module _ (p : Procedure) (kept : IsKept p) (t : Tables) (sound : IsSound p t) wh
       }
 
   compare_tested : (c : ℕ) → Pair c → is_comparison (known t.index c).opcode ≡ true
-      → IsTested (record { test = Compare (condition (known t.index c).opcode); over = use_of t (known t.index c).first ∷ use_of t (known t.index c).second ∷ [] })
+      → IsTested (record { test = Compare (condition (known t.index c).opcode); over =
+      use_of t (known t.index c).first ∷ use_of t (known t.index c).second ∷ [] })
   compare_tested c pair is = (
     pair.width,
     fit_two (Word pair.width NoImmediate) (Word pair.width OfSum) (use_of t (known t.index c).first) (use_of t (known t.index c).second) pair.first
@@ -163,7 +164,8 @@ module _ (p : Procedure) (kept : IsKept p) (t : Tables) (sound : IsSound p t) wh
       subst (λ n. n < 2 ^ bits pair.width) (sym power) (subst (λ w. (known t.index k.second).word < 2 ^ bits w) pair.second_width small) in (
         pair.width,
         fit_one (BitOf pair.width (bit_of (known t.index k.second).word)) (use_of t k.first)
-            (home_only pair.width k.first pair.first (bit_of (known t.index k.second).word) (low_bit (bit_of (known t.index k.second).word) (bits pair.width) lt)),
+            (home_only pair.width k.first pair.first (bit_of (known t.index k.second).word)
+            (low_bit (bit_of (known t.index k.second).word) (bits pair.width) lt)),
       )
 
   -- ---- the condition of a Branch or a Select
@@ -182,12 +184,15 @@ module _ (p : Procedure) (kept : IsKept p) (t : Tables) (sound : IsSound p t) wh
     folded_tested : ((is_comparison (known t.index c).opcode ≡ true) ⊎ (is_bit_test t.index (known t.index c) ≡ true)) → IsTested (folded_condition t c)
     folded_tested (inl comparison) =
         let tested = compare_tested c (pair_fits c (stands_of c typed) (comparison_pair (known t.index c).opcode comparison)) comparison in
-        subst (λ f. IsTested (if f then record { test = Compare (condition (known t.index c).opcode); over = use_of t (known t.index c).first ∷ use_of t (known t.index c).second ∷ [] }
-        else record { test = Bit (bit_of (known t.index (known t.index c).second).word); over = use_of t (known t.index c).first ∷ [] })) (sym comparison) tested
+        subst (λ f. IsTested (if f then record { test = Compare (condition (known t.index c).opcode); over =
+        use_of t (known t.index c).first ∷ use_of t (known t.index c).second ∷ [] }
+        else record { test = Bit (bit_of (known t.index (known t.index c).second).word); over = use_of t (known t.index c).first ∷ [] })) (sym comparison)
+        tested
     folded_tested (inr bit) =
         let is = bit_and_is (known t.index c) bit in
         let tested = bit_tested c (pair_fits c (stands_of c typed) (and_pair (known t.index c).opcode is)) bit in
-        subst (λ f. IsTested (if f then record { test = Compare (condition (known t.index c).opcode); over = use_of t (known t.index c).first ∷ use_of t (known t.index c).second ∷ [] }
+        subst (λ f. IsTested (if f then record { test = Compare (condition (known t.index c).opcode); over =
+        use_of t (known t.index c).first ∷ use_of t (known t.index c).second ∷ [] }
         else record { test = Bit (bit_of (known t.index (known t.index c).second).word); over = use_of t (known t.index c).first ∷ [] }))
         (sym (no_comparison (known t.index c).opcode is)) tested
 

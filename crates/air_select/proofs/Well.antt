@@ -109,7 +109,8 @@ return_ends t v (c ∷ cs) plain = record {
   ends = ap Some (sym (none_counted v.body plain));
 }
 
-last_code : (t : Tables) (v : Value) (o : Opcode) → is_terminal o ≡ true → IsBody (row_of o).carries v.ty (reported_count v) v.body → Ends (code_of t o v) (targets_of v)
+last_code : (t : Tables) (v : Value) (o : Opcode) → is_terminal o ≡ true → IsBody (row_of o).carries v.ty (reported_count v) v.body
+    → Ends (code_of t o v) (targets_of v)
 last_code t v opcode.Jump e body = alone (inst v op.Jump []) (targets_of v) (ap Some (sym (targets_counted 1 v.body body)))
 last_code t v opcode.Oops e body = alone (inst v op.Oops []) (targets_of v) (ap Some (sym (none_counted v.body body)))
 last_code t v opcode.Branch e body = alone _ (targets_of v) (ap Some (sym (targets_counted 2 v.body body)))
@@ -232,7 +233,8 @@ module _ (p : Procedure) (valid : IsValidProcedure p) (fit : ValuesFit p.blocks)
   value_good b block there v has =
       let in_values : Contains (values_of p b) v = subst (λ (l : List Value). Contains l v) (sym (block_values b block there)) has in
       let at = here_at b v in_values in
-      let is_built : is_built v.kind.opcode ≡ true = All-contains IsBuiltValue block.values v (All-slice (λ (x : Block). All IsBuiltValue x.values) p.blocks b block built there) has in
+      let is_built : is_built v.kind.opcode ≡ true =
+      All-contains IsBuiltValue block.values v (All-slice (λ (x : Block). All IsBuiltValue x.values) p.blocks b block built there) has in
       let operands : All (Has p valid fit t sound) (value_code t v) =
       pick (All (Has p valid fit t sound)) (folds t v.id) [] (code_of t v.kind.opcode v) (All-nil (Has p valid fit t sound))
       (code_has p valid fit t sound b at.0 v at.1 v.kind.opcode refl is_built) in
@@ -293,7 +295,8 @@ module _ (p : Procedure) (valid : IsValidProcedure p) (fit : ValuesFit p.blocks)
   entry_inner vs value (suc r) =
       All-append IsInner (argument_moves t.index vs value r) (if names_argument vs r then argument_move t.index value r ∷ [] else [])
       (entry_inner vs value r)
-      (pick (All IsInner) (names_argument vs r) (argument_move t.index value r ∷ []) [] (all_one IsInner (argument_move t.index value r) refl) (All-nil IsInner))
+      (pick (All IsInner) (names_argument vs r) (argument_move t.index value r ∷ []) [] (all_one IsInner (argument_move t.index value r) refl)
+      (All-nil IsInner))
 
   entry_insts : All (Has p valid fit t sound) (entry_of t.index (values_of p 0)).insts → All (IsOwnInst q t tmps_are) (entry_of t.index (values_of p 0)).insts
       → All (IsGoodInst q) (entry_of t.index (values_of p 0)).insts
