@@ -1,9 +1,9 @@
 -- The entry puts the arguments into their temporaries; and so the runs from a start are the same.
-use Rattle.std.proofs.Common.{◌≡◌, ◌≢◌, ℕ, zero, suc, ◌+◌, ◌*◌, ◌^◌, ◌<◌, ◌≤◌, ◌⊎◌, inl, inr, Bool, true, false, List, [], ◌∷◌, ◌++◌, map, length, Option, Some, None, refl, sym, ap, ◌∙◌, subst, arith}
-use Rattle.std.specs.Prelude.{All, Contains, if◌then◌else◌, slice_get, slice_index_or}
+use Rattle.std.proofs.Common.{◌≡◌, ℕ, zero, suc, ◌+◌, ◌*◌, ◌<◌, ◌≤◌, inl, inr, Bool, true, false, List, [], ◌∷◌, ◌++◌, map, length, Some, None, refl, sym, ap, ◌∙◌, subst, arith}
+use Rattle.std.specs.Prelude.{if◌then◌else◌, slice_index_or}
 use Rattle.std.proofs.lemmas.Bool.{cases_eq, lt-ltb}
 use Rattle.b3_base.specs.Observed.{Answer, Start}
-use Rattle.b3_base.specs.Ranged.{IsRangedAnswer, IsRangedStart}
+use Rattle.b3_base.specs.Ranged.{IsRangedStart}
 use Rattle.b3_base.specs.Run.{iterate}
 use Rattle.b3_base.specs.declared.word.Width.TheVariants.{W64}
 use Rattle.b3_ir.specs.Procedure.{Procedure, values_of}
@@ -12,22 +12,20 @@ use Rattle.b3_meaning.specs.Run as b3
 use Rattle.b3_sound.specs.Laws.{IsStarted}
 use Rattle.b3_sound.proofs.Kept.{IsKept}
 use Rattle.b3_sound.proofs.Law.{run_sound}
-use Rattle.b3_sound.proofs.Reached.{IsReached, IsSound as IsReachable}
-use Rattle.air_ir.specs.Blocks.{At, Config, block_of, block_step, entered, left, run_step}
+use Rattle.b3_sound.proofs.Reached.{IsReached}
+use Rattle.air_ir.specs.Blocks.{At, Config, block_of, block_step, left, run_step}
 use Rattle.air_ir.specs.Meaning.{To, World, gives, leaves, meaning}
-use Rattle.air_ir.specs.Operands.{Held, Holds, Homes, put, read, words}
-use Rattle.air_ir.specs.Run.{HasBlocksOf, first_homes, IsUndefined, SameAtEach, air_run, first, observe, run_of}
-use Rattle.air_ir.specs.Steps.{Goes, Outcome, State, go_on, steps}
+use Rattle.air_ir.specs.Operands.{Held, Holds, Homes, put, read}
+use Rattle.air_ir.specs.Run.{HasBlocksOf, first_homes, IsUndefined, air_run, first}
+use Rattle.air_ir.specs.Steps.{Goes, State, go_on, steps}
 use Rattle.air_ir.specs.declared.op.AirOp.TheVariants as op
 use Rattle.air_ir.specs.declared.operand.Arg.TheVariants.{At as Stands}
-use Rattle.air_ir.specs.declared.operand.Home.{Home}
-use Rattle.air_ir.specs.declared.operand.Home.TheVariants.{Reg, Tmp}
+use Rattle.air_ir.specs.declared.operand.Home.TheVariants.{Tmp}
 use Rattle.air_ir.specs.declared.procedure.AirBlock.{AirBlock}
-use Rattle.air_ir.specs.declared.procedure.AirInst.{AirInst}
 use Rattle.air_ir.specs.declared.procedure.AirProc.{AirProc}
 use Rattle.air_ir.proofs.Same.{same_at_each}
-use Rattle.air_ir.proofs.Stepping.{steps-append, steps-one}
-use Rattle.air_select.specs.Selected.{Tables, argument_move, argument_moves, block_code, def_at, entry_inst, entry_of, last_id, names_argument, register, selected_by, use_at}
+use Rattle.air_ir.proofs.Stepping.{steps-append}
+use Rattle.air_select.specs.Selected.{Tables, argument_move, argument_moves, block_code, def_at, entry_inst, entry_of, last_id, names_argument, register}
 use Rattle.air_select.specs.Tables.{argument}
 use Rattle.air_select.proofs.Does.{HasArguments}
 use Rattle.air_select.proofs.Instructions.{at_home, one_leave, one_word, reads_def, reads_none, reads_use, steps_last, with_home, writes_def, writes_none, writes_use}

@@ -1,5 +1,5 @@
 -- What a value's instructions read of its children.
-use Rattle.std.proofs.Common.{◌≡◌, ◌≢◌, ℕ, zero, suc, ◌+◌, ◌^◌, ◌<◌, ◌⊎◌, inl, inr, Bool, true, false, ◌&&◌, List, [], ◌∷◌, ◌++◌, map, Option, Some, None, nat_eq, refl, sym, ap, ◌∙◌, subst, ⊎_elim}
+use Rattle.std.proofs.Common.{◌≡◌, ℕ, ◌^◌, ◌<◌, ◌⊎◌, inl, inr, Bool, true, false, ◌&&◌, List, [], ◌∷◌, ◌++◌, map, Option, Some, None, nat_eq, refl, sym, ap, ◌∙◌, subst}
 use Rattle.std.specs.Prelude.{Contains, if◌then◌else◌, nat_lt, slice_get}
 use Rattle.std.proofs.lemmas.Bool.{eqb-true}
 use Rattle.b3_base.specs.Arithmetic.{low}
@@ -9,32 +9,27 @@ use Rattle.b3_base.specs.declared.word.Width.{Width}
 use Rattle.b3_ir.specs.Fits.{reported_count}
 use Rattle.b3_ir.specs.Naming.{type_of}
 use Rattle.b3_ir.specs.Procedure.{Procedure, values_of}
-use Rattle.b3_ir.specs.Types.{AreTaken, IsTaken, allows_types, AllowsTypes, width_of}
+use Rattle.b3_ir.specs.Types.{width_of}
 use Rattle.b3_ir.specs.declared.opcode.Opcode.{Opcode}
 use Rattle.b3_ir.specs.declared.opcode.Ty.{Ty}
-use Rattle.b3_ir.specs.declared.table.Takes.{Takes}
-use Rattle.b3_ir.specs.declared.table.More.TheVariants.{NoMore}
-use Rattle.b3_ir.specs.declared.value.Body.TheVariants.{Constant}
 use Rattle.b3_ir.specs.declared.value.Value.{Value}
 use Rattle.b3_ir.proofs.Typing.{allowed}
 use Rattle.b3_meaning.specs.Run as b3
 use Rattle.b3_rules.specs.Paths.{HasRun}
 use Rattle.b3_rules.specs.Rules.{types_of}
-use Rattle.b3_sound.specs.Laws.{StandsAfter}
-use Rattle.b3_sound.proofs.Distinct.{stands, type_of_value}
-use Rattle.b3_sound.proofs.Keeping.{in_block, ran_in_block}
+use Rattle.b3_sound.proofs.Distinct.{stands}
+use Rattle.b3_sound.proofs.Keeping.{ran_in_block}
 use Rattle.b3_sound.proofs.Kept.{IsKept}
 use Rattle.b3_sound.proofs.Lists.{contains_head, contains_tail}
 use Rattle.b3_sound.proofs.Reached.{IsReached}
 use Rattle.b3_sound.proofs.Rows.{IsRow, row_by_role}
 use Rattle.air_ir.specs.Operands.{Read, word_of, words}
 use Rattle.air_ir.specs.Steps.{State}
-use Rattle.air_ir.specs.declared.operand.Arg.{Arg}
 use Rattle.air_ir.specs.declared.operand.Arg.TheVariants.{At, Imm}
 use Rattle.air_ir.specs.declared.operand.Operand.{Operand}
 use Rattle.air_select.specs.Foldable.{condition_fits, constant_fits, fits, is_constant}
 use Rattle.air_select.specs.Selected.{Tables, arg_of, folds, use_of}
-use Rattle.air_select.specs.Tables.{child, home, known, known_in, width_at, word_in}
+use Rattle.air_select.specs.Tables.{home, known, width_at, word_in}
 use Rattle.air_select.specs.declared.known.Known.{Known}
 use Rattle.air_select.proofs.Facts.{Ran, body_below, constant_role}
 use Rattle.air_select.proofs.Instructions.{at_home, of_immediate, reads_use}

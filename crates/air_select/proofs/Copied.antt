@@ -1,49 +1,46 @@
 -- The values that copy a word.
-use Rattle.std.proofs.Common.{◌≡◌, ◌≢◌, ℕ, zero, suc, ◌+◌, ◌%◌, ◌^◌, ◌<◌, ◌⊎◌, inl, inr, Bool, true, false, List, [], ◌∷◌, ◌++◌, map, Option, Some, None, refl, sym, ap, ◌∙◌, subst, arith}
-use Rattle.std.specs.Prelude.{Contains, slice_get, if◌then◌else◌}
+use Rattle.std.proofs.Common.{◌≡◌, ℕ, ◌^◌, ◌<◌, false, List, [], ◌∷◌, Option, Some, None, refl, sym, ap, ◌∙◌, subst}
+use Rattle.std.specs.Prelude.{Contains, slice_get}
 use Rattle.b3_base.specs.Arithmetic.{low}
 use Rattle.b3_base.specs.Observed.{Start}
 use Rattle.b3_base.specs.Word.{bits}
 use Rattle.b3_base.specs.declared.word.Width.{Width}
-use Rattle.b3_base.specs.declared.word.Width.TheVariants.{W32, W64}
-use Rattle.b3_ir.specs.Fits.{IsArgument, IsConstantBelow, IsTarget, reported_count}
-use Rattle.b3_ir.specs.Naming.{type_of, type_or_void, value_named}
-use Rattle.b3_ir.specs.Procedure.{Procedure, values_of}
+use Rattle.b3_base.specs.declared.word.Width.TheVariants.{W64}
+use Rattle.b3_ir.specs.Fits.{IsArgument, IsConstantBelow, reported_count}
+use Rattle.b3_ir.specs.Naming.{type_of}
+use Rattle.b3_ir.specs.Procedure.{Procedure}
 use Rattle.b3_ir.specs.Types.{AllowsTypes, width_of}
 use Rattle.b3_ir.specs.declared.opcode.Opcode.{Opcode}
 use Rattle.b3_ir.specs.declared.opcode.Opcode.TheVariants as opcode
-use Rattle.b3_ir.specs.declared.opcode.Ty.{Ty}
-use Rattle.b3_ir.specs.declared.opcode.Ty.TheVariants.{Int32, Int64}
-use Rattle.b3_ir.specs.declared.table.Takes.TheVariants.{Alike, Any, This}
+use Rattle.b3_ir.specs.declared.table.Takes.TheVariants.{Alike}
 use Rattle.b3_ir.specs.declared.value.Body.{Body}
-use Rattle.b3_ir.specs.declared.value.Body.TheVariants.{Argument, Constant, Target}
+use Rattle.b3_ir.specs.declared.value.Body.TheVariants.{Argument, Constant}
 use Rattle.b3_ir.specs.declared.value.Reg.{Reg}
 use Rattle.b3_ir.specs.declared.value.Value.{Value}
-use Rattle.b3_meaning.specs.Opcodes.{Gives, Outcome, Undefines, result}
+use Rattle.b3_meaning.specs.Opcodes.{Gives, result}
 use Rattle.b3_meaning.specs.Roles.{role_of}
 use Rattle.b3_meaning.specs.Run as b3
-use Rattle.b3_meaning.specs.declared.role.Role.TheVariants as role
-use Rattle.b3_rules.specs.Rules.{SuitsPhi, types_of}
-use Rattle.b3_sound.proofs.Lists.{contains_head, contains_tail}
+use Rattle.b3_rules.specs.Rules.{types_of}
+use Rattle.b3_sound.proofs.Lists.{contains_head}
 use Rattle.b3_sound.proofs.Rows.{IsRow, row_by_role}
 use Rattle.air_ir.specs.Meaning.{gives, meaning}
-use Rattle.air_ir.specs.Operands.{Held, Holds, Read, read, word_of}
+use Rattle.air_ir.specs.Operands.{read, word_of}
 use Rattle.air_ir.specs.Steps.{Goes, State, steps}
 use Rattle.air_ir.specs.declared.op.AirOp.TheVariants as op
 use Rattle.air_ir.specs.declared.operand.Arg.{Arg}
 use Rattle.air_ir.specs.declared.operand.Arg.TheVariants.{At, Imm}
 use Rattle.air_ir.specs.declared.operand.Home.{Home}
 use Rattle.air_select.specs.Foldable.{condition_fits}
-use Rattle.air_select.specs.Selected.{Tables, arg_of, computes, copied, copy_of, def_at, folds, move, phi_in, register_in, use_at}
-use Rattle.air_select.specs.Tables.{argument, child, home, location, width_at, word_in}
+use Rattle.air_select.specs.Selected.{Tables, arg_of, computes, def_at, move, register_in}
+use Rattle.air_select.specs.Tables.{argument, home, location, width_at, word_in}
 use Rattle.air_select.specs.declared.known.Known.{Known}
-use Rattle.air_select.proofs.Children.{child_word, readable, unfolded, width_is, word_small}
-use Rattle.air_select.proofs.Does.{Does, Here, allows, are_typed, are_words, at, gives_does, here, is_known, named, puts, result_small, rules, words_here}
-use Rattle.air_select.proofs.Facts.{Ran, child_ran}
+use Rattle.air_select.proofs.Children.{child_word, readable, width_is}
+use Rattle.air_select.proofs.Does.{Does, Here, allows, are_words, at, gives_does, here, is_known, puts, result_small, rules, words_here}
+use Rattle.air_select.proofs.Facts.{child_ran}
 use Rattle.air_select.proofs.Instructions.{at_home, of_immediate, one_word, reads_def, reads_use, steps_last, with_home, writes_def, writes_use}
-use Rattle.air_select.proofs.Plain.{copying, no_condition, over_does, reads, reads_words}
-use Rattle.air_select.proofs.Related.{Related, location_related, low_word, holds_word}
-use Rattle.air_select.proofs.Shapes.{OneChild, one_child}
+use Rattle.air_select.proofs.Plain.{copying, over_does, reads, reads_words}
+use Rattle.air_select.proofs.Related.{low_word}
+use Rattle.air_select.proofs.Shapes.{one_child}
 
 -- ---- a move
 

@@ -1,14 +1,13 @@
 -- A condition: the test of a Branch or a Select passes exactly where the word of its child isn't 0.
-use Rattle.std.proofs.Common.{◌≡◌, ◌≢◌, ℕ, zero, suc, ◌+◌, ◌*◌, ◌^◌, ◌<◌, ◌⊎◌, inl, inr, Bool, true, false, ◌&&◌, ◌||◌, List, [], ◌∷◌, ◌++◌, map, Option, Some, None, nat_eq, refl, sym, ap, ◌∙◌, subst, arith, ⊎_elim}
+use Rattle.std.proofs.Common.{◌≡◌, ◌≢◌, ℕ, zero, suc, ◌*◌, ◌^◌, ◌<◌, ◌⊎◌, inl, inr, Bool, true, false, ◌&&◌, ◌||◌, List, [], ◌∷◌, ◌++◌, map, Some, nat_eq, refl, sym, ap, ◌∙◌, subst, arith, ⊎_elim}
 use Rattle.std.specs.Prelude.{Contains, if◌then◌else◌, not, slice_get}
 use Rattle.std.specs.Int.{bit_at}
 use Rattle.std.specs.Int.Bits.{bit_and}
-use Rattle.std.proofs.lemmas.Bool.{eq-eqb, eqb-true, ne_eqb}
+use Rattle.std.proofs.lemmas.Bool.{eqb-true, ne_eqb}
 use Rattle.std.proofs.lemmas.List.Elements.{All-contains, Contains-append_left}
 use Rattle.std.proofs.lemmas.Nat.{pow_pos}
 use Rattle.std.proofs.lemmas.Nat.Bits.{and_pow, bit_at-lt}
 use Rattle.b3_base.specs.Observed.{Start}
-use Rattle.b3_base.specs.Word.{bits}
 use Rattle.b3_base.specs.declared.word.Width.{Width}
 use Rattle.b3_ir.specs.Naming.{type_of}
 use Rattle.b3_ir.specs.Procedure.{Procedure, values_of}
@@ -29,29 +28,25 @@ use Rattle.b3_rules.specs.Rules.{types_of}
 use Rattle.b3_sound.specs.Laws.{HasResult, StandsAfter}
 use Rattle.b3_sound.proofs.Arriving.{first_arrival}
 use Rattle.b3_sound.proofs.Distinct.{stands}
-use Rattle.b3_sound.proofs.Keeping.{in_block}
-use Rattle.a64_inst.specs.declared.inst.Cond.{Cond}
 use Rattle.air_ir.specs.Meaning as air
 use Rattle.air_ir.specs.Operands.{Homes, Read, targets, words}
-use Rattle.air_ir.specs.Words.{Tested, computed, test}
+use Rattle.air_ir.specs.Words.{computed, test}
 use Rattle.air_ir.specs.declared.op.AirOp.{AirOp}
 use Rattle.air_ir.specs.declared.op.AirOp.TheVariants as op
-use Rattle.air_ir.specs.declared.op.Test.{Test}
 use Rattle.air_ir.specs.declared.op.Test.TheVariants.{Bit, Compare, NonZero}
 use Rattle.air_ir.specs.declared.operand.Operand.{Operand}
 use Rattle.air_ir.proofs.Conditions.{compares}
-use Rattle.air_select.specs.Foldable.{bit_of, condition_fits, constant_fits, is_and, is_bit, is_bit_test, is_comparison, is_constant}
+use Rattle.air_select.specs.Foldable.{bit_of, condition_fits, is_and, is_bit, is_bit_test, is_comparison, is_constant}
 use Rattle.air_select.specs.Selected.{Condition, Tables, arg_of, condition, condition_of, folded_condition, folds, op_of, use_of}
 use Rattle.air_select.specs.Tables.{child, known, known_in, width_at}
 use Rattle.air_select.specs.declared.known.Known.{Known}
-use Rattle.air_select.proofs.Children.{FitsAsCondition, IsReadable, child_word, fit_cases, known_word, readable, width_is, words_cons, words_nil}
+use Rattle.air_select.proofs.Children.{child_word, fit_cases, known_word, readable, width_is, words_cons, words_nil}
 use Rattle.air_select.proofs.Does.{Here, at, here}
-use Rattle.air_select.proofs.Facts.{Ran, child_ran, grandchild_ran}
+use Rattle.air_select.proofs.Facts.{child_ran, grandchild_ran}
 use Rattle.air_select.proofs.Instructions.{reads_use, writes_use}
 use Rattle.air_select.proofs.OneOp.{first_width, is_one_op, one_op_right}
 use Rattle.air_select.proofs.Plain.{has_condition, no_condition}
-use Rattle.air_select.proofs.Related.{Related}
-use Rattle.air_select.proofs.Shapes.{TwoHere, two_children, two_here}
+use Rattle.air_select.proofs.Shapes.{two_children, two_here}
 
 -- the operands of a condition read some words, of which its test says whether a word isn't 0
 pub record Decides (homes : Homes) (c : Condition) (word : ℕ) : Type 0 where
@@ -228,7 +223,7 @@ module _ (p : Procedure) (t : Tables) (start : Start) (v : Value) (h : Here p t 
               (d_child 1 y two.wy row.1 two.y_at two.y_in two.y_now os more e);
           writes = λ os. writes_use (width_at t.index x) (arg_of t x) (use_of t y ∷ os) ∙ writes_use (width_at t.index y) (arg_of t y) os;
           tells = λ more. ap (λ b. Some (b, map (λ (r : Read). r.1) more))
-          (truth_tells (compares (condition d.kind.opcode) (width_at t.index x) two.wx two.wy) w truth_is);
+              (truth_tells (compares (condition d.kind.opcode) (width_at t.index x) two.wx two.wy) w truth_is);
         }
       where
         first_of : (cs : List ℕ) → slice_get cs 0 ≡ Some (child cs 0) → first_width (map (type_of p) cs) ≡ width_of (type_of p (child cs 0))
@@ -275,8 +270,11 @@ module _ (p : Procedure) (t : Tables) (start : Start) (v : Value) (h : Here p t 
     folded_decides fits = subst (λ (k : Known). Decides h.s.homes (condition_by k) w) (sym d_known) (go (is_comparison d.kind.opcode) refl fits)
       where
         go : (is : Bool) → is_comparison d.kind.opcode ≡ is → (is ≡ true) ⊎ (is_bit_test t.index (known_in h.block d) ≡ true)
-            → Decides h.s.homes (if is then record { test = Compare (condition d.kind.opcode); over =
-            use_of t (child d.children 0) ∷ use_of t (child d.children 1) ∷ [] }
+            → Decides h.s.homes (if is then record {
+              test = Compare (condition d.kind.opcode);
+              over =
+                  use_of t (child d.children 0) ∷ use_of t (child d.children 1) ∷ [];
+            }
             else record { test = Bit (bit_of (known t.index (child d.children 1)).word); over = use_of t (child d.children 0) ∷ [] }) w
         go true e fits = compared e
         go false e (inl bad) = absurd (cc)

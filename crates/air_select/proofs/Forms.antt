@@ -1,34 +1,28 @@
 -- Each instruction of a value has the operands that its op takes: the opcodes that are one op over their children, copies,
 -- remainders and rotations.
-use Rattle.std.proofs.Common.{◌≡◌, ◌≢◌, ℕ, zero, suc, ◌+◌, ◌*◌, ◌-◌, ◌%◌, ◌^◌, ◌<◌, ◌≤◌, ◌⊎◌, inl, inr, Bool, true, false, List, [], ◌∷◌, ◌++◌, map, Option, Some, None, length, refl, sym, ap, ◌∙◌, subst, arith}
-use Rattle.std.specs.Prelude.{All, Contains, if◌then◌else◌, slice_get}
-use Rattle.b3_base.specs.Word.{bits}
+use Rattle.std.proofs.Common.{◌≡◌, ◌≢◌, ℕ, false, List, [], ◌∷◌, ◌++◌, map, Some, refl, sym, ap, subst}
+use Rattle.std.specs.Prelude.{Contains, slice_get}
 use Rattle.b3_base.specs.declared.word.Width.{Width}
-use Rattle.b3_base.specs.declared.word.Width.TheVariants.{W32, W64}
-use Rattle.b3_ir.specs.Fits.{IsConstantBelow, reported_count}
+use Rattle.b3_base.specs.declared.word.Width.TheVariants.{W32}
 use Rattle.b3_ir.specs.Naming.{type_of}
 use Rattle.b3_ir.specs.Procedure.{Procedure, values_of}
-use Rattle.b3_ir.specs.Types.{AllowsTypes, AreTaken, IsTaken, width_of}
+use Rattle.b3_ir.specs.Types.{AreTaken, width_of}
 use Rattle.b3_ir.specs.declared.opcode.Opcode.{Opcode}
-use Rattle.b3_ir.specs.declared.opcode.Opcode.TheVariants as opcode
 use Rattle.b3_ir.specs.declared.opcode.Ty.{Ty}
-use Rattle.b3_ir.specs.declared.opcode.Ty.TheVariants.{Void, Int32, Int64}
+use Rattle.b3_ir.specs.declared.opcode.Ty.TheVariants.{Void, Int32}
 use Rattle.b3_ir.specs.declared.table.More.TheVariants.{NoMore}
 use Rattle.b3_ir.specs.declared.table.Takes.TheVariants.{Alike, This}
 use Rattle.b3_ir.specs.declared.value.Value.{Value}
 use Rattle.b3_rules.specs.Rules.{types_of}
 use Rattle.b3_sound.proofs.Kept.{IsKept}
-use Rattle.stackmap.specs.declared.site.Returns.{Returns}
-use Rattle.air_ir.specs.Forms.{AllFit, AreThese, Fits, HasOperands, Immediates, NoImmediate, AnyWord, OfSum, OfLogic, IsWord, Takes, Word, Result, takes}
-use Rattle.air_ir.specs.declared.op.AirOp.{AirOp}
-use Rattle.air_ir.specs.declared.op.AirOp.TheVariants as op
+use Rattle.air_ir.specs.Forms.{AllFit, Fits, Immediates, NoImmediate, AnyWord, IsWord, Takes, Word, Result}
 use Rattle.air_ir.specs.declared.operand.Arg.{Arg}
 use Rattle.air_ir.specs.declared.operand.Arg.TheVariants.{At, Imm}
 use Rattle.air_ir.specs.declared.operand.Home.TheVariants.{Tmp}
 use Rattle.air_ir.specs.declared.operand.Operand.{Operand}
 use Rattle.air_select.specs.Foldable.{condition_fits, second_immediates}
-use Rattle.air_select.specs.Selected.{Tables, arg_of, chosen_rest, def_at, folds, quotient_of, rest_into, result_of, rotate_by, negative_amount, turned, use_at, use_of}
-use Rattle.air_select.specs.Tables.{child, first_extra, home, known, place, second_extra, width_at}
+use Rattle.air_select.specs.Selected.{Tables, def_at, result_of, use_at, use_of}
+use Rattle.air_select.specs.Tables.{child, home}
 use Rattle.air_select.specs.declared.known.Known.{Known}
 use Rattle.air_select.proofs.Operands.{child_fits, immediates_at, one_of, two_of}
 use Rattle.air_select.proofs.Setting.{IsSound}

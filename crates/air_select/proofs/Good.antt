@@ -1,15 +1,14 @@
 -- The instructions of each value have the operands that their ops take.
-use Rattle.std.proofs.Common.{◌≡◌, ◌≢◌, ℕ, zero, suc, ◌+◌, ◌*◌, ◌-◌, ◌%◌, ◌^◌, ◌<◌, ◌≤◌, ◌⊎◌, inl, inr, Bool, true, false, ◌||◌, List, [], ◌∷◌, ◌++◌, map, Option, Some, None, length, refl, sym, ap, ◌∙◌, subst, arith}
+use Rattle.std.proofs.Common.{◌≡◌, ◌≢◌, ℕ, ◌^◌, ◌<◌, ◌⊎◌, inl, inr, Bool, true, false, ◌||◌, List, [], ◌∷◌, ◌++◌, map, Option, Some, None, refl, sym, ap, ◌∙◌, subst, arith}
 use Rattle.std.specs.Prelude.{All, AllPairs, Contains, if◌then◌else◌, slice_get}
-use Rattle.std.proofs.lemmas.List.Elements.{All-cons, All-nil}
-use Rattle.b3_base.specs.Arithmetic.{low}
+use Rattle.std.proofs.lemmas.List.Elements.{All-nil}
 use Rattle.b3_base.specs.Word.{bits}
 use Rattle.b3_base.specs.declared.word.Width.{Width}
 use Rattle.b3_base.specs.declared.word.Width.TheVariants.{W32, W64}
 use Rattle.b3_ir.specs.Fits.{IsConstantBelow, reported_count}
 use Rattle.b3_ir.specs.Naming.{all_values, type_of}
 use Rattle.b3_ir.specs.Procedure.{AllFit as ValuesFit, Procedure, StandsAt, values_of}
-use Rattle.b3_ir.specs.Types.{AllowsTypes, AreMore, AreTaken, IsTaken, width_of}
+use Rattle.b3_ir.specs.Types.{AllowsTypes, AreMore, AreTaken, width_of}
 use Rattle.b3_ir.specs.declared.opcode.Opcode.{Opcode}
 use Rattle.b3_ir.specs.declared.opcode.Opcode.TheVariants as opcode
 use Rattle.b3_ir.specs.declared.opcode.Ty.{Ty}
@@ -21,7 +20,7 @@ use Rattle.b3_ir.specs.declared.value.Body.TheVariants.{Cases}
 use Rattle.b3_ir.specs.declared.value.Value.{Value}
 use Rattle.b3_ir.proofs.Typing.{allowed}
 use Rattle.b3_ir.specs.Table.{row_of}
-use Rattle.b3_rules.specs.Rules.{AreCasesOf, DifferAt, first_return, first_type, if_return, types_of}
+use Rattle.b3_rules.specs.Rules.{AreCasesOf, first_return, first_type, if_return, types_of}
 use Rattle.b3_sound.proofs.Lists.{contains_cases, contains_none}
 use Rattle.b3_meaning.specs.Roles.{role_of}
 use Rattle.b3_rules.specs.Valid.{IsValidProcedure, ValueAt}
@@ -31,22 +30,20 @@ use Rattle.b3_sound.proofs.FromValid.{is_kept}
 use Rattle.b3_sound.proofs.Kept.{IsKept}
 use Rattle.b3_sound.proofs.Rows.{IsRow, row_by_role}
 use Rattle.stackmap.specs.declared.site.Returns.{Returns}
-use Rattle.air_ir.specs.Forms.{AllFit, AreThese, DifferIn, Fits, HasOperands, Immediates, NoImmediate, AnyWord, OfSum, OfLogic, IsWord, Takes, Word, Result, returned, takes, test_takes}
+use Rattle.air_ir.specs.Forms.{AllFit, DifferIn, Fits, HasOperands, Immediates, NoImmediate, AnyWord, IsWord, Takes, Word, Result, returned, test_takes}
 use Rattle.air_ir.specs.declared.op.AirOp.{AirOp}
 use Rattle.air_ir.specs.declared.op.AirOp.TheVariants as op
-use Rattle.air_ir.specs.declared.op.Test.TheVariants.{NonZero}
 use Rattle.air_ir.specs.declared.operand.Arg.{Arg}
 use Rattle.air_ir.specs.declared.operand.Arg.TheVariants.{At, Imm}
 use Rattle.air_ir.specs.declared.operand.Home.{Home}
-use Rattle.air_ir.specs.declared.operand.Home.TheVariants.{Tmp}
 use Rattle.air_ir.specs.declared.operand.Operand.{Operand}
 use Rattle.air_ir.specs.declared.procedure.AirInst.{AirInst}
 use Rattle.air_select.specs.Contract.{is_built}
-use Rattle.air_select.specs.Foldable.{condition_fits, constant_fits, is_bit_test, is_comparison, second_immediates}
-use Rattle.air_select.specs.Selected.{Condition, Tables, arg_of, cases_in, chosen_rest, code_of, condition_of, def_at, folds, inst, move, negative_amount, op_of, phi_in, quotient_of, register, register_in, rest_into, result_of, return_of, returns_by, returns_child, returns_type, rotate_by, turned, use_at, use_of, value_code}
-use Rattle.air_select.specs.Tables.{Index, argument, child, first_extra, home, known, location, place, second_extra, width_at, word_in}
+use Rattle.air_select.specs.Foldable.{condition_fits, is_bit_test, is_comparison, second_immediates}
+use Rattle.air_select.specs.Selected.{Condition, Tables, arg_of, cases_in, chosen_rest, code_of, condition_of, def_at, folds, inst, negative_amount, op_of, phi_in, quotient_of, register, register_in, rest_into, result_of, return_of, returns_by, returns_child, returns_type, rotate_by, turned, use_at, use_of}
+use Rattle.air_select.specs.Tables.{Index, argument, child, first_extra, home, known, location, second_extra, width_at, word_in}
 use Rattle.air_select.specs.declared.known.Known.{Known}
-use Rattle.air_select.proofs.Facts.{body_below, constant_role}
+use Rattle.air_select.proofs.Facts.{body_below}
 use Rattle.air_select.proofs.Forms as forms
 use Rattle.air_select.proofs.Forms.{any_fits, fit_four, fit_none, fit_one, fit_three, fit_two, home_fits, result_fits}
 use Rattle.air_select.proofs.Operands.{one_of, three_of, two_of}
@@ -137,8 +134,12 @@ module _ (p : Procedure) (valid : IsValidProcedure p) (fit : ValuesFit p.blocks)
     allows = allowed v.kind.opcode v.ty (types_of p v) (valid rule.Types (ValueAt b j v) at)
 
     move_has : (width : Width) (from : Arg) (to : Home) → IsWord AnyWord width from → Has (inst v op.Move (use_at width from ∷ def_at width to ∷ []))
-    move_has width from to is = (width, width, fit_two (Word width AnyWord) (Result width) (use_at width from) (def_at width to) (refl, refl, is)
-        (refl, refl, tt))
+    move_has width from to is = (
+      width,
+      width,
+      fit_two (Word width AnyWord) (Result width) (use_at width from) (def_at width to) (refl, refl, is)
+          (refl, refl, tt),
+    )
 
     one_move : (width : Width) (from : Arg) (to : Home) → IsWord AnyWord width from → All Has (inst v op.Move (use_at width from ∷ def_at width to ∷ []) ∷ [])
     one_move width from to is = all_one Has (inst v op.Move (use_at width from ∷ def_at width to ∷ [])) (move_has width from to is)
@@ -224,9 +225,12 @@ module _ (p : Procedure) (valid : IsValidProcedure p) (fit : ValuesFit p.blocks)
         let turn : Arg = Imm (turned (width_of v.ty) (known t.index (child v.children 1)).word) in
         all_one Has (rotate_by t v turn) (rotate_has w e turn (turned_small (width_of v.ty) (known t.index (child v.children 1)).word, tt) x)
     rotate_left_has w e x amount false f =
-        all_two Has (negative_amount t v) (rotate_by t v (At (first_extra t.index v.id)))
-        (W32, W32, fit_two (Word W32 NoImmediate) (Result W32) (use_of t (child v.children 1)) (def_at W32 (first_extra t.index v.id)) (amount f)
-        (refl, refl, tt))
+        all_two Has (negative_amount t v) (rotate_by t v (At (first_extra t.index v.id))) (
+          W32,
+          W32,
+          fit_two (Word W32 NoImmediate) (Result W32) (use_of t (child v.children 1)) (def_at W32 (first_extra t.index v.id)) (amount f)
+              (refl, refl, tt),
+        )
         (rotate_has w e (At (first_extra t.index v.id)) tt x)
 
     -- ---- cases
@@ -339,7 +343,7 @@ module _ (p : Procedure) (valid : IsValidProcedure p) (fit : ValuesFit p.blocks)
         let cases = subst (λ (k : Ty). AreCasesOf k v.body) same (valid rule.Cases (ValueAt b j v) at) in (
           width_of ty,
           fit_one (Word (width_of ty) NoImmediate) (use_of t (child v.children 0))
-          (subst (λ n. Fits (Word (width_of ty) NoImmediate) (use_of t n)) (sym first) fits),
+              (subst (λ n. Fits (Word (width_of ty) NoImmediate) (use_of t n)) (sym first) fits),
           cases_differ ty v.body cases,
         )
 
@@ -360,7 +364,7 @@ module _ (p : Procedure) (valid : IsValidProcedure p) (fit : ValuesFit p.blocks)
           c.0,
           w,
           fit_append (test_takes condition.test c.0) rest condition.over (use_of t (child v.children 1) ∷ use_of t (child v.children 2) ∷ result_of t v ∷ [])
-          c.1
+              c.1
               (fit_three (Word w NoImmediate) (Word w NoImmediate) (Result w) (use_of t (child v.children 1)) (use_of t (child v.children 2)) (result_of t v)
               (subst (λ n. Fits (Word w NoImmediate) (use_of t n)) (sym y) fy) (subst (λ n. Fits (Word w NoImmediate) (use_of t n)) (sym z) fz)
               (refl, ap width_of own, tt)),
@@ -382,9 +386,12 @@ module _ (p : Procedure) (valid : IsValidProcedure p) (fit : ValuesFit p.blocks)
         let x : child v.children 0 ≡ cs.0 = ap (λ (l : List ℕ). child l 0) cs.2 in
         let y : child v.children 1 ≡ cs.1 = ap (λ (l : List ℕ). child l 1) cs.2 in
         rotate_left_has (width_of h.alike) (ap width_of h.gives) (subst (λ n. Fits (Word (width_of h.alike) NoImmediate) (use_of t n)) (sym x) first)
-        (λ unfolded. let fits = subst (λ n. Fits (Word W32 AnyWord) (use_of t n)) (sym y) second in
-        (fits.0, fits.1, subst (λ f. IsWord NoImmediate W32
-        (if f then Imm (known t.index (child v.children 1)).word else At (home t.index (child v.children 1)))) (sym unfolded) tt))
+        (λ unfolded. let fits = subst (λ n. Fits (Word W32 AnyWord) (use_of t n)) (sym y) second in (
+          fits.0,
+          fits.1,
+          subst (λ f. IsWord NoImmediate W32
+              (if f then Imm (known t.index (child v.children 1)).word else At (home t.index (child v.children 1)))) (sym unfolded) tt,
+        ))
         (folds t (child v.children 1)) refl
 
     pub code_has : (o : Opcode) → v.kind.opcode ≡ o → is_built o ≡ true → All Has (code_of t o v)
@@ -465,8 +472,12 @@ module _ (p : Procedure) (valid : IsValidProcedure p) (fit : ValuesFit p.blocks)
         (W64, W64, from opcode.ZExt32 is (λ k. refl) (λ k. refl) h.alike Int32 Int64 int_some h.children h.gives)
     code_has opcode.Identity is built =
         let h = row opcode.Identity is in
-        one_has op.Move (width_of h.alike, W64, moved (width_of h.alike) (map (use_of t) v.children) (result_of t v)
-        (single opcode.Identity is (λ k. refl) (λ k. refl) h.alike h.typed h.children h.gives))
+        one_has op.Move (
+          width_of h.alike,
+          W64,
+          moved (width_of h.alike) (map (use_of t) v.children) (result_of t v)
+              (single opcode.Identity is (λ k. refl) (λ k. refl) h.alike h.typed h.children h.gives),
+        )
     code_has opcode.Equal is built = let h = row opcode.Equal is in one_has (op_of opcode.Equal)
         (width_of h.alike, W64, pair opcode.Equal is (λ k. refl) (λ k. refl) h.alike Int32 h.typed h.children h.gives)
     code_has opcode.NotEqual is built = let h = row opcode.NotEqual is in one_has (op_of opcode.NotEqual)

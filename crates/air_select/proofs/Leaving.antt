@@ -1,11 +1,11 @@
 -- Select, and the values that end a block.
-use Rattle.std.proofs.Common.{◌≡◌, ◌≢◌, ℕ, zero, suc, ◌+◌, ◌^◌, ◌<◌, ◌⊎◌, inl, inr, Bool, true, false, ◌||◌, List, [], ◌∷◌, ◌++◌, map, length, Option, Some, None, nat_eq, refl, sym, ap, ◌∙◌, subst, arith, append-nil}
+use Rattle.std.proofs.Common.{◌≡◌, ℕ, suc, ◌+◌, ◌^◌, ◌<◌, ◌⊎◌, inl, inr, Bool, true, false, ◌||◌, List, [], ◌∷◌, ◌++◌, map, length, Option, Some, None, nat_eq, refl, sym, ap, ◌∙◌, subst, arith, append-nil}
 use Rattle.std.specs.Prelude.{Contains, if◌then◌else◌, not, slice_get}
 use Rattle.std.specs.Option.{option_map}
 use Rattle.std.proofs.lemmas.Bool.{eq-eqb}
 use Rattle.std.proofs.lemmas.Option.{slice_get-map}
 use Rattle.b3_base.specs.Arithmetic.{low}
-use Rattle.b3_base.specs.Observed.{Event, Memory, Observation, Start}
+use Rattle.b3_base.specs.Observed.{Event, Memory, Start}
 use Rattle.b3_base.specs.Word.{bits}
 use Rattle.b3_base.specs.declared.observation.Status.{Status}
 use Rattle.b3_base.specs.declared.observation.Status.TheVariants.{Returned}
@@ -30,34 +30,29 @@ use Rattle.b3_rules.specs.Rules.{types_of}
 use Rattle.b3_rules.specs.Paths.{successors_in}
 use Rattle.b3_sound.proofs.Lists.{contains_head}
 use Rattle.air_ir.specs.Blocks.{seen_as}
-use Rattle.air_ir.specs.Kinds.{Computes}
 use Rattle.air_ir.specs.Meaning as air
 use Rattle.air_ir.specs.Meaning.{Over, To, World, case_number, leaves, meaning, operation}
 use Rattle.air_ir.specs.Operands.{Holds, Homes, Read, put, read, targets, word_of, words}
-use Rattle.air_ir.specs.Steps.{Goes, Outcome as Ran, State, step, steps}
-use Rattle.air_ir.specs.Words.{Tested, computed, select_if, test}
+use Rattle.air_ir.specs.Steps.{Goes, Outcome as Ran, steps}
+use Rattle.air_ir.specs.Words.{Tested, select_if, test}
 use Rattle.air_ir.specs.declared.op.AirOp.TheVariants as op
 use Rattle.air_ir.specs.declared.op.Test.{Test}
 use Rattle.air_ir.specs.declared.operand.Arg.TheVariants.{At}
-use Rattle.air_ir.specs.declared.operand.Home.{Home}
-use Rattle.air_ir.specs.declared.operand.Home.TheVariants.{Reg}
-use Rattle.air_ir.specs.declared.operand.Operand.{Operand}
 use Rattle.air_ir.specs.declared.procedure.AirInst.{AirInst}
 use Rattle.air_ir.proofs.Stepping.{steps-one}
 use Rattle.air_select.specs.Foldable.{condition_fits, is_bit_test, is_comparison}
-use Rattle.air_select.specs.Selected.{Condition, Tables, arg_of, branch_on, cases_in, condition_of, def_at, inst, move, register, result_of, return_of, select_on, targets_of, use_at, use_of}
+use Rattle.air_select.specs.Selected.{Tables, arg_of, branch_on, cases_in, condition_of, inst, move, register, result_of, return_of, select_on, targets_of, use_at, use_of}
 use Rattle.air_select.specs.Tables.{child, home, width_at}
-use Rattle.air_select.specs.declared.known.Known.{Known}
-use Rattle.air_select.proofs.Children.{child_word, readable, typed, width_is, word_small, words_cons, words_nil}
+use Rattle.air_select.proofs.Children.{child_word, readable, width_is, word_small, words_cons, words_nil}
 use Rattle.air_select.proofs.Copied.{moved, row_of_role}
 use Rattle.air_select.proofs.Deciding.{Decides, decides}
 use Rattle.air_select.proofs.Does.{Does, Here, allows, are_words, at, gives_does, here, puts, result_small, words_here}
 use Rattle.air_select.proofs.Facts.{child_ran}
 use Rattle.air_select.proofs.Instructions.{at_home, one_leave, one_word, reads_def, reads_none, reads_use, steps_first, steps_last, with_home, writes_def, writes_none, writes_use}
 use Rattle.air_select.proofs.Plain.{computing, later_condition}
-use Rattle.air_select.proofs.Related.{Related, holds_word}
+use Rattle.air_select.proofs.Related.{holds_word}
 use Rattle.air_select.proofs.Remainders.{child_in}
-use Rattle.air_select.proofs.Shapes.{OneHere, ThreeHere, one_child, one_here, three_children, three_here}
+use Rattle.air_select.proofs.Shapes.{one_child, one_here, three_children, three_here}
 
 or_cases : (a b : Bool) → (a || b) ≡ true → (a ≡ true) ⊎ (b ≡ true)
 or_cases true b e = inl refl
@@ -254,7 +249,7 @@ module _ (p : Procedure) (t : Tables) (start : Start) (v : Value) (h : Here p t 
         h.s,
         leaves_it,
         target_at (Cases has.0 has.1) has.2 number b (ap (λ (k : Width). slice_get has.1 (case_number k one.wx has.0)) width
-        ∙ chosen_case (width_of (type_of p shape.x)) one.wx has.0 has.1 b e),
+            ∙ chosen_case (width_of (type_of p shape.x)) one.wx has.0 has.1 b e),
         h.related,
       )))))
 

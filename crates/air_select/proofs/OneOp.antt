@@ -1,11 +1,11 @@
 -- The opcodes that are one op over their children: the op computes the word that the opcode gives.
-use Rattle.std.proofs.Common.{◌≡◌, ◌≢◌, ℕ, ◌-◌, ◌/◌, ◌^◌, ◌<◌, Bool, true, false, List, [], ◌∷◌, ◌&&◌, Option, Some, None, refl, sym, ap, ◌∙◌, subst, arith, nat_eq}
+use Rattle.std.proofs.Common.{◌≡◌, ℕ, ◌-◌, ◌/◌, ◌^◌, ◌<◌, Bool, true, false, List, [], ◌∷◌, ◌&&◌, Some, refl, sym, ap, ◌∙◌, subst, nat_eq}
 use Rattle.std.specs.Prelude.{if◌then◌else◌, nat_lt, not}
 use Rattle.std.specs.Int.RustNames.{int_div}
 use Rattle.std.specs.Int.Bits.{bit_and, bit_or, bit_xor}
 use Rattle.std.proofs.lemmas.Bool.{eqb-true}
 use Rattle.b3_base.specs.Arithmetic.{leading_zeros, low, rotate_right, sign_extended}
-use Rattle.b3_base.specs.Signed.{complement, shifted_right_signed, signed, unsigned}
+use Rattle.b3_base.specs.Signed.{shifted_right_signed, signed, unsigned}
 use Rattle.b3_base.specs.Word.{bits}
 use Rattle.b3_base.specs.declared.word.Width.{Width}
 use Rattle.b3_base.specs.declared.word.Width.TheVariants.{W32, W64}
@@ -13,18 +13,15 @@ use Rattle.b3_ir.specs.Types.{AllowsTypes, AreTaken, IsTaken, width_of}
 use Rattle.b3_ir.specs.declared.opcode.Opcode.{Opcode}
 use Rattle.b3_ir.specs.declared.opcode.Opcode.TheVariants as opcode
 use Rattle.b3_ir.specs.declared.opcode.Ty.{Ty}
-use Rattle.b3_ir.specs.declared.opcode.Ty.TheVariants.{Int32, Int64}
+use Rattle.b3_ir.specs.declared.opcode.Ty.TheVariants.{Int32}
 use Rattle.b3_ir.specs.declared.table.Takes.{Takes}
 use Rattle.b3_ir.specs.declared.table.Takes.TheVariants.{Alike, This}
 use Rattle.b3_ir.specs.declared.table.More.TheVariants.{NoMore}
-use Rattle.b3_meaning.specs.Opcodes.{AreWordsOf, DivisionByZero, Gives, LeastByMinusOne, Outcome, Undefined, Undefines, amount, chilled, difference, divided, is_below, is_least_by_minus_one, least, product, result, shifted_left, sum, truth, unless_zero}
+use Rattle.b3_meaning.specs.Opcodes.{AreWordsOf, DivisionByZero, Gives, LeastByMinusOne, Undefined, Undefines, amount, chilled, difference, divided, is_below, is_least_by_minus_one, least, product, result, shifted_left, sum, truth, unless_zero}
 use Rattle.a64_inst.specs.StepData.{quotient}
 use Rattle.a64_inst.specs.declared.inst.Cond.{Cond}
 use Rattle.a64_inst.specs.declared.inst.Cond.TheVariants.{Eq, Ne, Hs, Lo, Hi, Ls, Ge, Lt, Gt, Le}
 use Rattle.air_ir.specs.Words.{computed}
-use Rattle.air_ir.specs.declared.op.AirOp.{AirOp}
-use Rattle.air_ir.specs.declared.op.AirOp.TheVariants as op
-use Rattle.air_ir.specs.declared.op.Test.TheVariants.{Compare}
 use Rattle.air_ir.proofs.Conditions as conditions
 use Rattle.air_ir.proofs.Conditions.{compares}
 use Rattle.air_select.specs.Selected.{op_of}

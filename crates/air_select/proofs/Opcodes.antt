@@ -1,5 +1,5 @@
 -- Each value, by its opcode: its instructions do what it leads to.
-use Rattle.std.proofs.Common.{◌≡◌, ◌≢◌, ℕ, ◌⊎◌, inl, inr, Bool, true, false, ◌&&◌, List, [], ◌∷◌, Option, Some, None, refl, sym, ap, ◌∙◌, subst}
+use Rattle.std.proofs.Common.{◌≡◌, ℕ, inl, inr, Bool, true, false, ◌&&◌, List, [], refl, sym, subst}
 use Rattle.std.specs.Prelude.{if◌then◌else◌}
 use Rattle.b3_base.specs.Observed.{Start}
 use Rattle.b3_ir.specs.Naming.{type_of}
@@ -7,15 +7,14 @@ use Rattle.b3_ir.specs.Procedure.{Procedure}
 use Rattle.b3_ir.specs.declared.opcode.Opcode.{Opcode}
 use Rattle.b3_ir.specs.declared.opcode.Opcode.TheVariants as opcode
 use Rattle.b3_ir.specs.declared.value.Value.{Value}
-use Rattle.b3_meaning.specs.Opcodes.{Gives, Outcome, result}
+use Rattle.b3_meaning.specs.Opcodes.{Outcome, result}
 use Rattle.b3_meaning.specs.Roles.{role_of}
 use Rattle.b3_meaning.specs.Run as b3
 use Rattle.b3_meaning.specs.declared.role.Role.{Role}
 use Rattle.b3_meaning.specs.declared.role.Role.TheVariants as role
 use Rattle.b3_rules.specs.Rules.{types_of}
 use Rattle.air_ir.specs.Meaning.{meaning}
-use Rattle.air_ir.specs.Steps.{Goes, Outcome as Ran, steps}
-use Rattle.air_ir.specs.declared.procedure.AirInst.{AirInst}
+use Rattle.air_ir.specs.Steps.{Outcome as Ran, steps}
 use Rattle.air_select.specs.Contract.{is_built}
 use Rattle.air_select.specs.Foldable.{is_and, is_bit, is_constant}
 use Rattle.air_select.specs.Selected.{Tables, code_of, folds, value_code}

@@ -1,39 +1,37 @@
 -- The values that are one instruction over their children, or one copy.
-use Rattle.std.proofs.Common.{◌≡◌, ◌≢◌, ℕ, zero, suc, ◌+◌, ◌^◌, ◌<◌, ◌⊎◌, inl, inr, Bool, true, false, List, [], ◌∷◌, ◌++◌, map, Option, Some, None, refl, sym, ap, ◌∙◌, subst, append-nil}
-use Rattle.std.specs.Prelude.{Contains, slice_get, if◌then◌else◌}
+use Rattle.std.proofs.Common.{◌≡◌, ℕ, suc, ◌^◌, ◌<◌, Bool, true, false, List, [], ◌∷◌, ◌++◌, map, Some, None, refl, sym, ap, ◌∙◌, subst, append-nil}
+use Rattle.std.specs.Prelude.{Contains, slice_get}
 use Rattle.std.proofs.lemmas.Option.{slice_get-get_or}
 use Rattle.b3_base.specs.Observed.{Start}
 use Rattle.b3_base.specs.Word.{bits}
 use Rattle.b3_base.specs.declared.word.Width.{Width}
 use Rattle.b3_ir.specs.Naming.{type_of}
-use Rattle.b3_ir.specs.Procedure.{Procedure, values_of}
+use Rattle.b3_ir.specs.Procedure.{Procedure}
 use Rattle.b3_ir.specs.Types.{AllowsTypes, width_of}
 use Rattle.b3_ir.specs.declared.opcode.Opcode.{Opcode}
 use Rattle.b3_ir.specs.declared.opcode.Opcode.TheVariants as opcode
-use Rattle.b3_ir.specs.declared.opcode.Ty.{Ty}
 use Rattle.b3_ir.specs.declared.value.Value.{Value}
-use Rattle.b3_meaning.specs.Opcodes.{Gives, result}
+use Rattle.b3_meaning.specs.Opcodes.{result}
 use Rattle.b3_meaning.specs.Roles.{role_of}
 use Rattle.b3_meaning.specs.Run as b3
 use Rattle.b3_meaning.specs.declared.role.Role.TheVariants as role
 use Rattle.b3_rules.specs.Rules.{types_of}
-use Rattle.b3_sound.proofs.Lists.{contains_head, contains_tail}
 use Rattle.air_ir.specs.Kinds.{Computes, Copies, Kind, kind_of}
 use Rattle.air_ir.specs.Meaning as air
 use Rattle.air_ir.specs.Meaning.{World, effect_of, gives, gives_word, meaning, operation}
-use Rattle.air_ir.specs.Operands.{Read, Target, targets, words}
-use Rattle.air_ir.specs.Steps.{Goes, State, steps}
+use Rattle.air_ir.specs.Operands.{Read, targets, words}
+use Rattle.air_ir.specs.Steps.{Goes, steps}
 use Rattle.air_ir.specs.Words.{computed}
 use Rattle.air_ir.specs.declared.op.AirOp.{AirOp}
 use Rattle.air_ir.specs.declared.operand.Operand.{Operand}
 use Rattle.air_ir.specs.declared.procedure.AirInst.{AirInst}
 use Rattle.air_select.specs.Foldable.{condition_fits}
-use Rattle.air_select.specs.Selected.{Tables, arg_of, computes, folds, inst, op_of, result_of, use_of}
+use Rattle.air_select.specs.Selected.{Tables, arg_of, computes, inst, op_of, result_of, use_of}
 use Rattle.air_select.specs.Tables.{Index, home, width_at}
 use Rattle.air_select.specs.declared.known.Known.{Known}
-use Rattle.air_select.proofs.Children.{IsReadable, children_words, readable, typed, width_is, words_cons, words_nil}
+use Rattle.air_select.proofs.Children.{children_words, readable, typed, width_is, words_cons, words_nil}
 use Rattle.air_select.proofs.Does.{Does, Here, allows, are_typed, are_words, at, gives_does, here, puts, result_small, words_here}
-use Rattle.air_select.proofs.Facts.{Ran, child_ran}
+use Rattle.air_select.proofs.Facts.{child_ran}
 use Rattle.air_select.proofs.Instructions.{one_word, reads_def, steps_last, with_home, writes_def, writes_use}
 use Rattle.air_select.proofs.OneOp.{first_width, is_one_op, one_op_right}
 
@@ -160,7 +158,7 @@ module _ (p : Procedure) (t : Tables) (start : Start) (v : Value) (h : Here p t 
   unfolding meaning
   computing o value rs w word kind e =
       ap (λ (k : Kind). effect_of k start (record { op = o; value = value; traps = false }) (air.width_of rs) rs (map (λ (r : Read). r.1) rs) w) kind
-          ∙ ap (gives_word w) e
+      ∙ ap (gives_word w) e
 
   pub copying : (o : AirOp) (value : ℕ) (rs : List Read) (w : World) → kind_of o ≡ Copies
       → meaning start (record { op = o; value = value; traps = false }) rs w ≡ gives w (map (λ (r : Read). r.1) rs)

@@ -1,5 +1,5 @@
 -- Mod and UMod: a division, a multiplication, and a test of the divisor where it may be 0.
-use Rattle.std.proofs.Common.{◌≡◌, ◌≢◌, ℕ, suc, ◌+◌, ◌-◌, ◌*◌, ◌%◌, ◌^◌, ◌<◌, Bool, true, false, List, [], ◌∷◌, map, Option, Some, None, nat_eq, refl, sym, ap, ◌∙◌, subst, arith}
+use Rattle.std.proofs.Common.{◌≡◌, ℕ, ◌+◌, ◌-◌, ◌*◌, ◌%◌, ◌^◌, ◌<◌, Bool, true, false, List, [], ◌∷◌, Some, None, nat_eq, refl, sym, ap, ◌∙◌, subst, arith}
 use Rattle.std.specs.Prelude.{Contains, if◌then◌else◌, not, slice_get}
 use Rattle.b3_base.specs.Observed.{Start}
 use Rattle.b3_base.specs.Word.{bits}
@@ -12,7 +12,7 @@ use Rattle.b3_ir.specs.declared.opcode.Opcode.TheVariants as opcode
 use Rattle.b3_ir.specs.declared.opcode.Ty.{Ty}
 use Rattle.b3_ir.specs.declared.table.Takes.TheVariants.{Alike}
 use Rattle.b3_ir.specs.declared.value.Value.{Value}
-use Rattle.b3_meaning.specs.Opcodes.{DivisionByZero, Gives, LeastByMinusOne, Outcome, Undefined, Undefines, chilled, difference, is_least_by_minus_one, left_over, product, remainder as left, result, unless_zero}
+use Rattle.b3_meaning.specs.Opcodes.{DivisionByZero, Gives, LeastByMinusOne, Undefines, chilled, difference, is_least_by_minus_one, left_over, product, remainder as left, result, unless_zero}
 use Rattle.b3_meaning.specs.Roles.{role_of}
 use Rattle.b3_meaning.specs.Run as b3
 use Rattle.b3_rules.specs.Rules.{types_of}
@@ -20,7 +20,7 @@ use Rattle.b3_sound.proofs.Results.{low_in}
 use Rattle.a64_inst.specs.StepData.{quotient}
 use Rattle.air_ir.specs.Kinds.{Computes, kind_of}
 use Rattle.air_ir.specs.Meaning.{meaning}
-use Rattle.air_ir.specs.Operands.{Holds, Read, read, targets, word_of, words}
+use Rattle.air_ir.specs.Operands.{Holds, read, targets, word_of, words}
 use Rattle.air_ir.specs.Steps.{Goes, State, step, steps}
 use Rattle.air_ir.specs.Words.{computed}
 use Rattle.air_ir.specs.declared.op.AirOp.{AirOp}
@@ -29,12 +29,10 @@ use Rattle.air_ir.specs.declared.op.Test.TheVariants.{NonZero}
 use Rattle.air_ir.specs.declared.operand.Arg.{Arg}
 use Rattle.air_ir.specs.declared.operand.Arg.TheVariants.{At}
 use Rattle.air_ir.specs.declared.operand.Home.{Home}
-use Rattle.air_ir.specs.declared.procedure.AirInst.{AirInst}
 use Rattle.air_select.specs.Foldable.{condition_fits}
-use Rattle.air_select.specs.Selected.{Tables, arg_of, chosen_rest, def_at, quotient_of, remainder, rest_into, result_of, use_at, use_of}
+use Rattle.air_select.specs.Selected.{Tables, arg_of, chosen_rest, def_at, quotient_of, remainder, rest_into, use_at, use_of}
 use Rattle.air_select.specs.Tables.{child, first_extra, home, place, second_extra, width_at}
-use Rattle.air_select.specs.declared.known.Known.{Known}
-use Rattle.air_select.proofs.Children.{child_word, readable, width_is, word_small}
+use Rattle.air_select.proofs.Children.{child_word, readable, width_is}
 use Rattle.air_select.proofs.Does.{Does, Here, allows, are_words, at, gives_does, here, named, puts, result_small, words_here}
 use Rattle.air_select.proofs.Facts.{child_ran}
 use Rattle.air_select.proofs.Instructions.{at_home, one_word, reads_def, reads_use, steps_first, steps_last, with_home, writes_def, writes_use}
@@ -126,8 +124,11 @@ module _ (p : Procedure) (t : Tables) (start : Start) (v : Value) (h : Here p t 
     r = difference (width_of v.ty) two.wx (product (width_of v.ty) q two.wy)
 
     rest_step : (to : Home) → step (meaning start) (rest_into t v to) (with_home h.s (first_extra t.index v.id) (width_of v.ty) q) junk
-        ≡ (Goes None (with_home (with_home h.s (first_extra t.index v.id) (width_of v.ty) q) to (width_of v.ty)
-        (difference (width_of v.ty) two.wx (product (width_of v.ty) q two.wy))), junk)
+        ≡ (
+          Goes None (with_home (with_home h.s (first_extra t.index v.id) (width_of v.ty) q) to (width_of v.ty)
+              (difference (width_of v.ty) two.wx (product (width_of v.ty) q two.wy))),
+          junk,
+        )
     rest_step to =
         let after = with_home h.s (first_extra t.index v.id) (width_of v.ty) q in
         let x = child v.children 0 in

@@ -1,8 +1,8 @@
 -- The remainder is the dividend less the product of the quotient and the divisor, modulo the width.
 use Rattle.std.proofs.Common.{◌≡◌, ◌≢◌, ℕ, ℤ, pos, negsuc, zero, suc, ◌+◌, ◌≤◌, ◌-◌, ◌*◌, ◌/◌, ◌%◌, ◌^◌, ◌<◌, Bool, true, false, ◌&&◌, refl, sym, ap, ◌∙◌, subst, arith, nat_eq, ⊎_elim, div-le_self, mul_comm}
 use Rattle.std.specs.Prelude.{◌+ℤ◌, ◌*ℤ◌, neg_ℤ, if◌then◌else◌}
-use Rattle.std.specs.Int.{Width, cast_signed, cast_unsigned, int_wrap, w32, w64}
-use Rattle.std.specs.Int.RustNames.{FitsSigned, int_div, int_rem, unsigned_abs}
+use Rattle.std.specs.Int.{cast_signed, cast_unsigned, int_wrap, w32, w64}
+use Rattle.std.specs.Int.RustNames.{FitsSigned, int_div, int_rem}
 use Rattle.std.proofs.Math.IntN.{nat_abs, ◌-ℤ◌}
 use Rattle.std.proofs.Math.Nat.{div-lt_self, mod-le}
 use Rattle.std.proofs.lemmas.Bool.{cases_eq, cases_lt, eq-eqb, eqb-true, le-ltb, lt-ltb}
@@ -12,7 +12,7 @@ use Rattle.b3_base.specs.Signed.{signed, unsigned}
 use Rattle.b3_base.specs.Word as words
 use Rattle.b3_base.specs.declared.word.Width.{Width as Wide}
 use Rattle.b3_base.specs.declared.word.Width.TheVariants.{W32, W64}
-use Rattle.b3_meaning.specs.Opcodes.{DivisionByZero, Gives, LeastByMinusOne, Undefined, Undefines, chilled, difference, is_least_by_minus_one, least, left_over, product, remainder, unless_zero}
+use Rattle.b3_meaning.specs.Opcodes.{DivisionByZero, Gives, LeastByMinusOne, Undefines, chilled, difference, is_least_by_minus_one, least, left_over, product, remainder, unless_zero}
 use Rattle.a64_inst.specs.StepData.{quotient}
 use Rattle.air_select.proofs.OneOp.{both, chilled_is, undefined_gives}
 
@@ -220,7 +220,7 @@ rest_is width chill x y w px py e = go (nat_eq y 0) refl (is_least_by_minus_one 
         let ey : y ≡ 2 ^ words.bits width - 1 = eqb-true y (2 ^ words.bits width - 1) parts.1 in
         record {
           small = subst (λ n. quotient width true n y < 2 ^ words.bits width) (sym ex)
-          (subst (λ n. quotient width true (least width) n < 2 ^ words.bits width) (sym ey) (least_small width));
+              (subst (λ n. quotient width true (least width) n < 2 ^ words.bits width) (sym ey) (least_small width));
           rest = λ other.
               ap (λ n. difference width n (product width (quotient width true n y) y)) ex
               ∙ ap (λ n. difference width (least width) (product width (quotient width true (least width) n) n)) ey

@@ -1,33 +1,32 @@
 -- The run of the selected procedure has the blocks of the run of B3.
-use Rattle.std.proofs.Common.{◌≡◌, ◌≢◌, ℕ, zero, suc, ◌+◌, ◌^◌, ◌<◌, ◌≤◌, ◌⊎◌, inl, inr, Bool, true, false, List, [], ◌∷◌, ◌++◌, map, length, Option, Some, None, refl, sym, ap, ◌∙◌, subst, arith, append-nil, append_assoc}
-use Rattle.std.specs.Prelude.{All, Contains, slice_get, slice_index_or, if◌then◌else◌}
+use Rattle.std.proofs.Common.{◌≡◌, ℕ, suc, ◌+◌, ◌<◌, true, false, List, [], ◌∷◌, ◌++◌, map, length, Some, None, refl, sym, ap, ◌∙◌, subst, arith, append-nil, append_assoc}
+use Rattle.std.specs.Prelude.{Contains, slice_get, slice_index_or}
 use Rattle.std.specs.List.{flat_map}
 use Rattle.std.proofs.lemmas.List.Concat.{flat_map-cons}
 use Rattle.std.proofs.lemmas.List.{get_or-map}
 use Rattle.b3_base.specs.Observed.{Answer, Event, Memory, Observation, Start}
-use Rattle.b3_base.specs.Ranged.{IsRangedAnswer, IsRangedStart}
 use Rattle.b3_base.specs.Run.{iterate}
 use Rattle.b3_base.specs.declared.observation.Status.{Status}
 use Rattle.b3_base.specs.declared.observation.Status.TheVariants.{Going}
 use Rattle.b3_base.proofs.Run.{iterate-related}
 use Rattle.b3_ir.specs.Naming.{type_of}
-use Rattle.b3_ir.specs.Procedure.{Block, Procedure, no_block, values_of}
+use Rattle.b3_ir.specs.Procedure.{Procedure, no_block, values_of}
 use Rattle.b3_ir.specs.Table.{is_terminal}
 use Rattle.b3_ir.specs.declared.value.Value.{Value}
 use Rattle.b3_meaning.specs.Roles.{role_of}
 use Rattle.b3_meaning.specs.Run as b3
 use Rattle.b3_rules.specs.Paths.{successors_in}
-use Rattle.b3_sound.specs.Laws.{IsStarted, StandsAfter}
+use Rattle.b3_sound.specs.Laws.{IsStarted}
 use Rattle.b3_sound.proofs.Effects.{IsEffectOf}
 use Rattle.b3_sound.proofs.Keeping.{child_words, enters, goes_on, in_block}
 use Rattle.b3_sound.proofs.Kept.{EndsBlock, IsKept}
 use Rattle.b3_sound.proofs.Law.{effect_here, path_in}
 use Rattle.b3_sound.proofs.Reached.{IsReached}
 use Rattle.b3_sound.proofs.Rows.{is_ending, terminal_ends}
-use Rattle.air_ir.specs.Blocks.{At, Config, Lost, Stopped, block_of, block_step, entered, left, run_step, seen_as}
-use Rattle.air_ir.specs.Meaning.{Exit, Over, To, meaning}
+use Rattle.air_ir.specs.Blocks.{At, Config, Stopped, block_of, block_step, left, run_step, seen_as}
+use Rattle.air_ir.specs.Meaning.{Over, To, meaning}
 use Rattle.air_ir.specs.Run.{IsUndefined, observe}
-use Rattle.air_ir.specs.Steps.{Goes, Outcome, State, Undefined, go_on, steps}
+use Rattle.air_ir.specs.Steps.{Goes, Outcome, State, go_on, steps}
 use Rattle.air_ir.specs.declared.procedure.AirBlock.{AirBlock}
 use Rattle.air_ir.specs.declared.procedure.AirInst.{AirInst}
 use Rattle.air_ir.specs.declared.procedure.AirProc.{AirProc}
@@ -97,8 +96,11 @@ module _ (p : Procedure) (valid : IsKept p) (t : Tables) (sound : IsSound p t) (
     rw does.2 refl,
     ap (λ (l : List ℕ). slice_get l does.0) (targets_one v) ∙ does.3,
     does.4,
-    (b ∷ passed, subst (λ (s : b3.State). IsReached p (b ∷ passed) block [] s) (sym fits.2)
-    (enters p valid b passed before st v ([], is) reached block refl fits.0 fits.1)),
+    (
+      b ∷ passed,
+      subst (λ (s : b3.State). IsReached p (b ∷ passed) block [] s) (sym fits.2)
+          (enters p valid b passed before st v ([], is) reached block refl fits.0 fits.1),
+    ),
   )
   last_comes b passed before v st junk is reached ws (b3.End (b3.Over seen)) o fits does = (does.0, does.1, rw does.2 refl, does.3)
   last_comes b passed before v st junk is reached ws (b3.End (b3.Lost b3.Malformed)) o fits does = tt

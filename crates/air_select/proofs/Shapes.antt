@@ -1,5 +1,5 @@
 -- The children of a value, by what its row takes.
-use Rattle.std.proofs.Common.{◌≡◌, ℕ, ◌<◌, Bool, true, false, List, [], ◌∷◌, map, Option, Some, None, refl, sym, ap, ◌∙◌, subst}
+use Rattle.std.proofs.Common.{◌≡◌, ℕ, List, [], ◌∷◌, map, Option, Some, refl, sym, ap, ◌∙◌, subst}
 use Rattle.std.specs.Prelude.{Contains, slice_get}
 use Rattle.b3_ir.specs.Types.{AreTaken, IsTaken}
 use Rattle.b3_ir.specs.declared.opcode.Ty.{Ty}

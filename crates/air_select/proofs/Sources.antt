@@ -1,19 +1,17 @@
 -- An Upsilon copies its child's word to the location of its Phi, and a Trunc the low half of its child's word.
-use Rattle.std.proofs.Common.{◌≡◌, ◌≢◌, ℕ, ◌%◌, ◌^◌, ◌<◌, false, List, [], ◌∷◌, map, Option, Some, None, refl, sym, ap, ◌∙◌, subst, arith}
-use Rattle.std.specs.Prelude.{Contains, slice_get}
+use Rattle.std.proofs.Common.{◌≡◌, ℕ, ◌%◌, ◌^◌, false, List, [], ◌∷◌, map, Some, None, refl, sym, ap, ◌∙◌, subst, arith}
 use Rattle.b3_base.specs.Arithmetic.{low}
 use Rattle.b3_base.specs.Observed.{Start}
-use Rattle.b3_base.specs.Word.{bits}
 use Rattle.b3_base.specs.declared.word.Width.{Width}
 use Rattle.b3_base.specs.declared.word.Width.TheVariants.{W32, W64}
 use Rattle.b3_ir.specs.Fits.{IsTarget}
-use Rattle.b3_ir.specs.Naming.{type_of, type_or_void, value_named}
+use Rattle.b3_ir.specs.Naming.{type_of, type_or_void}
 use Rattle.b3_ir.specs.Procedure.{Procedure}
 use Rattle.b3_ir.specs.Types.{AllowsTypes, width_of}
 use Rattle.b3_ir.specs.declared.opcode.Opcode.{Opcode}
 use Rattle.b3_ir.specs.declared.opcode.Opcode.TheVariants as opcode
 use Rattle.b3_ir.specs.declared.opcode.Ty.{Ty}
-use Rattle.b3_ir.specs.declared.opcode.Ty.TheVariants.{Int32, Int64}
+use Rattle.b3_ir.specs.declared.opcode.Ty.TheVariants.{Int64}
 use Rattle.b3_ir.specs.declared.table.Takes.TheVariants.{Any, This}
 use Rattle.b3_ir.specs.declared.value.Body.{Body}
 use Rattle.b3_ir.specs.declared.value.Body.TheVariants.{Target}
@@ -25,19 +23,16 @@ use Rattle.b3_rules.specs.Rules.{SuitsPhi, types_of}
 use Rattle.air_ir.specs.Meaning.{meaning}
 use Rattle.air_ir.specs.Operands.{Empty, Held, Holds, read, word_of}
 use Rattle.air_ir.specs.Steps.{Goes, steps}
-use Rattle.air_ir.specs.declared.operand.Arg.{Arg}
-use Rattle.air_ir.specs.declared.operand.Arg.TheVariants.{At, Imm}
-use Rattle.air_select.specs.Foldable.{condition_fits, constant_fits}
+use Rattle.air_ir.specs.declared.operand.Arg.TheVariants.{At}
+use Rattle.air_select.specs.Foldable.{condition_fits}
 use Rattle.air_select.specs.Selected.{Tables, arg_of, folds, move, phi_in}
 use Rattle.air_select.specs.Tables.{child, home, location, width_at}
-use Rattle.air_select.specs.declared.known.Known.{Known}
 use Rattle.air_select.proofs.Children.{unfolded, width_is, word_small}
 use Rattle.air_select.proofs.Copied.{child_here, first_child, moved, place_of_child, row_of_role}
 use Rattle.air_select.proofs.Does.{Does, Here, allows, are_words, gives_does, here, puts, result_small, rules, words_here}
 use Rattle.air_select.proofs.Instructions.{at_home, with_home}
-use Rattle.air_select.proofs.Plain.{no_condition}
 use Rattle.air_select.proofs.Related.{holds_word, location_related}
-use Rattle.air_select.proofs.Shapes.{OneChild, one_child}
+use Rattle.air_select.proofs.Shapes.{one_child}
 
 target_is : (body : Body) → IsTarget body → (phi : ℕ) × (body ≡ Target phi)
 target_is (Target phi) is = (phi, refl)
