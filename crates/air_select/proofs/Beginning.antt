@@ -1,9 +1,9 @@
 -- The entry puts the arguments into their temporaries; and so the runs from a start are the same.
-use Rattle.std.proofs.Common.{◌≡◌, ◌≢◌, ℕ, zero, suc, ◌+◌, ◌*◌, ◌^◌, ◌<◌, ◌≤◌, ◌⊎◌, inl, inr, Bool, true, false, List, [], ◌∷◌, ◌++◌, map, length, Option, Some, None, refl, sym, ap, ◌∙◌, subst, arith}
-use Rattle.std.specs.Prelude.{All, Contains, if◌then◌else◌, slice_get, slice_index_or}
+use Rattle.std.proofs.Common.{◌≡◌, ℕ, zero, suc, ◌+◌, ◌*◌, ◌<◌, ◌≤◌, inl, inr, Bool, true, false, List, [], ◌∷◌, ◌++◌, map, length, Some, None, refl, sym, ap, ◌∙◌, subst, arith}
+use Rattle.std.specs.Prelude.{if◌then◌else◌, slice_index_or}
 use Rattle.std.proofs.lemmas.Bool.{cases_eq, lt-ltb}
 use Rattle.b3_base.specs.Observed.{Answer, Start}
-use Rattle.b3_base.specs.Ranged.{IsRangedAnswer, IsRangedStart}
+use Rattle.b3_base.specs.Ranged.{IsRangedStart}
 use Rattle.b3_base.specs.Run.{iterate}
 use Rattle.b3_base.specs.declared.word.Width.TheVariants.{W64}
 use Rattle.b3_ir.specs.Procedure.{Procedure, values_of}
@@ -12,22 +12,20 @@ use Rattle.b3_meaning.specs.Run as b3
 use Rattle.b3_sound.specs.Laws.{IsStarted}
 use Rattle.b3_sound.proofs.Kept.{IsKept}
 use Rattle.b3_sound.proofs.Law.{run_sound}
-use Rattle.b3_sound.proofs.Reached.{IsReached, IsSound as IsReachable}
-use Rattle.air_ir.specs.Blocks.{At, Config, block_of, block_step, entered, left, run_step}
+use Rattle.b3_sound.proofs.Reached.{IsReached}
+use Rattle.air_ir.specs.Blocks.{At, Config, block_of, block_step, left, run_step}
 use Rattle.air_ir.specs.Meaning.{To, World, gives, leaves, meaning}
-use Rattle.air_ir.specs.Operands.{Held, Holds, Homes, put, read, words}
-use Rattle.air_ir.specs.Run.{HasBlocksOf, first_homes, IsUndefined, SameAtEach, air_run, first, observe, run_of}
-use Rattle.air_ir.specs.Steps.{Goes, Outcome, State, go_on, steps}
+use Rattle.air_ir.specs.Operands.{Held, Holds, Homes, put, read}
+use Rattle.air_ir.specs.Run.{HasBlocksOf, first_homes, IsUndefined, air_run, first}
+use Rattle.air_ir.specs.Steps.{Goes, State, go_on, steps}
 use Rattle.air_ir.specs.declared.op.AirOp.TheVariants as op
 use Rattle.air_ir.specs.declared.operand.Arg.TheVariants.{At as Stands}
-use Rattle.air_ir.specs.declared.operand.Home.{Home}
-use Rattle.air_ir.specs.declared.operand.Home.TheVariants.{Reg, Tmp}
+use Rattle.air_ir.specs.declared.operand.Home.TheVariants.{Tmp}
 use Rattle.air_ir.specs.declared.procedure.AirBlock.{AirBlock}
-use Rattle.air_ir.specs.declared.procedure.AirInst.{AirInst}
 use Rattle.air_ir.specs.declared.procedure.AirProc.{AirProc}
 use Rattle.air_ir.proofs.Same.{same_at_each}
-use Rattle.air_ir.proofs.Stepping.{steps-append, steps-one}
-use Rattle.air_select.specs.Selected.{Tables, argument_move, argument_moves, block_code, def_at, entry_inst, entry_of, last_id, names_argument, register, selected_by, use_at}
+use Rattle.air_ir.proofs.Stepping.{steps-append}
+use Rattle.air_select.specs.Selected.{Tables, argument_move, argument_moves, block_code, def_at, entry_inst, entry_of, last_id, names_argument, register}
 use Rattle.air_select.specs.Tables.{argument}
 use Rattle.air_select.proofs.Does.{HasArguments}
 use Rattle.air_select.proofs.Instructions.{at_home, one_leave, one_word, reads_def, reads_none, reads_use, steps_last, with_home, writes_def, writes_none, writes_use}
@@ -69,8 +67,10 @@ module _ (t : Tables) (vs : List Value) (start : Start) (ranged : IsRangedStart 
     kept = λ r few. put_other s.homes (3 * length t.index.ids + n) r (Holds W64 (start.arguments n)) ∙ e.kept r few;
     done = λ r few names. elim (cases_eq r n) [
       | inl same ↦
-          subst (λ (k : ℕ). read W64 (put s.homes (argument t.index n) (Holds W64 (start.arguments n)) (argument t.index k)) ≡ Some (start.arguments k)) (sym same)
-          (ap (read W64) (put_here s.homes (3 * length t.index.ids + n) (Holds W64 (start.arguments n))) ∙ holds_word W64 (start.arguments n) (ranged.arguments n))
+          subst (λ (k : ℕ). read W64 (put s.homes (argument t.index n) (Holds W64 (start.arguments n)) (argument t.index k)) ≡ Some (start.arguments k))
+          (sym same)
+          (ap (read W64) (put_here s.homes (3 * length t.index.ids + n) (Holds W64 (start.arguments n)))
+          ∙ holds_word W64 (start.arguments n) (ranged.arguments n))
       | inr differ ↦
           ap (read W64) (put_there s.homes (3 * length t.index.ids + n) (3 * length t.index.ids + r) (Holds W64 (start.arguments n)) (omega arith))
           ∙ e.done r (omega arith) names
@@ -92,10 +92,12 @@ module _ (t : Tables) (vs : List Value) (start : Start) (ranged : IsRangedStart 
   steps_nothing s = refl
 
   one_argument : (n : ℕ) (s : State) → n < 8 → Entered n s
-      → (s' : State) × (steps (meaning start) (if names_argument vs n then argument_move t.index value n ∷ [] else []) s junk ≡ (Goes None s', junk)) × Entered (suc n) s'
+      → (s' : State) × (steps (meaning start) (if names_argument vs n then argument_move t.index value n ∷ [] else [])
+      s junk ≡ (Goes None s', junk)) × Entered (suc n) s'
   one_argument n s lt e = go (names_argument vs n) refl
     where
-      go : (b : Bool) → names_argument vs n ≡ b → (s' : State) × (steps (meaning start) (if b then argument_move t.index value n ∷ [] else []) s junk ≡ (Goes None s', junk)) × Entered (suc n) s'
+      go : (b : Bool) → names_argument vs n ≡ b → (s' : State) × (steps (meaning start) (if b then argument_move t.index value n ∷ [] else [])
+          s junk ≡ (Goes None s', junk)) × Entered (suc n) s'
       go true names = (with_home s (argument t.index n) W64 (start.arguments n), move_run n s lt e, one_more n s lt e)
       go false names = (s, steps_nothing s, none_more n s names e)
 
@@ -114,14 +116,16 @@ module _ (t : Tables) (vs : List Value) (start : Start) (ranged : IsRangedStart 
   unfolding meaning
   jump_means w = refl
 
-  pub entry_run : (s : State) × (steps (meaning start) (argument_moves t.index vs value 8 ++ entry_inst value op.Jump [] ∷ []) s₀ junk ≡ (Goes (Some (To 0)) s, junk)) × Entered 8 s
+  pub entry_run : (s : State) × (steps (meaning start) (argument_moves t.index vs value 8 ++ entry_inst value op.Jump [] ∷ [])
+      s₀ junk ≡ (Goes (Some (To 0)) s, junk)) × Entered 8 s
   entry_run =
       let moves = moves_run 8 (omega arith) in
       let jump = entry_inst value op.Jump [] in (
         moves.0,
         steps-append (meaning start) (argument_moves t.index vs value 8) (jump ∷ []) s₀ junk
             ∙ ap (go_on (meaning start) (steps (meaning start) (jump ∷ []))) moves.1
-            ∙ steps_last start jump moves.0 junk (Goes (Some (To 0)) moves.0, junk) (one_leave start jump moves.0 junk [] (To 0) (reads_none (moves.0).homes) (jump_means (moves.0).world) writes_none),
+            ∙ steps_last start jump moves.0 junk (Goes (Some (To 0)) moves.0, junk)
+            (one_leave start jump moves.0 junk [] (To 0) (reads_none (moves.0).homes) (jump_means (moves.0).world) writes_none),
         moves.2,
       )
 
@@ -162,25 +166,31 @@ module _ (p : Procedure) (valid : IsKept p) (t : Tables) (sound : IsSound p t) (
     unfolding iterate b3_state
     first_reached = run_sound p valid start answers started 0
 
-    after_first : (junk : List ℕ) → Alike p valid t sound built names_none has_arguments start answers started junk (b3.block_step p start (b3.first start answers)) (run_step (meaning start) q (first start answers, junk))
+    after_first : (junk : List ℕ) → Alike p valid t sound built names_none has_arguments start answers started junk
+        (b3.block_step p start (b3.first start answers)) (run_step (meaning start) q (first start answers, junk))
     unfolding run_step b3_state
     after_first junk =
         let entry = entered_at junk in
         let reached = first_reached in
-        subst (λ (x : Config × List ℕ). Alike p valid t sound built names_none has_arguments start answers started junk (b3.block_step p start (b3.first start answers)) (block_step (meaning start) q x)) (sym entry.1)
-        (block_alike p valid t sound built names_none has_arguments start answers started q (entry_of t.index (values_of p 0)) blocks_are junk 0 b3_state entry.0 entry.2 reached.0 reached.1)
+        subst (λ (x : Config × List ℕ). Alike p valid t sound built names_none has_arguments start answers started junk
+        (b3.block_step p start (b3.first start answers)) (block_step (meaning start) q x)) (sym entry.1)
+        (block_alike p valid t sound built names_none has_arguments start answers started q (entry_of t.index (values_of p 0))
+        blocks_are junk 0 b3_state entry.0 entry.2 reached.0 reached.1)
 
     same_after : (junk : List ℕ) (n : ℕ) → ¬ (IsUndefined (b3.b3_run p start answers n)) → air_run q start answers junk n ≡ b3.b3_run p start answers n
     unfolding iterate
     same_after junk zero defined = refl
     same_after junk (suc n) defined =
-        seen_alike p valid t sound built names_none has_arguments start answers started junk (iterate (b3.block_step p start) n (b3.block_step p start (b3.first start answers)))
+        seen_alike p valid t sound built names_none has_arguments start answers started junk
+        (iterate (b3.block_step p start) n (b3.block_step p start (b3.first start answers)))
         (iterate (run_step (meaning start) q) n (run_step (meaning start) q (first start answers, junk)))
-        (runs_alike p valid t sound built names_none has_arguments start answers started q (entry_of t.index (values_of p 0)) blocks_are junk n (b3.block_step p start (b3.first start answers))
+        (runs_alike p valid t sound built names_none has_arguments start answers started q (entry_of t.index (values_of p 0)) blocks_are junk n
+        (b3.block_step p start (b3.first start answers))
         (run_step (meaning start) q (first start answers, junk)) (after_first junk))
         defined
 
   pub same_blocks : HasBlocksOf p q
   same_blocks start answers ranged ranged_answers slots =
       let started : IsStarted p start answers = record { start_in_range = ranged; answers_in_range = ranged_answers; slots = slots } in
-      same_at_each (λ (x : Unit {0}). b3.b3_run p start answers) (air_run q start answers) (λ junk n never. (tt, same_after start answers started junk n (never tt)))
+      same_at_each (λ (x : Unit {0}). b3.b3_run p start answers) (air_run q start answers)
+      (λ junk n never. (tt, same_after start answers started junk n (never tt)))

@@ -1,5 +1,5 @@
 -- What a value's instructions read of its children.
-use Rattle.std.proofs.Common.{◌≡◌, ◌≢◌, ℕ, zero, suc, ◌+◌, ◌^◌, ◌<◌, ◌⊎◌, inl, inr, Bool, true, false, ◌&&◌, List, [], ◌∷◌, ◌++◌, map, Option, Some, None, nat_eq, refl, sym, ap, ◌∙◌, subst, ⊎_elim}
+use Rattle.std.proofs.Common.{◌≡◌, ℕ, ◌^◌, ◌<◌, ◌⊎◌, inl, inr, Bool, true, false, ◌&&◌, List, [], ◌∷◌, ◌++◌, map, Option, Some, None, nat_eq, refl, sym, ap, ◌∙◌, subst}
 use Rattle.std.specs.Prelude.{Contains, if◌then◌else◌, nat_lt, slice_get}
 use Rattle.std.proofs.lemmas.Bool.{eqb-true}
 use Rattle.b3_base.specs.Arithmetic.{low}
@@ -9,32 +9,27 @@ use Rattle.b3_base.specs.declared.word.Width.{Width}
 use Rattle.b3_ir.specs.Fits.{reported_count}
 use Rattle.b3_ir.specs.Naming.{type_of}
 use Rattle.b3_ir.specs.Procedure.{Procedure, values_of}
-use Rattle.b3_ir.specs.Types.{AreTaken, IsTaken, allows_types, AllowsTypes, width_of}
+use Rattle.b3_ir.specs.Types.{width_of}
 use Rattle.b3_ir.specs.declared.opcode.Opcode.{Opcode}
 use Rattle.b3_ir.specs.declared.opcode.Ty.{Ty}
-use Rattle.b3_ir.specs.declared.table.Takes.{Takes}
-use Rattle.b3_ir.specs.declared.table.More.TheVariants.{NoMore}
-use Rattle.b3_ir.specs.declared.value.Body.TheVariants.{Constant}
 use Rattle.b3_ir.specs.declared.value.Value.{Value}
 use Rattle.b3_ir.proofs.Typing.{allowed}
 use Rattle.b3_meaning.specs.Run as b3
 use Rattle.b3_rules.specs.Paths.{HasRun}
 use Rattle.b3_rules.specs.Rules.{types_of}
-use Rattle.b3_sound.specs.Laws.{StandsAfter}
-use Rattle.b3_sound.proofs.Distinct.{stands, type_of_value}
-use Rattle.b3_sound.proofs.Keeping.{in_block, ran_in_block}
+use Rattle.b3_sound.proofs.Distinct.{stands}
+use Rattle.b3_sound.proofs.Keeping.{ran_in_block}
 use Rattle.b3_sound.proofs.Kept.{IsKept}
 use Rattle.b3_sound.proofs.Lists.{contains_head, contains_tail}
 use Rattle.b3_sound.proofs.Reached.{IsReached}
 use Rattle.b3_sound.proofs.Rows.{IsRow, row_by_role}
 use Rattle.air_ir.specs.Operands.{Read, word_of, words}
 use Rattle.air_ir.specs.Steps.{State}
-use Rattle.air_ir.specs.declared.operand.Arg.{Arg}
 use Rattle.air_ir.specs.declared.operand.Arg.TheVariants.{At, Imm}
 use Rattle.air_ir.specs.declared.operand.Operand.{Operand}
 use Rattle.air_select.specs.Foldable.{condition_fits, constant_fits, fits, is_constant}
 use Rattle.air_select.specs.Selected.{Tables, arg_of, folds, use_of}
-use Rattle.air_select.specs.Tables.{child, home, known, known_in, width_at, word_in}
+use Rattle.air_select.specs.Tables.{home, known, width_at, word_in}
 use Rattle.air_select.specs.declared.known.Known.{Known}
 use Rattle.air_select.proofs.Facts.{Ran, body_below, constant_role}
 use Rattle.air_select.proofs.Instructions.{at_home, of_immediate, reads_use}
@@ -87,7 +82,8 @@ pub fit_cases : (t : Tables) (b : ℕ) (op : Opcode) (i id : ℕ) → fits t.ind
 fit_cases t b op i id e = go (is_constant (known t.index id).opcode) refl e
   where
     go : (c : Bool) → is_constant (known t.index id).opcode ≡ c
-        → (if c then constant_fits op i (width_at t.index id) (known t.index id).word else (nat_eq b (known t.index id).block && condition_fits t.index op i (known t.index id))) ≡ true
+        → (if c then constant_fits op i (width_at t.index id) (known t.index id).word else
+        (nat_eq b (known t.index id).block && condition_fits t.index op i (known t.index id))) ≡ true
         → FitsAsConstant t op i id ⊎ FitsAsCondition t b op i id
     go true ec e = inl (record { constant = ec; fits = e })
     go false ec e =
@@ -139,12 +135,14 @@ module _ (p : Procedure) (valid : IsKept p) (t : Tables) (sound : IsSound p t) (
         let at = stands p c d in_c in
         let rules = valid.rules c at.0 d at.1 in
         let role = constant_role d.kind.opcode const in
-        let row = row_by_role d.kind.opcode d.ty (types_of p d) (reported_count d) d.body (allowed d.kind.opcode d.ty (types_of p d) rules.typed) rules.fits.body in
+        let row = row_by_role d.kind.opcode d.ty (types_of p d) (reported_count d) d.body (allowed d.kind.opcode d.ty (types_of p d) rules.typed)
+        rules.fits.body in
         let body = body_below (2 ^ bits (width_of d.ty)) d.body (subst (λ q. IsRow q d.ty (types_of p d) d.body) role row) in
         ap (λ (k : Known). k.word) (sound.is_known c d in_c) ∙ some_is (word_in d.body) w (sym (reached.constants d (word_in d.body) ran role body.0) ∙ now)
 
     -- what is known of a constant that has run is its word
-    pub known_word : (id w : ℕ) → Ran p valid passed before id → is_constant (known t.index id).opcode ≡ true → st.words id ≡ Some w → (known t.index id).word ≡ w
+    pub known_word : (id w : ℕ) → Ran p valid passed before id → is_constant (known t.index id).opcode ≡ true → st.words id ≡ Some w
+        → (known t.index id).word ≡ w
     known_word id w ran const now =
         let c = ran_in_block p b passed before rest is ran.0 ran.2 in
         subst (λ (q : ℕ). st.words q ≡ Some w → is_constant (known t.index q).opcode ≡ true → (known t.index q).word ≡ w) ran.1
@@ -159,14 +157,16 @@ module _ (p : Procedure) (valid : IsKept p) (t : Tables) (sound : IsSound p t) (
         go false e = at_home s.homes (width_at t.index id) (home t.index id) w (r.words id w now e)
         go true e =
             of_immediate s.homes (width_at t.index id) (known t.index id).word
-            ∙ ap (λ n. Some (low (width_at t.index id) n)) (known_word id w ran (reads e) now) ∙ ap Some (low_word (width_at t.index id) w (word_small id w now))
+            ∙ ap (λ n. Some (low (width_at t.index id) n)) (known_word id w ran (reads e) now)
+            ∙ ap Some (low_word (width_at t.index id) w (word_small id w now))
 
     -- the words that the uses of some ids read
     abbrev pub typed : List ℕ → List ℕ → List Read
     typed (c ∷ cs) (w ∷ ws) = (width_at t.index c, w) ∷ typed cs ws
     typed _ _ = []
 
-    pub children_words : (cs ws : List ℕ) (os : List Operand) (more : List Read) → ((id : ℕ) → Contains cs id → Ran p valid passed before id) → ((id : ℕ) → Contains cs id → IsReadable t id)
+    pub children_words : (cs ws : List ℕ) (os : List Operand) (more : List Read) → ((id : ℕ) → Contains cs id → Ran p valid passed before id)
+        → ((id : ℕ) → Contains cs id → IsReadable t id)
         → b3.words_of (type_of p) st.words cs ≡ Some ws → words s.homes os ≡ Some more
         → words s.homes (map (use_of t) cs ++ os) ≡ Some (typed cs ws ++ more)
     children_words [] ws os more ran reads now others = others ∙ ap (λ (l : List ℕ). Some (typed [] l ++ more)) (sym (words_nil (type_of p) st.words ws now))

@@ -1,49 +1,46 @@
 -- The values that copy a word.
-use Rattle.std.proofs.Common.{◌≡◌, ◌≢◌, ℕ, zero, suc, ◌+◌, ◌%◌, ◌^◌, ◌<◌, ◌⊎◌, inl, inr, Bool, true, false, List, [], ◌∷◌, ◌++◌, map, Option, Some, None, refl, sym, ap, ◌∙◌, subst, arith}
-use Rattle.std.specs.Prelude.{Contains, slice_get, if◌then◌else◌}
+use Rattle.std.proofs.Common.{◌≡◌, ℕ, ◌^◌, ◌<◌, false, List, [], ◌∷◌, Option, Some, None, refl, sym, ap, ◌∙◌, subst}
+use Rattle.std.specs.Prelude.{Contains, slice_get}
 use Rattle.b3_base.specs.Arithmetic.{low}
 use Rattle.b3_base.specs.Observed.{Start}
 use Rattle.b3_base.specs.Word.{bits}
 use Rattle.b3_base.specs.declared.word.Width.{Width}
-use Rattle.b3_base.specs.declared.word.Width.TheVariants.{W32, W64}
-use Rattle.b3_ir.specs.Fits.{IsArgument, IsConstantBelow, IsTarget, reported_count}
-use Rattle.b3_ir.specs.Naming.{type_of, type_or_void, value_named}
-use Rattle.b3_ir.specs.Procedure.{Procedure, values_of}
+use Rattle.b3_base.specs.declared.word.Width.TheVariants.{W64}
+use Rattle.b3_ir.specs.Fits.{IsArgument, IsConstantBelow, reported_count}
+use Rattle.b3_ir.specs.Naming.{type_of}
+use Rattle.b3_ir.specs.Procedure.{Procedure}
 use Rattle.b3_ir.specs.Types.{AllowsTypes, width_of}
 use Rattle.b3_ir.specs.declared.opcode.Opcode.{Opcode}
 use Rattle.b3_ir.specs.declared.opcode.Opcode.TheVariants as opcode
-use Rattle.b3_ir.specs.declared.opcode.Ty.{Ty}
-use Rattle.b3_ir.specs.declared.opcode.Ty.TheVariants.{Int32, Int64}
-use Rattle.b3_ir.specs.declared.table.Takes.TheVariants.{Alike, Any, This}
+use Rattle.b3_ir.specs.declared.table.Takes.TheVariants.{Alike}
 use Rattle.b3_ir.specs.declared.value.Body.{Body}
-use Rattle.b3_ir.specs.declared.value.Body.TheVariants.{Argument, Constant, Target}
+use Rattle.b3_ir.specs.declared.value.Body.TheVariants.{Argument, Constant}
 use Rattle.b3_ir.specs.declared.value.Reg.{Reg}
 use Rattle.b3_ir.specs.declared.value.Value.{Value}
-use Rattle.b3_meaning.specs.Opcodes.{Gives, Outcome, Undefines, result}
+use Rattle.b3_meaning.specs.Opcodes.{Gives, result}
 use Rattle.b3_meaning.specs.Roles.{role_of}
 use Rattle.b3_meaning.specs.Run as b3
-use Rattle.b3_meaning.specs.declared.role.Role.TheVariants as role
-use Rattle.b3_rules.specs.Rules.{SuitsPhi, types_of}
-use Rattle.b3_sound.proofs.Lists.{contains_head, contains_tail}
+use Rattle.b3_rules.specs.Rules.{types_of}
+use Rattle.b3_sound.proofs.Lists.{contains_head}
 use Rattle.b3_sound.proofs.Rows.{IsRow, row_by_role}
 use Rattle.air_ir.specs.Meaning.{gives, meaning}
-use Rattle.air_ir.specs.Operands.{Held, Holds, Read, read, word_of}
+use Rattle.air_ir.specs.Operands.{read, word_of}
 use Rattle.air_ir.specs.Steps.{Goes, State, steps}
 use Rattle.air_ir.specs.declared.op.AirOp.TheVariants as op
 use Rattle.air_ir.specs.declared.operand.Arg.{Arg}
 use Rattle.air_ir.specs.declared.operand.Arg.TheVariants.{At, Imm}
 use Rattle.air_ir.specs.declared.operand.Home.{Home}
 use Rattle.air_select.specs.Foldable.{condition_fits}
-use Rattle.air_select.specs.Selected.{Tables, arg_of, computes, copied, copy_of, def_at, folds, move, phi_in, register_in, use_at}
-use Rattle.air_select.specs.Tables.{argument, child, home, location, width_at, word_in}
+use Rattle.air_select.specs.Selected.{Tables, arg_of, computes, def_at, move, register_in}
+use Rattle.air_select.specs.Tables.{argument, home, location, width_at, word_in}
 use Rattle.air_select.specs.declared.known.Known.{Known}
-use Rattle.air_select.proofs.Children.{child_word, readable, unfolded, width_is, word_small}
-use Rattle.air_select.proofs.Does.{Does, Here, allows, are_typed, are_words, at, gives_does, here, is_known, named, puts, result_small, rules, words_here}
-use Rattle.air_select.proofs.Facts.{Ran, child_ran}
+use Rattle.air_select.proofs.Children.{child_word, readable, width_is}
+use Rattle.air_select.proofs.Does.{Does, Here, allows, are_words, at, gives_does, here, is_known, puts, result_small, rules, words_here}
+use Rattle.air_select.proofs.Facts.{child_ran}
 use Rattle.air_select.proofs.Instructions.{at_home, of_immediate, one_word, reads_def, reads_use, steps_last, with_home, writes_def, writes_use}
-use Rattle.air_select.proofs.Plain.{copying, no_condition, over_does, reads, reads_words}
-use Rattle.air_select.proofs.Related.{Related, location_related, low_word, holds_word}
-use Rattle.air_select.proofs.Shapes.{OneChild, one_child}
+use Rattle.air_select.proofs.Plain.{copying, over_does, reads, reads_words}
+use Rattle.air_select.proofs.Related.{low_word}
+use Rattle.air_select.proofs.Shapes.{one_child}
 
 -- ---- a move
 
@@ -71,9 +68,11 @@ module _ (p : Procedure) (t : Tables) (start : Start) (v : Value) (h : Here p t 
   constant_gives limit _ w below e = absurd below
 
   pub constant_does : (junk : List ℕ) → IsConstantBelow (2 ^ bits (width_of v.ty)) v.body
-      → Does p t start v junk (b3.gives h.st v.id (b3.constant_of v.body)) (steps (meaning start) (move v (width_of v.ty) (Imm (word_in v.body)) (home t.index v.id) ∷ []) h.s junk)
+      → Does p t start v junk (b3.gives h.st v.id (b3.constant_of v.body))
+      (steps (meaning start) (move v (width_of v.ty) (Imm (word_in v.body)) (home t.index v.id) ∷ []) h.s junk)
   constant_does junk below =
-      gives_does p t start v h junk (b3.constant_of v.body) (steps (meaning start) (move v (width_of v.ty) (Imm (word_in v.body)) (home t.index v.id) ∷ []) h.s junk)
+      gives_does p t start v h junk (b3.constant_of v.body)
+      (steps (meaning start) (move v (width_of v.ty) (Imm (word_in v.body)) (home t.index v.id) ∷ []) h.s junk)
       (λ w e.
       let is = constant_gives (2 ^ bits (width_of v.ty)) v.body w below e in
       puts p t start v h junk w h.s (steps (meaning start) (move v (width_of v.ty) (Imm (word_in v.body)) (home t.index v.id) ∷ []) h.s junk) is.1 h.related
@@ -82,12 +81,14 @@ module _ (p : Procedure) (t : Tables) (start : Start) (v : Value) (h : Here p t 
 
   -- ---- arguments
 
-  argument_gives : (body : Body) (w : ℕ) → IsArgument body → b3.argument_of start body ≡ Gives w → (reg : Reg) × (body ≡ Argument reg) × (start.arguments reg.0 ≡ w)
+  argument_gives : (body : Body) (w : ℕ) → IsArgument body → b3.argument_of start body ≡ Gives w
+      → (reg : Reg) × (body ≡ Argument reg) × (start.arguments reg.0 ≡ w)
   argument_gives (Argument reg) w is e = (reg, refl, let same : start.arguments reg.0 ≡ w = cc in same)
   argument_gives _ w is e = absurd is
 
   pub argument_does : (junk : List ℕ) → v.kind.opcode ≡ opcode.ArgumentReg
-      → Does p t start v junk (b3.gives h.st v.id (b3.argument_of start v.body)) (steps (meaning start) (move v W64 (At (argument t.index (register_in v.body))) (home t.index v.id) ∷ []) h.s junk)
+      → Does p t start v junk (b3.gives h.st v.id (b3.argument_of start v.body))
+      (steps (meaning start) (move v W64 (At (argument t.index (register_in v.body))) (home t.index v.id) ∷ []) h.s junk)
   argument_does junk eo =
       let is_row = row_of_role opcode.ArgumentReg eo in
       let code = move v W64 (At (argument t.index (register_in v.body))) (home t.index v.id) ∷ [] in
@@ -98,7 +99,8 @@ module _ (p : Procedure) (t : Tables) (start : Start) (v : Value) (h : Here p t 
       let wide : W64 ≡ width_of v.ty = ap width_of (sym is_row.0) in
       let reads : word_of h.s.homes W64 (At (argument t.index (register_in v.body))) ≡ Some w =
       at_home h.s.homes W64 (argument t.index (register_in v.body)) w
-      (ap (λ (b : Body). read W64 (h.s.homes (argument t.index (register_in b)))) given.1 ∙ h.related.arguments (given.0).0 names.0 names.1 ∙ ap Some given.2) in
+      (ap (λ (b : Body). read W64 (h.s.homes (argument t.index (register_in b)))) given.1 ∙ h.related.arguments (given.0).0 names.0 names.1
+      ∙ ap Some given.2) in
       let small : w < 2 ^ bits (width_of v.ty) =
       subst (λ (k : Width). w < 2 ^ bits k) wide (subst (λ n. n < 2 ^ 64) given.2 (h.ranged.arguments (given.0).0)) in
       puts p t start v h junk w h.s (steps (meaning start) code h.s junk) small h.related
@@ -112,14 +114,16 @@ module _ (p : Procedure) (t : Tables) (start : Start) (v : Value) (h : Here p t 
   loaded_gives None w e = absurd (cc)
 
   pub phi_does : (junk : List ℕ)
-      → Does p t start v junk (b3.gives h.st v.id (b3.loaded_phi (h.st.locations v.id))) (steps (meaning start) (move v (width_of v.ty) (At (location t.index v.id)) (home t.index v.id) ∷ []) h.s junk)
+      → Does p t start v junk (b3.gives h.st v.id (b3.loaded_phi (h.st.locations v.id)))
+      (steps (meaning start) (move v (width_of v.ty) (At (location t.index v.id)) (home t.index v.id) ∷ []) h.s junk)
   phi_does junk =
       let code = move v (width_of v.ty) (At (location t.index v.id)) (home t.index v.id) ∷ [] in
       gives_does p t start v h junk (b3.loaded_phi (h.st.locations v.id)) (steps (meaning start) code h.s junk)
       (λ w e.
       let now = loaded_gives (h.st.locations v.id) w e in
       let small : w < 2 ^ bits (width_of v.ty) =
-      subst (λ (k : Width). w < 2 ^ bits k) (sym (width_is p h.valid t h.sound start h.passed h.block h.before (v ∷ h.rest) h.stands h.st h.reached h.s h.related v.id) ∙ is_known p t start v h)
+      subst (λ (k : Width). w < 2 ^ bits k) (sym (width_is p h.valid t h.sound start h.passed h.block h.before (v ∷ h.rest)
+      h.stands h.st h.reached h.s h.related v.id) ∙ is_known p t start v h)
       (h.reached.ranged.locations v.id w now) in
       puts p t start v h junk w h.s (steps (meaning start) code h.s junk) small h.related
       (moved h.s junk (width_of v.ty) (At (location t.index v.id)) (home t.index v.id) w
@@ -135,7 +139,8 @@ module _ (p : Procedure) (t : Tables) (start : Start) (v : Value) (h : Here p t 
   first_child c more e = subst (λ (l : List ℕ). Contains l c) (sym e) (contains_head c more)
 
   -- the word of a child, in a use that isn't a condition
-  pub child_here : (i c w : ℕ) → slice_get v.children i ≡ Some c → Contains v.children c → h.st.words c ≡ Some w → ((k : Known) → condition_fits t.index v.kind.opcode i k ≡ false)
+  pub child_here : (i c w : ℕ) → slice_get v.children i ≡ Some c → Contains v.children c → h.st.words c ≡ Some w
+      → ((k : Known) → condition_fits t.index v.kind.opcode i k ≡ false)
       → word_of h.s.homes (width_at t.index c) (arg_of t c) ≡ Some w
   child_here i c w there has now none =
       child_word p h.valid t h.sound start h.passed h.block h.before (v ∷ h.rest) h.stands h.st h.reached h.s h.related c w
@@ -143,14 +148,17 @@ module _ (p : Procedure) (t : Tables) (start : Start) (v : Value) (h : Here p t 
       (readable p h.valid t h.sound start h.block v (here p t start v h) i c there none) now
 
   pub identity_does : (junk : List ℕ) → v.kind.opcode ≡ opcode.Identity
-      → Does p t start v junk (b3.gives h.st v.id (result v.kind.opcode v.kind.chill v.ty (words_here p t start v h) (types_of p v))) (steps (meaning start) (computes t v op.Move) h.s junk)
+      → Does p t start v junk (b3.gives h.st v.id (result v.kind.opcode v.kind.chill v.ty (words_here p t start v h) (types_of p v)))
+      (steps (meaning start) (computes t v op.Move) h.s junk)
   identity_does junk eo =
       let ws = words_here p t start v h in
       gives_does p t start v h junk (result v.kind.opcode v.kind.chill v.ty ws (types_of p v)) (steps (meaning start) (computes t v op.Move) h.s junk)
       (λ w g.
       let allowed = subst (λ (q : Opcode). AllowsTypes q v.ty (types_of p v)) eo (allows p t start v h) in
       let shape = one_child (type_of p) h.st.words allowed.alike Alike v.children ws allowed.children (are_words p t start v h) in
-      let same : shape.wx ≡ w = same_word shape.wx w (ap (λ (l : List ℕ). result opcode.Identity v.kind.chill v.ty l (types_of p v)) (sym shape.words) ∙ ap (λ (q : Opcode). result q v.kind.chill v.ty ws (types_of p v)) (sym eo) ∙ g) in
+      let same : shape.wx ≡ w = same_word shape.wx w
+      (ap (λ (l : List ℕ). result opcode.Identity v.kind.chill v.ty l (types_of p v)) (sym shape.words)
+      ∙ ap (λ (q : Opcode). result q v.kind.chill v.ty ws (types_of p v)) (sym eo) ∙ g) in
       over_does p t start v h junk opcode.Identity op.Move w eo refl (result_small p t start v h w (ap role_of eo) g)
       (copying p t start v h op.Move v.id (reads p t start v h v.children ws) h.s.world refl
       ∙ ap (gives h.s.world) (reads_words p t start v h v.children ws (are_words p t start v h) ∙ shape.words ∙ ap (λ n. n ∷ []) same)))

@@ -1,14 +1,13 @@
 -- A condition: the test of a Branch or a Select passes exactly where the word of its child isn't 0.
-use Rattle.std.proofs.Common.{◌≡◌, ◌≢◌, ℕ, zero, suc, ◌+◌, ◌*◌, ◌^◌, ◌<◌, ◌⊎◌, inl, inr, Bool, true, false, ◌&&◌, ◌||◌, List, [], ◌∷◌, ◌++◌, map, Option, Some, None, nat_eq, refl, sym, ap, ◌∙◌, subst, arith, ⊎_elim}
+use Rattle.std.proofs.Common.{◌≡◌, ◌≢◌, ℕ, zero, suc, ◌*◌, ◌^◌, ◌<◌, ◌⊎◌, inl, inr, Bool, true, false, ◌&&◌, ◌||◌, List, [], ◌∷◌, ◌++◌, map, Some, nat_eq, refl, sym, ap, ◌∙◌, subst, arith, ⊎_elim}
 use Rattle.std.specs.Prelude.{Contains, if◌then◌else◌, not, slice_get}
 use Rattle.std.specs.Int.{bit_at}
 use Rattle.std.specs.Int.Bits.{bit_and}
-use Rattle.std.proofs.lemmas.Bool.{eq-eqb, eqb-true, ne_eqb}
+use Rattle.std.proofs.lemmas.Bool.{eqb-true, ne_eqb}
 use Rattle.std.proofs.lemmas.List.Elements.{All-contains, Contains-append_left}
 use Rattle.std.proofs.lemmas.Nat.{pow_pos}
 use Rattle.std.proofs.lemmas.Nat.Bits.{and_pow, bit_at-lt}
 use Rattle.b3_base.specs.Observed.{Start}
-use Rattle.b3_base.specs.Word.{bits}
 use Rattle.b3_base.specs.declared.word.Width.{Width}
 use Rattle.b3_ir.specs.Naming.{type_of}
 use Rattle.b3_ir.specs.Procedure.{Procedure, values_of}
@@ -29,36 +28,33 @@ use Rattle.b3_rules.specs.Rules.{types_of}
 use Rattle.b3_sound.specs.Laws.{HasResult, StandsAfter}
 use Rattle.b3_sound.proofs.Arriving.{first_arrival}
 use Rattle.b3_sound.proofs.Distinct.{stands}
-use Rattle.b3_sound.proofs.Keeping.{in_block}
-use Rattle.a64_inst.specs.declared.inst.Cond.{Cond}
 use Rattle.air_ir.specs.Meaning as air
 use Rattle.air_ir.specs.Operands.{Homes, Read, targets, words}
-use Rattle.air_ir.specs.Words.{Tested, computed, test}
+use Rattle.air_ir.specs.Words.{computed, test}
 use Rattle.air_ir.specs.declared.op.AirOp.{AirOp}
 use Rattle.air_ir.specs.declared.op.AirOp.TheVariants as op
-use Rattle.air_ir.specs.declared.op.Test.{Test}
 use Rattle.air_ir.specs.declared.op.Test.TheVariants.{Bit, Compare, NonZero}
 use Rattle.air_ir.specs.declared.operand.Operand.{Operand}
 use Rattle.air_ir.proofs.Conditions.{compares}
-use Rattle.air_select.specs.Foldable.{bit_of, condition_fits, constant_fits, is_and, is_bit, is_bit_test, is_comparison, is_constant}
+use Rattle.air_select.specs.Foldable.{bit_of, condition_fits, is_and, is_bit, is_bit_test, is_comparison, is_constant}
 use Rattle.air_select.specs.Selected.{Condition, Tables, arg_of, condition, condition_of, folded_condition, folds, op_of, use_of}
 use Rattle.air_select.specs.Tables.{child, known, known_in, width_at}
 use Rattle.air_select.specs.declared.known.Known.{Known}
-use Rattle.air_select.proofs.Children.{FitsAsCondition, IsReadable, child_word, fit_cases, known_word, readable, width_is, words_cons, words_nil}
+use Rattle.air_select.proofs.Children.{child_word, fit_cases, known_word, readable, width_is, words_cons, words_nil}
 use Rattle.air_select.proofs.Does.{Here, at, here}
-use Rattle.air_select.proofs.Facts.{Ran, child_ran, grandchild_ran}
+use Rattle.air_select.proofs.Facts.{child_ran, grandchild_ran}
 use Rattle.air_select.proofs.Instructions.{reads_use, writes_use}
 use Rattle.air_select.proofs.OneOp.{first_width, is_one_op, one_op_right}
 use Rattle.air_select.proofs.Plain.{has_condition, no_condition}
-use Rattle.air_select.proofs.Related.{Related}
-use Rattle.air_select.proofs.Shapes.{TwoHere, two_children, two_here}
+use Rattle.air_select.proofs.Shapes.{two_children, two_here}
 
 -- the operands of a condition read some words, of which its test says whether a word isn't 0
 pub record Decides (homes : Homes) (c : Condition) (word : ℕ) : Type 0 where
   pub reads : List Read
   pub words_are : (os : List Operand) (more : List Read) → words homes os ≡ Some more → words homes (c.over ++ os) ≡ Some (reads ++ more)
   pub writes : (os : List Operand) → targets (c.over ++ os) ≡ targets os
-  pub tells : (more : List Read) → test c.test (air.width_of (reads ++ more)) (map (λ (r : Read). r.1) (reads ++ more)) ≡ Some (not (nat_eq word 0), map (λ (r : Read). r.1) more)
+  pub tells : (more : List Read) → test c.test (air.width_of (reads ++ more)) (map (λ (r : Read). r.1) (reads ++ more)) ≡ Some
+      (not (nat_eq word 0), map (λ (r : Read). r.1) more)
 
 -- ---- comparisons
 
@@ -89,7 +85,8 @@ comparison_row opcode.AboveEqual e = (refl, refl)
 comparison_row opcode.BelowEqual e = (refl, refl)
 comparison_row _ e = absurd (cc)
 
-comparison_takes : (o : Opcode) (ty : Ty) (types : List Ty) → is_comparison o ≡ true → (h : AllowsTypes o ty types) → AreTaken h.alike (Alike ∷ Alike ∷ []) NoMore types
+comparison_takes : (o : Opcode) (ty : Ty) (types : List Ty) → is_comparison o ≡ true → (h : AllowsTypes o ty types)
+    → AreTaken h.alike (Alike ∷ Alike ∷ []) NoMore types
 comparison_takes opcode.Equal ty types e h = h.children
 comparison_takes opcode.NotEqual ty types e h = h.children
 comparison_takes opcode.LessThan ty types e h = h.children
@@ -138,7 +135,8 @@ gives_some a b e = cc
 module _ (p : Procedure) (t : Tables) (start : Start) (v : Value) (h : Here p t start v) where
   -- ---- a condition that is not folded
 
-  plain_decides : (c w : ℕ) → Contains v.children c → h.st.words c ≡ Some w → folds t c ≡ false → Decides h.s.homes (record { test = NonZero; over = use_of t c ∷ [] }) w
+  plain_decides : (c w : ℕ) → Contains v.children c → h.st.words c ≡ Some w → folds t c ≡ false
+      → Decides h.s.homes (record { test = NonZero; over = use_of t c ∷ [] }) w
   plain_decides c w has now un = record {
     reads = (width_at t.index c, w) ∷ [];
     words_are = λ os more e.
@@ -162,12 +160,14 @@ module _ (p : Procedure) (t : Tables) (start : Start) (v : Value) (h : Here p t 
   stands_before : (c : ℕ) → Contains v.children c → h.block ≡ (known t.index c).block → (d : Value) × (d.id ≡ c) × Contains h.before d
   stands_before c has block =
       let first = first_arrival p h.block h.passed h.reached.path in
-      let covered : IsCovered p h.block h.before c = All-contains (IsCovered p h.block h.before) v.children c (h.valid.rules h.block h.before v (at p t start v h)).covered has in
+      let covered : IsCovered p h.block h.before c =
+      All-contains (IsCovered p h.block h.before) v.children c (h.valid.rules h.block h.before v (at p t start v h)).covered has in
       let d = covered first.0 first.1 in
       ⊎_elim
       (λ (early : Contains h.before d.0). (d.0, d.1, early))
       (λ (there : (b : ℕ) × Contains first.0 b × Contains (values_of p b) d.0).
-      let blocks : h.block ≡ there.0 = block ∙ ap (λ (q : ℕ). (known t.index q).block) (sym d.1) ∙ ap (λ (k : Known). k.block) (h.sound.is_known there.0 d.0 there.2) in
+      let blocks : h.block ≡ there.0 = block ∙ ap (λ (q : ℕ). (known t.index q).block) (sym d.1)
+      ∙ ap (λ (k : Known). k.block) (h.sound.is_known there.0 d.0 there.2) in
       absurd (first.2 (subst (λ (b : ℕ). Contains first.0 b) (sym blocks) there.1)))
       d.2
 
@@ -204,11 +204,13 @@ module _ (p : Procedure) (t : Tables) (start : Start) (v : Value) (h : Here p t 
         let x = child d.children 0 in
         let y = child d.children 1 in
         let two = two_here (type_of p) h.st.words d_allows.alike Alike Alike d.children done.words
-        (two_children (type_of p) h.st.words d_allows.alike Alike Alike d.children done.words (comparison_takes d.kind.opcode d.ty (types_of p d) is d_allows) done.children) in
+        (two_children (type_of p) h.st.words d_allows.alike Alike Alike d.children done.words (comparison_takes d.kind.opcode d.ty (types_of p d) is d_allows)
+        done.children) in
         let same : done.word ≡ w = some_is done.word w (sym done.has ∙ now) in
         let typed : AreWordsOf (types_of p d) done.words = typed_words d.children done.words done.children in
         let right : computed (op_of d.kind.opcode) (first_width (types_of p d)) done.words ≡ Some w =
-        one_op_right d.kind.opcode (comparison_op d.kind.opcode is).0 d.kind.chill d.ty (types_of p d) done.words w d_allows typed (done.gives ∙ ap Gives same) in
+        one_op_right d.kind.opcode (comparison_op d.kind.opcode is).0 d.kind.chill d.ty (types_of p d) done.words w d_allows typed
+        (done.gives ∙ ap Gives same) in
         let first : first_width (types_of p d) ≡ width_at t.index x = first_of d.children two.x_at ∙ sym (d_width x) in
         let truth_is : Some (truth (compares (condition d.kind.opcode) (width_at t.index x) two.wx two.wy)) ≡ Some w =
         ap (λ (k : Width). computed (op.SetIf (Compare (condition d.kind.opcode))) k (two.wx ∷ two.wy ∷ [])) (sym first)
@@ -220,14 +222,16 @@ module _ (p : Procedure) (t : Tables) (start : Start) (v : Value) (h : Here p t 
               d_child 0 x two.wx row.1 two.x_at two.x_in two.x_now (use_of t y ∷ os) ((width_at t.index y, two.wy) ∷ more)
               (d_child 1 y two.wy row.1 two.y_at two.y_in two.y_now os more e);
           writes = λ os. writes_use (width_at t.index x) (arg_of t x) (use_of t y ∷ os) ∙ writes_use (width_at t.index y) (arg_of t y) os;
-          tells = λ more. ap (λ b. Some (b, map (λ (r : Read). r.1) more)) (truth_tells (compares (condition d.kind.opcode) (width_at t.index x) two.wx two.wy) w truth_is);
+          tells = λ more. ap (λ b. Some (b, map (λ (r : Read). r.1) more))
+              (truth_tells (compares (condition d.kind.opcode) (width_at t.index x) two.wx two.wy) w truth_is);
         }
       where
         first_of : (cs : List ℕ) → slice_get cs 0 ≡ Some (child cs 0) → first_width (map (type_of p) cs) ≡ width_of (type_of p (child cs 0))
         first_of [] e = absurd (cc)
         first_of (c ∷ cs) e = refl
 
-    bit_tested : d.kind.opcode ≡ opcode.BitAnd → is_constant (known t.index (child d.children 1)).opcode ≡ true → is_bit (known t.index (child d.children 1)).word ≡ true
+    bit_tested : d.kind.opcode ≡ opcode.BitAnd → is_constant (known t.index (child d.children 1)).opcode ≡ true
+        → is_bit (known t.index (child d.children 1)).word ≡ true
         → Decides h.s.homes (record { test = Bit (bit_of (known t.index (child d.children 1)).word); over = use_of t (child d.children 0) ∷ [] }) w
     bit_tested ed const bit =
         let done : HasResult p h.st d = h.reached.pure d early (ap role_of ed) in
@@ -266,12 +270,17 @@ module _ (p : Procedure) (t : Tables) (start : Start) (v : Value) (h : Here p t 
     folded_decides fits = subst (λ (k : Known). Decides h.s.homes (condition_by k) w) (sym d_known) (go (is_comparison d.kind.opcode) refl fits)
       where
         go : (is : Bool) → is_comparison d.kind.opcode ≡ is → (is ≡ true) ⊎ (is_bit_test t.index (known_in h.block d) ≡ true)
-            → Decides h.s.homes (if is then record { test = Compare (condition d.kind.opcode); over = use_of t (child d.children 0) ∷ use_of t (child d.children 1) ∷ [] }
+            → Decides h.s.homes (if is then record {
+              test = Compare (condition d.kind.opcode);
+              over =
+                  use_of t (child d.children 0) ∷ use_of t (child d.children 1) ∷ [];
+            }
             else record { test = Bit (bit_of (known t.index (child d.children 1)).word); over = use_of t (child d.children 0) ∷ [] }) w
         go true e fits = compared e
         go false e (inl bad) = absurd (cc)
         go false e (inr bit) =
-            let outer = and_parts (is_and d.kind.opcode) (is_constant (known t.index (child d.children 1)).opcode && is_bit (known t.index (child d.children 1)).word) bit in
+            let outer = and_parts (is_and d.kind.opcode) (is_constant (known t.index (child d.children 1)).opcode && is_bit
+            (known t.index (child d.children 1)).word) bit in
             let inner = and_parts (is_constant (known t.index (child d.children 1)).opcode) (is_bit (known t.index (child d.children 1)).word) outer.1 in
             bit_tested (and_is d.kind.opcode outer.0) inner.0 inner.1
 
@@ -288,7 +297,8 @@ module _ (p : Procedure) (t : Tables) (start : Start) (v : Value) (h : Here p t 
                 let d = stands_before c has fitting.block in
                 subst (λ (q : ℕ). Decides h.s.homes (folded_condition t q) w) d.1
                 (folded_decides d.0 d.2 w (ap h.st.words d.1 ∙ now)
-                (subst (λ (k : Known). (is_comparison k.opcode ≡ true) ⊎ (is_bit_test t.index k ≡ true)) (ap (known t.index) (sym d.1) ∙ d_known d.0 d.2 w (ap h.st.words d.1 ∙ now)) (kinds (known t.index c) fitting.fits)))
+                (subst (λ (k : Known). (is_comparison k.opcode ≡ true) ⊎ (is_bit_test t.index k ≡ true))
+                (ap (known t.index) (sym d.1) ∙ d_known d.0 d.2 w (ap h.st.words d.1 ∙ now)) (kinds (known t.index c) fitting.fits)))
           ]
 
       go : (f : Bool) → folds t c ≡ f → Decides h.s.homes (if f then folded_condition t c else record { test = NonZero; over = use_of t c ∷ [] }) w

@@ -1,5 +1,5 @@
 -- What the instructions of a value do where the run of B3 goes on: the common part.
-use Rattle.std.proofs.Common.{◌≡◌, ◌≢◌, ℕ, ◌+◌, ◌^◌, ◌<◌, ◌⊎◌, inl, inr, Bool, true, false, List, [], ◌∷◌, ◌++◌, map, Option, Some, None, refl, sym, ap, ◌∙◌, subst}
+use Rattle.std.proofs.Common.{◌≡◌, ℕ, ◌+◌, ◌^◌, ◌<◌, true, List, ◌∷◌, ◌++◌, Some, None, refl, ap, ◌∙◌, subst}
 use Rattle.std.specs.Prelude.{Contains, slice_get}
 use Rattle.b3_base.specs.Observed.{Start}
 use Rattle.b3_base.specs.Ranged.{IsRangedStart}
@@ -9,7 +9,6 @@ use Rattle.b3_base.specs.declared.word.Width.{Width}
 use Rattle.b3_ir.specs.Naming.{type_of, value_named}
 use Rattle.b3_ir.specs.Procedure.{Procedure, values_of}
 use Rattle.b3_ir.specs.Types.{AllowsTypes, width_of}
-use Rattle.b3_ir.specs.declared.opcode.Opcode.{Opcode}
 use Rattle.b3_ir.specs.declared.opcode.Opcode.TheVariants as opcode
 use Rattle.b3_ir.specs.declared.value.Body.TheVariants.{Argument}
 use Rattle.b3_ir.specs.declared.value.Reg.{Reg}
@@ -30,9 +29,8 @@ use Rattle.air_ir.specs.Blocks.{seen_as}
 use Rattle.air_ir.specs.Meaning.{Over, To}
 use Rattle.air_ir.specs.Operands.{Holds, read}
 use Rattle.air_ir.specs.Steps.{Goes, Outcome as Ran, State}
-use Rattle.air_ir.specs.declared.operand.Home.{Home}
-use Rattle.air_select.specs.Selected.{Tables, folds, names_argument, targets_of}
-use Rattle.air_select.specs.Tables.{home, known_in, width_at}
+use Rattle.air_select.specs.Selected.{Tables, names_argument, targets_of}
+use Rattle.air_select.specs.Tables.{home, width_at}
 use Rattle.air_select.specs.declared.known.Known.{Known}
 use Rattle.air_select.proofs.Instructions.{with_home}
 use Rattle.air_select.proofs.Related.{Related, holds_word, word_related}
@@ -103,7 +101,8 @@ module _ (p : Procedure) (t : Tables) (start : Start) (v : Value) (h : Here p t 
   -- what it leads to
   pub effect_is : b3.effect (type_of p) start h.st v ≡ b3.effect_by (role_of v.kind.opcode) start h.st v (types_of p v) words_here
   effect_is =
-      let all : b3.effect (type_of p) start h.st v ≡ b3.effect_on (type_of p) start h.st v (b3.words_of (type_of p) h.st.words v.children) = rw rules.typed refl in
+      let all : b3.effect (type_of p) start h.st v ≡ b3.effect_on (type_of p) start h.st v (b3.words_of (type_of p) h.st.words v.children) =
+      rw rules.typed refl in
       all ∙ ap (b3.effect_on (type_of p) start h.st v) are_words
 
   below_is : (limit : ℕ) (out : Outcome) (w : ℕ) → IsBelow limit out → out ≡ Gives w → w < limit
@@ -112,7 +111,8 @@ module _ (p : Procedure) (t : Tables) (start : Start) (v : Value) (h : Here p t 
   below_is limit Misfits w below e = absurd (cc)
 
   -- the word that a pure opcode gives is one of its type
-  pub result_small : (w : ℕ) → role_of v.kind.opcode ≡ role.Pure → result v.kind.opcode v.kind.chill v.ty words_here (types_of p v) ≡ Gives w → w < 2 ^ bits (width_of v.ty)
+  pub result_small : (w : ℕ) → role_of v.kind.opcode ≡ role.Pure → result v.kind.opcode v.kind.chill v.ty words_here (types_of p v) ≡ Gives w
+      → w < 2 ^ bits (width_of v.ty)
   result_small w pure e =
       below_is (limit_of (width_of v.ty)) (result v.kind.opcode v.kind.chill v.ty words_here (types_of p v)) w
       (result_fits v.kind.opcode v.kind.chill v.ty words_here (types_of p v) pure allows are_typed) e

@@ -1,11 +1,7 @@
 -- The entry: it moves each argument that is named into its temporary, and leads to the block behind it.
-use Rattle.std.proofs.Common.{◌≡◌, ◌≢◌, ℕ, zero, suc, ◌+◌, ◌*◌, ◌^◌, ◌<◌, ◌≤◌, inl, inr, Bool, true, false, ◌||◌, List, [], ◌∷◌, ◌++◌, length, Option, Some, None, nat_eq, refl, sym, ap, ◌∙◌, subst, arith, eq-eqb, ⊎_elim}
-use Rattle.std.specs.Prelude.{Contains, if◌then◌else◌}
+use Rattle.std.proofs.Common.{◌≡◌, ℕ, ◌≤◌, Bool, true, false, ◌||◌, List, [], ◌∷◌, refl, ap, ◌∙◌, subst, arith, eq-eqb, ⊎_elim}
+use Rattle.std.specs.Prelude.{Contains}
 use Rattle.std.specs.List.{list_any}
-use Rattle.std.proofs.lemmas.Bool.{cases_eq, lt-ltb}
-use Rattle.b3_base.specs.Observed.{Answer, Start}
-use Rattle.b3_base.specs.Ranged.{IsRangedStart}
-use Rattle.b3_base.specs.declared.word.Width.TheVariants.{W64}
 use Rattle.b3_ir.specs.Procedure.{Procedure, values_of}
 use Rattle.b3_ir.specs.declared.opcode.Opcode.{Opcode}
 use Rattle.b3_ir.specs.declared.opcode.Opcode.TheVariants as opcode
@@ -13,26 +9,12 @@ use Rattle.b3_ir.specs.declared.value.Body.{Body}
 use Rattle.b3_ir.specs.declared.value.Body.TheVariants.{Argument}
 use Rattle.b3_ir.specs.declared.value.Reg.{Reg}
 use Rattle.b3_ir.specs.declared.value.Value.{Value}
-use Rattle.b3_meaning.specs.Run as b3
 use Rattle.b3_rules.specs.Rules.{IsArgumentIn}
 use Rattle.b3_rules.specs.Valid.{IsValidProcedure, ValueAt}
 use Rattle.b3_rules.specs.declared.rule.Rule.TheVariants as rule
 use Rattle.b3_sound.proofs.Lists.{contains_cases, contains_none}
-use Rattle.air_ir.specs.Meaning.{To, World, gives, leaves, meaning, operation}
-use Rattle.air_ir.specs.Operands.{Held, Holds, Homes, put, read}
-use Rattle.air_ir.specs.Run.{first_homes}
-use Rattle.air_ir.specs.Steps.{Goes, State, go_on, steps}
-use Rattle.air_ir.specs.declared.op.AirOp.TheVariants as op
-use Rattle.air_ir.specs.declared.operand.Arg.TheVariants.{At}
-use Rattle.air_ir.specs.declared.operand.Home.{Home}
-use Rattle.air_ir.specs.declared.operand.Home.TheVariants as home
-use Rattle.air_ir.specs.declared.procedure.AirInst.{AirInst}
-use Rattle.air_ir.proofs.Stepping.{steps-append}
-use Rattle.air_select.specs.Selected.{Tables, argument_move, argument_moves, def_at, entry_inst, entry_of, last_id, names_argument, names_register, register, use_at}
-use Rattle.air_select.specs.Tables.{Index, argument}
+use Rattle.air_select.specs.Selected.{names_register}
 use Rattle.air_select.proofs.Does.{HasArguments}
-use Rattle.air_select.proofs.Instructions.{at_home, one_leave, one_word, reads_def, reads_none, reads_use, steps_last, with_home, writes_def, writes_none, writes_use}
-use Rattle.air_select.proofs.Related.{Has, Related, holds_word, put_here, put_there}
 use Rattle.air_select.proofs.Sound.{stands}
 
 -- ---- the arguments that are named

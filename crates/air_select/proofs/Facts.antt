@@ -1,13 +1,10 @@
 -- What a valid procedure and its run say of the children of values.
-use Rattle.std.proofs.Common.{◌≡◌, ◌≢◌, ℕ, ◌+◌, ◌^◌, ◌<◌, ◌⊎◌, inl, inr, Bool, true, false, ◌&&◌, List, [], ◌∷◌, ◌++◌, map, Option, Some, None, refl, sym, ap, ◌∙◌, subst, ⊎_elim}
-use Rattle.std.specs.Prelude.{Contains, slice_get}
+use Rattle.std.proofs.Common.{◌≡◌, ℕ, ◌<◌, inl, inr, true, List, ◌∷◌, ◌++◌, refl, sym, ap, ◌∙◌, subst, ⊎_elim}
+use Rattle.std.specs.Prelude.{Contains}
 use Rattle.std.proofs.lemmas.List.{append_assoc}
 use Rattle.std.proofs.lemmas.List.Elements.{All-contains, Contains-append_left}
-use Rattle.b3_base.specs.Word.{bits}
-use Rattle.b3_ir.specs.Fits.{IsConstantBelow, reported_count}
-use Rattle.b3_ir.specs.Naming.{type_of, value_named}
+use Rattle.b3_ir.specs.Fits.{IsConstantBelow}
 use Rattle.b3_ir.specs.Procedure.{Procedure, values_of}
-use Rattle.b3_ir.specs.Types.{width_of}
 use Rattle.b3_ir.specs.declared.opcode.Opcode.{Opcode}
 use Rattle.b3_ir.specs.declared.opcode.Opcode.TheVariants.{Const32, Const64}
 use Rattle.b3_ir.specs.declared.value.Body.{Body}
@@ -18,10 +15,9 @@ use Rattle.b3_meaning.specs.Run.{State}
 use Rattle.b3_meaning.specs.declared.role.Role.TheVariants as role
 use Rattle.b3_rules.specs.Paths.{HasRun, IsCovered}
 use Rattle.b3_sound.specs.Laws.{StandsAfter}
-use Rattle.b3_sound.proofs.Distinct.{same_value, stands, type_of_value, value_of_id}
-use Rattle.b3_sound.proofs.Keeping.{in_block, ran_in_block}
+use Rattle.b3_sound.proofs.Keeping.{ran_in_block}
 use Rattle.b3_sound.proofs.Kept.{IsKept}
-use Rattle.b3_sound.proofs.Lists.{contains_middle, contains_split}
+use Rattle.b3_sound.proofs.Lists.{contains_split}
 use Rattle.b3_sound.proofs.Reached.{IsReached}
 use Rattle.air_select.specs.Foldable.{is_constant}
 use Rattle.air_select.specs.Tables.{word_in}
@@ -47,13 +43,18 @@ module _ (p : Procedure) (valid : IsKept p) where
     child_ran v at id has = All-contains (IsCovered p b before) v.children id (valid.rules b before v at).covered has passed reached.path
 
     -- and so have those of a value that has run earlier in the block
-    pub grandchild_ran : (w : Value) → Contains before w → (rest : List Value) → values_of p b ≡ before ++ rest → (id : ℕ) → Contains w.children id → Ran passed before id
+    pub grandchild_ran : (w : Value) → Contains before w → (rest : List Value) → values_of p b ≡ before ++ rest → (id : ℕ) → Contains w.children id
+        → Ran passed before id
     grandchild_ran w has rest is id child =
         let cut = contains_split before w has in
         let at : StandsAfter p b cut.0 w =
         (cut.1 ++ rest, is ∙ ap (λ (l : List Value). l ++ rest) cut.2 ∙ append_assoc cut.0 (w ∷ cut.1) rest) in
-        let d = All-contains (IsCovered p b cut.0) w.children id (valid.rules b cut.0 w at).covered child passed reached.path in
-        (d.0, d.1, ⊎_elim (λ here. inl (subst (λ (l : List Value). Contains l d.0) (sym cut.2) (Contains-append_left cut.0 (w ∷ cut.1) d.0 here))) (λ there. inr there) d.2)
+        let d = All-contains (IsCovered p b cut.0) w.children id (valid.rules b cut.0 w at).covered child passed reached.path in (
+          d.0,
+          d.1,
+          ⊎_elim (λ here. inl (subst (λ (l : List Value). Contains l d.0) (sym cut.2) (Contains-append_left cut.0 (w ∷ cut.1) d.0 here)))
+              (λ there. inr there) d.2,
+        )
 
     -- what has run stands in a block
     pub ran_stands : (rest : List Value) → values_of p b ≡ before ++ rest → (v : Value) → HasRun p passed before v → (c : ℕ) × Contains (values_of p c) v

@@ -1,5 +1,5 @@
 -- Folded values: no instruction is made for one, and the instruction of its use carries it.
-use Rattle.std.proofs.Common.{◌≡◌, ℕ, zero, suc, ◌+◌, ◌-◌, ◌^◌, ◌<◌, ◌⊎◌, inl, inr, Bool, true, false, ◌&&◌, ◌||◌, List, [], ◌∷◌, ◌++◌, Option, Some, None, length, map, take, refl, sym, ap, ◌∙◌, subst, arith, nat_eq, length-append}
+use Rattle.std.proofs.Common.{◌≡◌, ℕ, zero, suc, ◌+◌, ◌-◌, ◌^◌, ◌<◌, inl, inr, Bool, true, false, ◌&&◌, ◌||◌, List, [], ◌∷◌, ◌++◌, Option, Some, None, length, map, take, refl, sym, ap, ◌∙◌, subst, arith, length-append}
 use Rattle.std.specs.Prelude.{All, Contains, if◌then◌else◌, slice_get, slice_index_or}
 use Rattle.std.specs.List.{flat_map}
 use Rattle.std.specs.Option.{option_map}
@@ -24,8 +24,7 @@ use Rattle.b3_ir.proofs.Typing.{allowed}
 use Rattle.b3_rules.specs.Rules.{types_of}
 use Rattle.b3_rules.specs.Valid.{IsValidProcedure}
 use Rattle.b3_sound.proofs.FromValid.{is_kept}
-use Rattle.b3_sound.proofs.Kept.{EndsBlock, IsKept}
-use Rattle.air_ir.specs.WellFormed as air
+use Rattle.b3_sound.proofs.Kept.{EndsBlock}
 use Rattle.air_ir.specs.declared.op.AirOp.{AirOp}
 use Rattle.air_ir.specs.declared.op.AirOp.TheVariants as op
 use Rattle.air_ir.specs.declared.op.Test.TheVariants.{Bit, Compare}
@@ -33,14 +32,14 @@ use Rattle.air_ir.specs.declared.operand.Arg.TheVariants.{At, Imm}
 use Rattle.air_ir.specs.declared.procedure.AirBlock.{AirBlock}
 use Rattle.air_ir.specs.declared.procedure.AirInst.{AirInst}
 use Rattle.air_select.specs.Contract.{CarriesBits, CarriesComparisons, CarriesConstants, HasSecond, IsFolded, IsMade, NoneIsMade, TestsBit, TestsComparison, carried_word, test_in}
-use Rattle.air_select.specs.Foldable.{bit_of, condition_fits, constant_fits, fits, is_and, is_bit, is_bit_test, is_comparison, is_constant, is_foldable, is_immediate, second_immediates, uses}
+use Rattle.air_select.specs.Foldable.{bit_of, condition_fits, is_and, is_bit, is_bit_test, is_comparison, is_constant, is_foldable, is_immediate, second_immediates, uses}
 use Rattle.air_select.specs.Selected.{Condition, Tables, argument_moves, argument_move, arg_of, block_code, branch_on, code_of, computes, condition, condition_of, entry_of, folds, inst, last_id, names_argument, negative_amount, op_of, result_of, return_of, rotate_by, select_on, selected, selected_by, tables, turned, use_at, use_of, value_code}
 use Rattle.air_select.specs.Tables.{Index, child, first_extra, ids_of, index_of, known, known_in, word_in}
 use Rattle.air_select.specs.declared.known.Known.{Known}
-use Rattle.air_select.proofs.Children.{FitsAsCondition, FitsAsConstant, fit_cases}
+use Rattle.air_select.proofs.Children.{fit_cases}
 use Rattle.air_select.proofs.Places.{at_place, get_behind, get_front, get_within, in_blocks, known_is, place_is, row_get, split_at}
 use Rattle.air_select.proofs.Sites.{All-slice, all_one, all_three, all_two}
-use Rattle.air_select.proofs.Sound.{both_first, both_second, foldable, foldable_kind, sound, stands}
+use Rattle.air_select.proofs.Sound.{both_first, both_second, foldable_kind, sound}
 
 -- ---- pieces of a list
 

@@ -1,34 +1,28 @@
 -- Each instruction of a value has the operands that its op takes: the opcodes that are one op over their children, copies,
 -- remainders and rotations.
-use Rattle.std.proofs.Common.{◌≡◌, ◌≢◌, ℕ, zero, suc, ◌+◌, ◌*◌, ◌-◌, ◌%◌, ◌^◌, ◌<◌, ◌≤◌, ◌⊎◌, inl, inr, Bool, true, false, List, [], ◌∷◌, ◌++◌, map, Option, Some, None, length, refl, sym, ap, ◌∙◌, subst, arith}
-use Rattle.std.specs.Prelude.{All, Contains, if◌then◌else◌, slice_get}
-use Rattle.b3_base.specs.Word.{bits}
+use Rattle.std.proofs.Common.{◌≡◌, ◌≢◌, ℕ, false, List, [], ◌∷◌, ◌++◌, map, Some, refl, sym, ap, subst}
+use Rattle.std.specs.Prelude.{Contains, slice_get}
 use Rattle.b3_base.specs.declared.word.Width.{Width}
-use Rattle.b3_base.specs.declared.word.Width.TheVariants.{W32, W64}
-use Rattle.b3_ir.specs.Fits.{IsConstantBelow, reported_count}
+use Rattle.b3_base.specs.declared.word.Width.TheVariants.{W32}
 use Rattle.b3_ir.specs.Naming.{type_of}
 use Rattle.b3_ir.specs.Procedure.{Procedure, values_of}
-use Rattle.b3_ir.specs.Types.{AllowsTypes, AreTaken, IsTaken, width_of}
+use Rattle.b3_ir.specs.Types.{AreTaken, width_of}
 use Rattle.b3_ir.specs.declared.opcode.Opcode.{Opcode}
-use Rattle.b3_ir.specs.declared.opcode.Opcode.TheVariants as opcode
 use Rattle.b3_ir.specs.declared.opcode.Ty.{Ty}
-use Rattle.b3_ir.specs.declared.opcode.Ty.TheVariants.{Void, Int32, Int64}
+use Rattle.b3_ir.specs.declared.opcode.Ty.TheVariants.{Void, Int32}
 use Rattle.b3_ir.specs.declared.table.More.TheVariants.{NoMore}
 use Rattle.b3_ir.specs.declared.table.Takes.TheVariants.{Alike, This}
 use Rattle.b3_ir.specs.declared.value.Value.{Value}
 use Rattle.b3_rules.specs.Rules.{types_of}
 use Rattle.b3_sound.proofs.Kept.{IsKept}
-use Rattle.stackmap.specs.declared.site.Returns.{Returns}
-use Rattle.air_ir.specs.Forms.{AllFit, AreThese, Fits, HasOperands, Immediates, NoImmediate, AnyWord, OfSum, OfLogic, IsWord, Takes, Word, Result, takes}
-use Rattle.air_ir.specs.declared.op.AirOp.{AirOp}
-use Rattle.air_ir.specs.declared.op.AirOp.TheVariants as op
+use Rattle.air_ir.specs.Forms.{AllFit, Fits, Immediates, NoImmediate, AnyWord, IsWord, Takes, Word, Result}
 use Rattle.air_ir.specs.declared.operand.Arg.{Arg}
 use Rattle.air_ir.specs.declared.operand.Arg.TheVariants.{At, Imm}
 use Rattle.air_ir.specs.declared.operand.Home.TheVariants.{Tmp}
 use Rattle.air_ir.specs.declared.operand.Operand.{Operand}
 use Rattle.air_select.specs.Foldable.{condition_fits, second_immediates}
-use Rattle.air_select.specs.Selected.{Tables, arg_of, chosen_rest, def_at, folds, quotient_of, rest_into, result_of, rotate_by, negative_amount, turned, use_at, use_of}
-use Rattle.air_select.specs.Tables.{child, first_extra, home, known, place, second_extra, width_at}
+use Rattle.air_select.specs.Selected.{Tables, def_at, result_of, use_at, use_of}
+use Rattle.air_select.specs.Tables.{child, home}
 use Rattle.air_select.specs.declared.known.Known.{Known}
 use Rattle.air_select.proofs.Operands.{child_fits, immediates_at, one_of, two_of}
 use Rattle.air_select.proofs.Setting.{IsSound}
@@ -109,13 +103,16 @@ module _ (p : Procedure) (kept : IsKept p) (t : Tables) (sound : IsSound p t) wh
         → AllFit (Word (width_of ty) NoImmediate ∷ Result (width_of r) ∷ []) (map (use_of t) v.children ++ result_of t v ∷ [])
     unary ty r c e tc some own none =
         subst (λ (l : List ℕ). AllFit (Word (width_of ty) NoImmediate ∷ Result (width_of r) ∷ []) (map (use_of t) l ++ result_of t v ∷ [])) (sym e)
-        (fit_two (Word (width_of ty) NoImmediate) (Result (width_of r)) (use_of t c) (result_of t v) (child_as 0 c ty (first_at c [] e) none tc some) (own_result r own))
+        (fit_two (Word (width_of ty) NoImmediate) (Result (width_of r)) (use_of t c) (result_of t v) (child_as 0 c ty (first_at c [] e) none tc some)
+        (own_result r own))
 
     -- ---- by the row
-    module _ (a : Ty) (some : a ≢ Void) (none : (k : Known) → condition_fits t.index o 0 k ≡ false) (none' : (k : Known) → condition_fits t.index o 1 k ≡ false) where
+    module _ (a : Ty) (some : a ≢ Void) (none : (k : Known) → condition_fits t.index o 0 k ≡ false)
+        (none' : (k : Known) → condition_fits t.index o 1 k ≡ false) where
       -- two children of one type
       pub alike_two : (r : Ty) → AreTaken a (Alike ∷ Alike ∷ []) NoMore (types_of p v) → v.ty ≡ r
-          → AllFit (Word (width_of a) NoImmediate ∷ Word (width_of a) (second_immediates o) ∷ Result (width_of r) ∷ []) (map (use_of t) v.children ++ result_of t v ∷ [])
+          → AllFit (Word (width_of a) NoImmediate ∷ Word (width_of a) (second_immediates o) ∷ Result (width_of r) ∷ [])
+          (map (use_of t) v.children ++ result_of t v ∷ [])
       alike_two r taken own =
           let cs = two_of (type_of p) a Alike Alike v.children taken in
           binary a a r cs.0 cs.1 cs.2 cs.3 cs.4 some some own none none'
@@ -155,7 +152,8 @@ module _ (p : Procedure) (kept : IsKept p) (t : Tables) (sound : IsSound p t) wh
             dividend = subst (λ (w : Ty). Fits (Word (width_of w) NoImmediate) (use_of t (child v.children 0))) (sym own)
                 (subst (λ (c : ℕ). Fits (Word (width_of a) NoImmediate) (use_of t c)) (sym first) both.0);
             divisor = subst (λ (w : Ty). Fits (Word (width_of w) NoImmediate) (use_of t (child v.children 1))) (sym own)
-                (subst (λ (c : ℕ). Fits (Word (width_of a) NoImmediate) (use_of t c)) (sym second) (subst (λ (m : Immediates). Fits (Word (width_of a) m) (use_of t cs.1)) never both.1));
+                (subst (λ (c : ℕ). Fits (Word (width_of a) NoImmediate) (use_of t c)) (sym second)
+                (subst (λ (m : Immediates). Fits (Word (width_of a) m) (use_of t cs.1)) never both.1));
           }
 
 -- what a value's own temporaries hold fits

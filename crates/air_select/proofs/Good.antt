@@ -1,15 +1,14 @@
 -- The instructions of each value have the operands that their ops take.
-use Rattle.std.proofs.Common.{◌≡◌, ◌≢◌, ℕ, zero, suc, ◌+◌, ◌*◌, ◌-◌, ◌%◌, ◌^◌, ◌<◌, ◌≤◌, ◌⊎◌, inl, inr, Bool, true, false, ◌||◌, List, [], ◌∷◌, ◌++◌, map, Option, Some, None, length, refl, sym, ap, ◌∙◌, subst, arith}
+use Rattle.std.proofs.Common.{◌≡◌, ◌≢◌, ℕ, ◌^◌, ◌<◌, ◌⊎◌, inl, inr, Bool, true, false, ◌||◌, List, [], ◌∷◌, ◌++◌, map, Option, Some, None, refl, sym, ap, ◌∙◌, subst, arith}
 use Rattle.std.specs.Prelude.{All, AllPairs, Contains, if◌then◌else◌, slice_get}
-use Rattle.std.proofs.lemmas.List.Elements.{All-cons, All-nil}
-use Rattle.b3_base.specs.Arithmetic.{low}
+use Rattle.std.proofs.lemmas.List.Elements.{All-nil}
 use Rattle.b3_base.specs.Word.{bits}
 use Rattle.b3_base.specs.declared.word.Width.{Width}
 use Rattle.b3_base.specs.declared.word.Width.TheVariants.{W32, W64}
 use Rattle.b3_ir.specs.Fits.{IsConstantBelow, reported_count}
 use Rattle.b3_ir.specs.Naming.{all_values, type_of}
 use Rattle.b3_ir.specs.Procedure.{AllFit as ValuesFit, Procedure, StandsAt, values_of}
-use Rattle.b3_ir.specs.Types.{AllowsTypes, AreMore, AreTaken, IsTaken, width_of}
+use Rattle.b3_ir.specs.Types.{AllowsTypes, AreMore, AreTaken, width_of}
 use Rattle.b3_ir.specs.declared.opcode.Opcode.{Opcode}
 use Rattle.b3_ir.specs.declared.opcode.Opcode.TheVariants as opcode
 use Rattle.b3_ir.specs.declared.opcode.Ty.{Ty}
@@ -21,7 +20,7 @@ use Rattle.b3_ir.specs.declared.value.Body.TheVariants.{Cases}
 use Rattle.b3_ir.specs.declared.value.Value.{Value}
 use Rattle.b3_ir.proofs.Typing.{allowed}
 use Rattle.b3_ir.specs.Table.{row_of}
-use Rattle.b3_rules.specs.Rules.{AreCasesOf, DifferAt, first_return, first_type, if_return, types_of}
+use Rattle.b3_rules.specs.Rules.{AreCasesOf, first_return, first_type, if_return, types_of}
 use Rattle.b3_sound.proofs.Lists.{contains_cases, contains_none}
 use Rattle.b3_meaning.specs.Roles.{role_of}
 use Rattle.b3_rules.specs.Valid.{IsValidProcedure, ValueAt}
@@ -31,22 +30,20 @@ use Rattle.b3_sound.proofs.FromValid.{is_kept}
 use Rattle.b3_sound.proofs.Kept.{IsKept}
 use Rattle.b3_sound.proofs.Rows.{IsRow, row_by_role}
 use Rattle.stackmap.specs.declared.site.Returns.{Returns}
-use Rattle.air_ir.specs.Forms.{AllFit, AreThese, DifferIn, Fits, HasOperands, Immediates, NoImmediate, AnyWord, OfSum, OfLogic, IsWord, Takes, Word, Result, returned, takes, test_takes}
+use Rattle.air_ir.specs.Forms.{AllFit, DifferIn, Fits, HasOperands, Immediates, NoImmediate, AnyWord, IsWord, Takes, Word, Result, returned, test_takes}
 use Rattle.air_ir.specs.declared.op.AirOp.{AirOp}
 use Rattle.air_ir.specs.declared.op.AirOp.TheVariants as op
-use Rattle.air_ir.specs.declared.op.Test.TheVariants.{NonZero}
 use Rattle.air_ir.specs.declared.operand.Arg.{Arg}
 use Rattle.air_ir.specs.declared.operand.Arg.TheVariants.{At, Imm}
 use Rattle.air_ir.specs.declared.operand.Home.{Home}
-use Rattle.air_ir.specs.declared.operand.Home.TheVariants.{Tmp}
 use Rattle.air_ir.specs.declared.operand.Operand.{Operand}
 use Rattle.air_ir.specs.declared.procedure.AirInst.{AirInst}
 use Rattle.air_select.specs.Contract.{is_built}
-use Rattle.air_select.specs.Foldable.{condition_fits, constant_fits, is_bit_test, is_comparison, second_immediates}
-use Rattle.air_select.specs.Selected.{Condition, Tables, arg_of, cases_in, chosen_rest, code_of, condition_of, def_at, folds, inst, move, negative_amount, op_of, phi_in, quotient_of, register, register_in, rest_into, result_of, return_of, returns_by, returns_child, returns_type, rotate_by, turned, use_at, use_of, value_code}
-use Rattle.air_select.specs.Tables.{Index, argument, child, first_extra, home, known, location, place, second_extra, width_at, word_in}
+use Rattle.air_select.specs.Foldable.{condition_fits, is_bit_test, is_comparison, second_immediates}
+use Rattle.air_select.specs.Selected.{Condition, Tables, arg_of, cases_in, chosen_rest, code_of, condition_of, def_at, folds, inst, negative_amount, op_of, phi_in, quotient_of, register, register_in, rest_into, result_of, return_of, returns_by, returns_child, returns_type, rotate_by, turned, use_at, use_of}
+use Rattle.air_select.specs.Tables.{Index, argument, child, first_extra, home, known, location, second_extra, width_at, word_in}
 use Rattle.air_select.specs.declared.known.Known.{Known}
-use Rattle.air_select.proofs.Facts.{body_below, constant_role}
+use Rattle.air_select.proofs.Facts.{body_below}
 use Rattle.air_select.proofs.Forms as forms
 use Rattle.air_select.proofs.Forms.{any_fits, fit_four, fit_none, fit_one, fit_three, fit_two, home_fits, result_fits}
 use Rattle.air_select.proofs.Operands.{one_of, three_of, two_of}
@@ -63,7 +60,8 @@ fit_append (t ∷ ts) us [] ps a b = absurd a
 fit_append (t ∷ ts) us (o ∷ os) ps a b = (a.0, fit_append ts us os ps a.1 b)
 
 -- the type of what is returned settles it
-returns_alike : (x : Index) (ty : ℕ → Ty) → ((id : ℕ) → (known x id).ty ≡ ty id) → (cs ds : List ℕ) → map ty cs ≡ map ty ds → returns_child x cs ≡ returns_child x ds
+returns_alike : (x : Index) (ty : ℕ → Ty) → ((id : ℕ) → (known x id).ty ≡ ty id) → (cs ds : List ℕ) → map ty cs ≡ map ty ds
+    → returns_child x cs ≡ returns_child x ds
 returns_alike x ty types [] [] e = refl
 returns_alike x ty types [] (d ∷ ds) e = absurd cc
 returns_alike x ty types (c ∷ cs) [] e = absurd cc
@@ -99,7 +97,8 @@ either true b e = inl refl
 either false b e = inr e
 
 -- what is moved may be any word
-moved : (width : Width) (os : List Operand) (z : Operand) → AllFit (Word width NoImmediate ∷ Result width ∷ []) (os ++ z ∷ []) → AllFit (Word width AnyWord ∷ Result width ∷ []) (os ++ z ∷ [])
+moved : (width : Width) (os : List Operand) (z : Operand) → AllFit (Word width NoImmediate ∷ Result width ∷ []) (os ++ z ∷ [])
+    → AllFit (Word width AnyWord ∷ Result width ∷ []) (os ++ z ∷ [])
 unfolding AllFit
 moved width [] z f = absurd f.1
 moved width (o ∷ os) z f = (any_fits width o f.0, f.1)
@@ -135,7 +134,12 @@ module _ (p : Procedure) (valid : IsValidProcedure p) (fit : ValuesFit p.blocks)
     allows = allowed v.kind.opcode v.ty (types_of p v) (valid rule.Types (ValueAt b j v) at)
 
     move_has : (width : Width) (from : Arg) (to : Home) → IsWord AnyWord width from → Has (inst v op.Move (use_at width from ∷ def_at width to ∷ []))
-    move_has width from to is = (width, width, fit_two (Word width AnyWord) (Result width) (use_at width from) (def_at width to) (refl, refl, is) (refl, refl, tt))
+    move_has width from to is = (
+      width,
+      width,
+      fit_two (Word width AnyWord) (Result width) (use_at width from) (def_at width to) (refl, refl, is)
+          (refl, refl, tt),
+    )
 
     one_move : (width : Width) (from : Arg) (to : Home) → IsWord AnyWord width from → All Has (inst v op.Move (use_at width from ∷ def_at width to ∷ []) ∷ [])
     one_move width from to is = all_one Has (inst v op.Move (use_at width from ∷ def_at width to ∷ [])) (move_has width from to is)
@@ -170,7 +174,8 @@ module _ (p : Procedure) (valid : IsValidProcedure p) (fit : ValuesFit p.blocks)
         (fit_three (Word w NoImmediate) (Word w NoImmediate) (Result w) (use_of t (child v.children 0)) (use_of t (child v.children 1))
         (def_at (width_of v.ty) (first_extra t.index v.id)) x y (refl, e, tt))
 
-    rest_has : (to : Home) → Fits (Word (width_of v.ty) NoImmediate) (use_of t (child v.children 0)) → Fits (Word (width_of v.ty) NoImmediate) (use_of t (child v.children 1))
+    rest_has : (to : Home) → Fits (Word (width_of v.ty) NoImmediate) (use_of t (child v.children 0))
+        → Fits (Word (width_of v.ty) NoImmediate) (use_of t (child v.children 1))
         → Has (rest_into t v to)
     rest_has to x y =
         let w = width_of v.ty in (
@@ -186,11 +191,13 @@ module _ (p : Procedure) (valid : IsValidProcedure p) (fit : ValuesFit p.blocks)
           w,
           w,
           fit_four (Word w NoImmediate) (Word w NoImmediate) (Word w NoImmediate) (Result w) (use_of t (child v.children 1))
-              (use_at w (At (second_extra t.index v.id))) (use_at w (At (first_extra t.index v.id))) (result_of t v) y (refl, refl, tt) (refl, refl, tt) (refl, refl, tt),
+              (use_at w (At (second_extra t.index v.id))) (use_at w (At (first_extra t.index v.id))) (result_of t v) y (refl, refl, tt) (refl, refl, tt)
+              (refl, refl, tt),
         )
 
     remainder_has : (op : AirOp) → ((w : Width) (os : List Operand) → AllFit (Word w NoImmediate ∷ Word w NoImmediate ∷ Result w ∷ []) os → HasOperands r op os)
-        → Fits (Word (width_of v.ty) NoImmediate) (use_of t (child v.children 0)) → Fits (Word (width_of v.ty) NoImmediate) (use_of t (child v.children 1)) → (c : Bool)
+        → Fits (Word (width_of v.ty) NoImmediate) (use_of t (child v.children 0)) → Fits (Word (width_of v.ty) NoImmediate) (use_of t (child v.children 1))
+        → (c : Bool)
         → All Has (if c then quotient_of t v op ∷ rest_into t v (second_extra t.index v.id) ∷ chosen_rest t v ∷ []
         else quotient_of t v op ∷ rest_into t v (home t.index v.id) ∷ [])
     remainder_has op has x y true =
@@ -218,8 +225,12 @@ module _ (p : Procedure) (valid : IsValidProcedure p) (fit : ValuesFit p.blocks)
         let turn : Arg = Imm (turned (width_of v.ty) (known t.index (child v.children 1)).word) in
         all_one Has (rotate_by t v turn) (rotate_has w e turn (turned_small (width_of v.ty) (known t.index (child v.children 1)).word, tt) x)
     rotate_left_has w e x amount false f =
-        all_two Has (negative_amount t v) (rotate_by t v (At (first_extra t.index v.id)))
-        (W32, W32, fit_two (Word W32 NoImmediate) (Result W32) (use_of t (child v.children 1)) (def_at W32 (first_extra t.index v.id)) (amount f) (refl, refl, tt))
+        all_two Has (negative_amount t v) (rotate_by t v (At (first_extra t.index v.id))) (
+          W32,
+          W32,
+          fit_two (Word W32 NoImmediate) (Result W32) (use_of t (child v.children 1)) (def_at W32 (first_extra t.index v.id)) (amount f)
+              (refl, refl, tt),
+        )
         (rotate_has w e (At (first_extra t.index v.id)) tt x)
 
     -- ---- cases
@@ -257,12 +268,15 @@ module _ (p : Procedure) (valid : IsValidProcedure p) (fit : ValuesFit p.blocks)
 
     -- ---- each opcode
     -- one op over the children
-    one_has : (o : AirOp) → HasOperands r o (map (use_of t) v.children ++ result_of t v ∷ []) → All Has (inst v o (map (use_of t) v.children ++ result_of t v ∷ []) ∷ [])
+    one_has : (o : AirOp) → HasOperands r o (map (use_of t) v.children ++ result_of t v ∷ [])
+        → All Has (inst v o (map (use_of t) v.children ++ result_of t v ∷ []) ∷ [])
     one_has o has = all_one Has (inst v o (map (use_of t) v.children ++ result_of t v ∷ [])) has
 
-    module _ (o : Opcode) (is : v.kind.opcode ≡ o) (none : (k : Known) → condition_fits t.index o 0 k ≡ false) (none' : (k : Known) → condition_fits t.index o 1 k ≡ false) where
+    module _ (o : Opcode) (is : v.kind.opcode ≡ o) (none : (k : Known) → condition_fits t.index o 0 k ≡ false)
+        (none' : (k : Known) → condition_fits t.index o 1 k ≡ false) where
       pair : (a r : Ty) → a ≢ Void → AreTaken a (Alike ∷ Alike ∷ []) NoMore (types_of p v) → v.ty ≡ r
-          → AllFit (Word (width_of a) NoImmediate ∷ Word (width_of a) (second_immediates o) ∷ Result (width_of r) ∷ []) (map (use_of t) v.children ++ result_of t v ∷ [])
+          → AllFit (Word (width_of a) NoImmediate ∷ Word (width_of a) (second_immediates o) ∷ Result (width_of r) ∷ [])
+          (map (use_of t) v.children ++ result_of t v ∷ [])
       pair a r some taken own = forms.alike_two p kept t sound b v here o is a some none none' r taken own
 
       amount : (a : Ty) → a ≢ Void → AreTaken a (Alike ∷ This Int32 ∷ []) NoMore (types_of p v) → v.ty ≡ a
@@ -299,20 +313,24 @@ module _ (p : Procedure) (valid : IsValidProcedure p) (fit : ValuesFit p.blocks)
     any_child : (a : Ty) → AreTaken a (Any ∷ []) NoMore (types_of p v) → (c : ℕ) × (v.children ≡ c ∷ []) × (type_of p c ≢ Void)
     any_child a taken = one_of (type_of p) a Any v.children taken
 
-    moved_child : (o : Opcode) → v.kind.opcode ≡ o → (c : ℕ) × (v.children ≡ c ∷ []) × (type_of p c ≢ Void) → ((k : Known) → condition_fits t.index o 0 k ≡ false)
+    moved_child : (o : Opcode) → v.kind.opcode ≡ o → (c : ℕ) × (v.children ≡ c ∷ []) × (type_of p c ≢ Void)
+        → ((k : Known) → condition_fits t.index o 0 k ≡ false)
         → (w : Width) → IsWord AnyWord w (arg_of t (child v.children 0))
     moved_child o is one none w =
         let first = first_of o is one.0 [] one.1 one.2 none in
         home_word first.0 (child v.children 0) first.1 AnyWord w
 
-    branch_allows : v.kind.opcode ≡ opcode.Branch → (k : Known) → condition_fits t.index v.kind.opcode 0 k ≡ true → (is_comparison k.opcode ≡ true) ⊎ (is_bit_test t.index k ≡ true)
+    branch_allows : v.kind.opcode ≡ opcode.Branch → (k : Known) → condition_fits t.index v.kind.opcode 0 k ≡ true
+        → (is_comparison k.opcode ≡ true) ⊎ (is_bit_test t.index k ≡ true)
     branch_allows is k fits = either (is_comparison k.opcode) (is_bit_test t.index k) (sym (ap (λ q. condition_fits t.index q 0 k) is) ∙ fits)
 
-    select_allows : v.kind.opcode ≡ opcode.Select → (k : Known) → condition_fits t.index v.kind.opcode 0 k ≡ true → (is_comparison k.opcode ≡ true) ⊎ (is_bit_test t.index k ≡ true)
+    select_allows : v.kind.opcode ≡ opcode.Select → (k : Known) → condition_fits t.index v.kind.opcode 0 k ≡ true
+        → (is_comparison k.opcode ≡ true) ⊎ (is_bit_test t.index k ≡ true)
     select_allows is k fits = inl (sym (ap (λ q. condition_fits t.index q 0 k) is) ∙ fits)
 
     tested : (c : ℕ) → slice_get v.children 0 ≡ Some c → type_of p c ≢ Void
-        → ((k : Known) → condition_fits t.index v.kind.opcode 0 k ≡ true → (is_comparison k.opcode ≡ true) ⊎ (is_bit_test t.index k ≡ true)) → IsTested (condition_of t c)
+        → ((k : Known) → condition_fits t.index v.kind.opcode 0 k ≡ true → (is_comparison k.opcode ≡ true) ⊎ (is_bit_test t.index k ≡ true))
+        → IsTested (condition_of t c)
     tested c first typed allowed = condition_tested p kept t sound b v here c first typed allowed (λ width word. refl)
 
     switch_has : v.kind.opcode ≡ opcode.Switch → (one : (c : ℕ) × (v.children ≡ c ∷ []) × (type_of p c ≢ Void))
@@ -324,7 +342,8 @@ module _ (p : Procedure) (valid : IsValidProcedure p) (fit : ValuesFit p.blocks)
         let same : first_type (types_of p v) ≡ ty = ap (λ (l : List ℕ). first_type (map (type_of p) l)) one.1 in
         let cases = subst (λ (k : Ty). AreCasesOf k v.body) same (valid rule.Cases (ValueAt b j v) at) in (
           width_of ty,
-          fit_one (Word (width_of ty) NoImmediate) (use_of t (child v.children 0)) (subst (λ n. Fits (Word (width_of ty) NoImmediate) (use_of t n)) (sym first) fits),
+          fit_one (Word (width_of ty) NoImmediate) (use_of t (child v.children 0))
+              (subst (λ n. Fits (Word (width_of ty) NoImmediate) (use_of t n)) (sym first) fits),
           cases_differ ty v.body cases,
         )
 
@@ -344,9 +363,11 @@ module _ (p : Procedure) (valid : IsValidProcedure p) (fit : ValuesFit p.blocks)
         let condition : Condition = condition_of t (child v.children 0) in (
           c.0,
           w,
-          fit_append (test_takes condition.test c.0) rest condition.over (use_of t (child v.children 1) ∷ use_of t (child v.children 2) ∷ result_of t v ∷ []) c.1
+          fit_append (test_takes condition.test c.0) rest condition.over (use_of t (child v.children 1) ∷ use_of t (child v.children 2) ∷ result_of t v ∷ [])
+              c.1
               (fit_three (Word w NoImmediate) (Word w NoImmediate) (Result w) (use_of t (child v.children 1)) (use_of t (child v.children 2)) (result_of t v)
-              (subst (λ n. Fits (Word w NoImmediate) (use_of t n)) (sym y) fy) (subst (λ n. Fits (Word w NoImmediate) (use_of t n)) (sym z) fz) (refl, ap width_of own, tt)),
+              (subst (λ n. Fits (Word w NoImmediate) (use_of t n)) (sym y) fy) (subst (λ n. Fits (Word w NoImmediate) (use_of t n)) (sym z) fz)
+              (refl, ap width_of own, tt)),
         )
 
     branch_has : v.kind.opcode ≡ opcode.Branch → (one : (c : ℕ) × (v.children ≡ c ∷ []) × (type_of p c ≢ Void))
@@ -365,8 +386,12 @@ module _ (p : Procedure) (valid : IsValidProcedure p) (fit : ValuesFit p.blocks)
         let x : child v.children 0 ≡ cs.0 = ap (λ (l : List ℕ). child l 0) cs.2 in
         let y : child v.children 1 ≡ cs.1 = ap (λ (l : List ℕ). child l 1) cs.2 in
         rotate_left_has (width_of h.alike) (ap width_of h.gives) (subst (λ n. Fits (Word (width_of h.alike) NoImmediate) (use_of t n)) (sym x) first)
-        (λ unfolded. let fits = subst (λ n. Fits (Word W32 AnyWord) (use_of t n)) (sym y) second in
-        (fits.0, fits.1, subst (λ f. IsWord NoImmediate W32 (if f then Imm (known t.index (child v.children 1)).word else At (home t.index (child v.children 1)))) (sym unfolded) tt))
+        (λ unfolded. let fits = subst (λ n. Fits (Word W32 AnyWord) (use_of t n)) (sym y) second in (
+          fits.0,
+          fits.1,
+          subst (λ f. IsWord NoImmediate W32
+              (if f then Imm (known t.index (child v.children 1)).word else At (home t.index (child v.children 1)))) (sym unfolded) tt,
+        ))
         (folds t (child v.children 1)) refl
 
     pub code_has : (o : Opcode) → v.kind.opcode ≡ o → is_built o ≡ true → All Has (code_of t o v)
@@ -383,7 +408,8 @@ module _ (p : Procedure) (valid : IsValidProcedure p) (fit : ValuesFit p.blocks)
         (moved_child opcode.Trunc is (one.0, one.1, λ e. long_some (sym one.2 ∙ e)) (λ k. refl) W32)
     code_has opcode.Upsilon is built =
         one_move (width_at t.index (child v.children 0)) (arg_of t (child v.children 0)) (location t.index (phi_in v.body))
-        (moved_child opcode.Upsilon is (any_child (row opcode.Upsilon is).alike (row opcode.Upsilon is).children) (λ k. refl) (width_at t.index (child v.children 0)))
+        (moved_child opcode.Upsilon is (any_child (row opcode.Upsilon is).alike (row opcode.Upsilon is).children) (λ k. refl)
+        (width_at t.index (child v.children 0)))
     code_has opcode.Phi is built = one_move (width_of v.ty) (At (location t.index v.id)) (home t.index v.id) tt
     code_has opcode.Mod is built =
         let h = row opcode.Mod is in
@@ -408,35 +434,72 @@ module _ (p : Procedure) (valid : IsValidProcedure p) (fit : ValuesFit p.blocks)
         all_one Has (inst v (op.Switch (cases_in v.body)) (use_of t (child v.children 0) ∷ []))
         (switch_has is (any_child (row opcode.Switch is).alike (row opcode.Switch is).children))
     code_has opcode.Return is built = return_has is v.children refl
-    code_has opcode.Add is built = let h = row opcode.Add is in one_has op.Add (width_of h.alike, W64, pair opcode.Add is (λ k. refl) (λ k. refl) h.alike h.alike h.typed h.children h.gives)
-    code_has opcode.Sub is built = let h = row opcode.Sub is in one_has op.Sub (width_of h.alike, W64, pair opcode.Sub is (λ k. refl) (λ k. refl) h.alike h.alike h.typed h.children h.gives)
-    code_has opcode.Mul is built = let h = row opcode.Mul is in one_has op.Mul (width_of h.alike, W64, pair opcode.Mul is (λ k. refl) (λ k. refl) h.alike h.alike h.typed h.children h.gives)
-    code_has opcode.BitAnd is built = let h = row opcode.BitAnd is in one_has op.And (width_of h.alike, W64, pair opcode.BitAnd is (λ k. refl) (λ k. refl) h.alike h.alike h.typed h.children h.gives)
-    code_has opcode.BitOr is built = let h = row opcode.BitOr is in one_has op.Or (width_of h.alike, W64, pair opcode.BitOr is (λ k. refl) (λ k. refl) h.alike h.alike h.typed h.children h.gives)
-    code_has opcode.BitXor is built = let h = row opcode.BitXor is in one_has op.Xor (width_of h.alike, W64, pair opcode.BitXor is (λ k. refl) (λ k. refl) h.alike h.alike h.typed h.children h.gives)
-    code_has opcode.Div is built = let h = row opcode.Div is in one_has op.Div (width_of h.alike, W64, pair opcode.Div is (λ k. refl) (λ k. refl) h.alike h.alike h.typed h.children h.gives)
-    code_has opcode.UDiv is built = let h = row opcode.UDiv is in one_has op.UDiv (width_of h.alike, W64, pair opcode.UDiv is (λ k. refl) (λ k. refl) h.alike h.alike h.typed h.children h.gives)
-    code_has opcode.Shl is built = let h = row opcode.Shl is in one_has op.Lsl (width_of h.alike, W64, amount opcode.Shl is (λ k. refl) (λ k. refl) h.alike h.typed h.children h.gives)
-    code_has opcode.SShr is built = let h = row opcode.SShr is in one_has op.Asr (width_of h.alike, W64, amount opcode.SShr is (λ k. refl) (λ k. refl) h.alike h.typed h.children h.gives)
-    code_has opcode.ZShr is built = let h = row opcode.ZShr is in one_has op.Lsr (width_of h.alike, W64, amount opcode.ZShr is (λ k. refl) (λ k. refl) h.alike h.typed h.children h.gives)
-    code_has opcode.RotR is built = let h = row opcode.RotR is in one_has op.Ror (width_of h.alike, W64, amount opcode.RotR is (λ k. refl) (λ k. refl) h.alike h.typed h.children h.gives)
-    code_has opcode.Neg is built = let h = row opcode.Neg is in one_has op.Neg (width_of h.alike, W64, single opcode.Neg is (λ k. refl) (λ k. refl) h.alike h.typed h.children h.gives)
-    code_has opcode.Clz is built = let h = row opcode.Clz is in one_has op.Clz (width_of h.alike, W64, single opcode.Clz is (λ k. refl) (λ k. refl) h.alike h.typed h.children h.gives)
-    code_has opcode.SExt8 is built = let h = row opcode.SExt8 is in one_has op.SExt8 (W64, W64, from opcode.SExt8 is (λ k. refl) (λ k. refl) h.alike Int32 Int32 int_some h.children h.gives)
-    code_has opcode.SExt16 is built = let h = row opcode.SExt16 is in one_has op.SExt16 (W64, W64, from opcode.SExt16 is (λ k. refl) (λ k. refl) h.alike Int32 Int32 int_some h.children h.gives)
-    code_has opcode.SExt32 is built = let h = row opcode.SExt32 is in one_has op.SExt32 (W64, W64, from opcode.SExt32 is (λ k. refl) (λ k. refl) h.alike Int32 Int64 int_some h.children h.gives)
-    code_has opcode.ZExt32 is built = let h = row opcode.ZExt32 is in one_has op.ZExt32 (W64, W64, from opcode.ZExt32 is (λ k. refl) (λ k. refl) h.alike Int32 Int64 int_some h.children h.gives)
+    code_has opcode.Add is built = let h = row opcode.Add is in one_has op.Add
+        (width_of h.alike, W64, pair opcode.Add is (λ k. refl) (λ k. refl) h.alike h.alike h.typed h.children h.gives)
+    code_has opcode.Sub is built = let h = row opcode.Sub is in one_has op.Sub
+        (width_of h.alike, W64, pair opcode.Sub is (λ k. refl) (λ k. refl) h.alike h.alike h.typed h.children h.gives)
+    code_has opcode.Mul is built = let h = row opcode.Mul is in one_has op.Mul
+        (width_of h.alike, W64, pair opcode.Mul is (λ k. refl) (λ k. refl) h.alike h.alike h.typed h.children h.gives)
+    code_has opcode.BitAnd is built = let h = row opcode.BitAnd is in one_has op.And
+        (width_of h.alike, W64, pair opcode.BitAnd is (λ k. refl) (λ k. refl) h.alike h.alike h.typed h.children h.gives)
+    code_has opcode.BitOr is built = let h = row opcode.BitOr is in one_has op.Or
+        (width_of h.alike, W64, pair opcode.BitOr is (λ k. refl) (λ k. refl) h.alike h.alike h.typed h.children h.gives)
+    code_has opcode.BitXor is built = let h = row opcode.BitXor is in one_has op.Xor
+        (width_of h.alike, W64, pair opcode.BitXor is (λ k. refl) (λ k. refl) h.alike h.alike h.typed h.children h.gives)
+    code_has opcode.Div is built = let h = row opcode.Div is in one_has op.Div
+        (width_of h.alike, W64, pair opcode.Div is (λ k. refl) (λ k. refl) h.alike h.alike h.typed h.children h.gives)
+    code_has opcode.UDiv is built = let h = row opcode.UDiv is in one_has op.UDiv
+        (width_of h.alike, W64, pair opcode.UDiv is (λ k. refl) (λ k. refl) h.alike h.alike h.typed h.children h.gives)
+    code_has opcode.Shl is built = let h = row opcode.Shl is in one_has op.Lsl
+        (width_of h.alike, W64, amount opcode.Shl is (λ k. refl) (λ k. refl) h.alike h.typed h.children h.gives)
+    code_has opcode.SShr is built = let h = row opcode.SShr is in one_has op.Asr
+        (width_of h.alike, W64, amount opcode.SShr is (λ k. refl) (λ k. refl) h.alike h.typed h.children h.gives)
+    code_has opcode.ZShr is built = let h = row opcode.ZShr is in one_has op.Lsr
+        (width_of h.alike, W64, amount opcode.ZShr is (λ k. refl) (λ k. refl) h.alike h.typed h.children h.gives)
+    code_has opcode.RotR is built = let h = row opcode.RotR is in one_has op.Ror
+        (width_of h.alike, W64, amount opcode.RotR is (λ k. refl) (λ k. refl) h.alike h.typed h.children h.gives)
+    code_has opcode.Neg is built = let h = row opcode.Neg is in one_has op.Neg
+        (width_of h.alike, W64, single opcode.Neg is (λ k. refl) (λ k. refl) h.alike h.typed h.children h.gives)
+    code_has opcode.Clz is built = let h = row opcode.Clz is in one_has op.Clz
+        (width_of h.alike, W64, single opcode.Clz is (λ k. refl) (λ k. refl) h.alike h.typed h.children h.gives)
+    code_has opcode.SExt8 is built = let h = row opcode.SExt8 is in one_has op.SExt8
+        (W64, W64, from opcode.SExt8 is (λ k. refl) (λ k. refl) h.alike Int32 Int32 int_some h.children h.gives)
+    code_has opcode.SExt16 is built = let h = row opcode.SExt16 is in one_has op.SExt16
+        (W64, W64, from opcode.SExt16 is (λ k. refl) (λ k. refl) h.alike Int32 Int32 int_some h.children h.gives)
+    code_has opcode.SExt32 is built = let h = row opcode.SExt32 is in one_has op.SExt32
+        (W64, W64, from opcode.SExt32 is (λ k. refl) (λ k. refl) h.alike Int32 Int64 int_some h.children h.gives)
+    code_has opcode.ZExt32 is built = let h = row opcode.ZExt32 is in one_has op.ZExt32
+        (W64, W64, from opcode.ZExt32 is (λ k. refl) (λ k. refl) h.alike Int32 Int64 int_some h.children h.gives)
     code_has opcode.Identity is built =
         let h = row opcode.Identity is in
-        one_has op.Move (width_of h.alike, W64, moved (width_of h.alike) (map (use_of t) v.children) (result_of t v) (single opcode.Identity is (λ k. refl) (λ k. refl) h.alike h.typed h.children h.gives))
-    code_has opcode.Equal is built = let h = row opcode.Equal is in one_has (op_of opcode.Equal) (width_of h.alike, W64, pair opcode.Equal is (λ k. refl) (λ k. refl) h.alike Int32 h.typed h.children h.gives)
-    code_has opcode.NotEqual is built = let h = row opcode.NotEqual is in one_has (op_of opcode.NotEqual) (width_of h.alike, W64, pair opcode.NotEqual is (λ k. refl) (λ k. refl) h.alike Int32 h.typed h.children h.gives)
-    code_has opcode.LessThan is built = let h = row opcode.LessThan is in one_has (op_of opcode.LessThan) (width_of h.alike, W64, pair opcode.LessThan is (λ k. refl) (λ k. refl) h.alike Int32 h.typed h.children h.gives)
-    code_has opcode.GreaterThan is built = let h = row opcode.GreaterThan is in one_has (op_of opcode.GreaterThan) (width_of h.alike, W64, pair opcode.GreaterThan is (λ k. refl) (λ k. refl) h.alike Int32 h.typed h.children h.gives)
-    code_has opcode.LessEqual is built = let h = row opcode.LessEqual is in one_has (op_of opcode.LessEqual) (width_of h.alike, W64, pair opcode.LessEqual is (λ k. refl) (λ k. refl) h.alike Int32 h.typed h.children h.gives)
-    code_has opcode.GreaterEqual is built = let h = row opcode.GreaterEqual is in one_has (op_of opcode.GreaterEqual) (width_of h.alike, W64, pair opcode.GreaterEqual is (λ k. refl) (λ k. refl) h.alike Int32 h.typed h.children h.gives)
-    code_has opcode.Above is built = let h = row opcode.Above is in one_has (op_of opcode.Above) (width_of h.alike, W64, pair opcode.Above is (λ k. refl) (λ k. refl) h.alike Int32 h.typed h.children h.gives)
-    code_has opcode.Below is built = let h = row opcode.Below is in one_has (op_of opcode.Below) (width_of h.alike, W64, pair opcode.Below is (λ k. refl) (λ k. refl) h.alike Int32 h.typed h.children h.gives)
-    code_has opcode.AboveEqual is built = let h = row opcode.AboveEqual is in one_has (op_of opcode.AboveEqual) (width_of h.alike, W64, pair opcode.AboveEqual is (λ k. refl) (λ k. refl) h.alike Int32 h.typed h.children h.gives)
-    code_has opcode.BelowEqual is built = let h = row opcode.BelowEqual is in one_has (op_of opcode.BelowEqual) (width_of h.alike, W64, pair opcode.BelowEqual is (λ k. refl) (λ k. refl) h.alike Int32 h.typed h.children h.gives)
+        one_has op.Move (
+          width_of h.alike,
+          W64,
+          moved (width_of h.alike) (map (use_of t) v.children) (result_of t v)
+              (single opcode.Identity is (λ k. refl) (λ k. refl) h.alike h.typed h.children h.gives),
+        )
+    code_has opcode.Equal is built = let h = row opcode.Equal is in one_has (op_of opcode.Equal)
+        (width_of h.alike, W64, pair opcode.Equal is (λ k. refl) (λ k. refl) h.alike Int32 h.typed h.children h.gives)
+    code_has opcode.NotEqual is built = let h = row opcode.NotEqual is in one_has (op_of opcode.NotEqual)
+        (width_of h.alike, W64, pair opcode.NotEqual is (λ k. refl) (λ k. refl) h.alike Int32 h.typed h.children h.gives)
+    code_has opcode.LessThan is built = let h = row opcode.LessThan is in one_has (op_of opcode.LessThan)
+        (width_of h.alike, W64, pair opcode.LessThan is (λ k. refl) (λ k. refl) h.alike Int32 h.typed h.children h.gives)
+    code_has opcode.GreaterThan is built = let h =
+        row opcode.GreaterThan is in one_has (op_of opcode.GreaterThan)
+        (width_of h.alike, W64, pair opcode.GreaterThan is (λ k. refl) (λ k. refl) h.alike Int32 h.typed h.children h.gives)
+    code_has opcode.LessEqual is built = let h = row opcode.LessEqual is in one_has (op_of opcode.LessEqual)
+        (width_of h.alike, W64, pair opcode.LessEqual is (λ k. refl) (λ k. refl) h.alike Int32 h.typed h.children h.gives)
+    code_has opcode.GreaterEqual is built = let h =
+        row opcode.GreaterEqual is in one_has (op_of opcode.GreaterEqual)
+        (width_of h.alike, W64, pair opcode.GreaterEqual is (λ k. refl) (λ k. refl) h.alike Int32 h.typed h.children h.gives)
+    code_has opcode.Above is built = let h = row opcode.Above is in one_has (op_of opcode.Above)
+        (width_of h.alike, W64, pair opcode.Above is (λ k. refl) (λ k. refl) h.alike Int32 h.typed h.children h.gives)
+    code_has opcode.Below is built = let h = row opcode.Below is in one_has (op_of opcode.Below)
+        (width_of h.alike, W64, pair opcode.Below is (λ k. refl) (λ k. refl) h.alike Int32 h.typed h.children h.gives)
+    code_has opcode.AboveEqual is built = let h =
+        row opcode.AboveEqual is in one_has (op_of opcode.AboveEqual)
+        (width_of h.alike, W64, pair opcode.AboveEqual is (λ k. refl) (λ k. refl) h.alike Int32 h.typed h.children h.gives)
+    code_has opcode.BelowEqual is built = let h =
+        row opcode.BelowEqual is in one_has (op_of opcode.BelowEqual)
+        (width_of h.alike, W64, pair opcode.BelowEqual is (λ k. refl) (λ k. refl) h.alike Int32 h.typed h.children h.gives)
     code_has _ is built = absurd cc

@@ -1,11 +1,11 @@
 -- What one instruction does that reads words and writes one, or leaves the block.
-use Rattle.std.proofs.Common.{◌≡◌, ℕ, Bool, true, false, List, [], ◌∷◌, ◌++◌, Option, Some, None, map, refl, sym, ap, ◌∙◌, subst}
+use Rattle.std.proofs.Common.{◌≡◌, ℕ, List, [], ◌∷◌, Some, None, refl, ap, ◌∙◌}
 use Rattle.b3_base.specs.Arithmetic.{low}
 use Rattle.b3_base.specs.Observed.{Start}
 use Rattle.b3_base.specs.declared.word.Width.{Width}
-use Rattle.air_ir.specs.Meaning.{Effect, Exit, World, gives, leaves, meaning, operation}
-use Rattle.air_ir.specs.Operands.{Held, Holds, Homes, Read, Target, and_word, put, put_all, read, targets, word_of, words}
-use Rattle.air_ir.specs.Steps.{Goes, Outcome, State, after_reading, carried_out, junk_words, step, steps, written}
+use Rattle.air_ir.specs.Meaning.{Exit, gives, leaves, meaning, operation}
+use Rattle.air_ir.specs.Operands.{Holds, Homes, Read, Target, put, put_all, read, targets, word_of, words}
+use Rattle.air_ir.specs.Steps.{Goes, Outcome, State, after_reading, carried_out, junk_words, step, steps}
 use Rattle.air_ir.specs.declared.operand.Arg.{Arg}
 use Rattle.air_ir.specs.declared.operand.Arg.TheVariants.{At, Imm}
 use Rattle.air_ir.specs.declared.operand.Home.{Home}
@@ -96,5 +96,6 @@ module _ (start : Start) where
   unfolding steps
   steps_none s junk = refl
 
-  pub steps_last : (i : AirInst) (s : State) (junk : List ℕ) (o : Outcome × List ℕ) → step (meaning start) i s junk ≡ o → steps (meaning start) (i ∷ []) s junk ≡ o
+  pub steps_last : (i : AirInst) (s : State) (junk : List ℕ) (o : Outcome × List ℕ) → step (meaning start) i s junk ≡ o
+      → steps (meaning start) (i ∷ []) s junk ≡ o
   steps_last i s junk o e = steps-one (meaning start) i s junk ∙ e

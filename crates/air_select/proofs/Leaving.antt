@@ -1,11 +1,11 @@
 -- Select, and the values that end a block.
-use Rattle.std.proofs.Common.{◌≡◌, ◌≢◌, ℕ, zero, suc, ◌+◌, ◌^◌, ◌<◌, ◌⊎◌, inl, inr, Bool, true, false, ◌||◌, List, [], ◌∷◌, ◌++◌, map, length, Option, Some, None, nat_eq, refl, sym, ap, ◌∙◌, subst, arith, append-nil}
+use Rattle.std.proofs.Common.{◌≡◌, ℕ, suc, ◌+◌, ◌^◌, ◌<◌, ◌⊎◌, inl, inr, Bool, true, false, ◌||◌, List, [], ◌∷◌, ◌++◌, map, length, Option, Some, None, nat_eq, refl, sym, ap, ◌∙◌, subst, arith, append-nil}
 use Rattle.std.specs.Prelude.{Contains, if◌then◌else◌, not, slice_get}
 use Rattle.std.specs.Option.{option_map}
 use Rattle.std.proofs.lemmas.Bool.{eq-eqb}
 use Rattle.std.proofs.lemmas.Option.{slice_get-map}
 use Rattle.b3_base.specs.Arithmetic.{low}
-use Rattle.b3_base.specs.Observed.{Event, Memory, Observation, Start}
+use Rattle.b3_base.specs.Observed.{Event, Memory, Start}
 use Rattle.b3_base.specs.Word.{bits}
 use Rattle.b3_base.specs.declared.observation.Status.{Status}
 use Rattle.b3_base.specs.declared.observation.Status.TheVariants.{Returned}
@@ -30,34 +30,29 @@ use Rattle.b3_rules.specs.Rules.{types_of}
 use Rattle.b3_rules.specs.Paths.{successors_in}
 use Rattle.b3_sound.proofs.Lists.{contains_head}
 use Rattle.air_ir.specs.Blocks.{seen_as}
-use Rattle.air_ir.specs.Kinds.{Computes}
 use Rattle.air_ir.specs.Meaning as air
 use Rattle.air_ir.specs.Meaning.{Over, To, World, case_number, leaves, meaning, operation}
 use Rattle.air_ir.specs.Operands.{Holds, Homes, Read, put, read, targets, word_of, words}
-use Rattle.air_ir.specs.Steps.{Goes, Outcome as Ran, State, step, steps}
-use Rattle.air_ir.specs.Words.{Tested, computed, select_if, test}
+use Rattle.air_ir.specs.Steps.{Goes, Outcome as Ran, steps}
+use Rattle.air_ir.specs.Words.{Tested, select_if, test}
 use Rattle.air_ir.specs.declared.op.AirOp.TheVariants as op
 use Rattle.air_ir.specs.declared.op.Test.{Test}
 use Rattle.air_ir.specs.declared.operand.Arg.TheVariants.{At}
-use Rattle.air_ir.specs.declared.operand.Home.{Home}
-use Rattle.air_ir.specs.declared.operand.Home.TheVariants.{Reg}
-use Rattle.air_ir.specs.declared.operand.Operand.{Operand}
 use Rattle.air_ir.specs.declared.procedure.AirInst.{AirInst}
 use Rattle.air_ir.proofs.Stepping.{steps-one}
 use Rattle.air_select.specs.Foldable.{condition_fits, is_bit_test, is_comparison}
-use Rattle.air_select.specs.Selected.{Condition, Tables, arg_of, branch_on, cases_in, condition_of, def_at, inst, move, register, result_of, return_of, select_on, targets_of, use_at, use_of}
+use Rattle.air_select.specs.Selected.{Tables, arg_of, branch_on, cases_in, condition_of, inst, move, register, result_of, return_of, select_on, targets_of, use_at, use_of}
 use Rattle.air_select.specs.Tables.{child, home, width_at}
-use Rattle.air_select.specs.declared.known.Known.{Known}
-use Rattle.air_select.proofs.Children.{child_word, readable, typed, width_is, word_small, words_cons, words_nil}
+use Rattle.air_select.proofs.Children.{child_word, readable, width_is, word_small, words_cons, words_nil}
 use Rattle.air_select.proofs.Copied.{moved, row_of_role}
 use Rattle.air_select.proofs.Deciding.{Decides, decides}
 use Rattle.air_select.proofs.Does.{Does, Here, allows, are_words, at, gives_does, here, puts, result_small, words_here}
 use Rattle.air_select.proofs.Facts.{child_ran}
 use Rattle.air_select.proofs.Instructions.{at_home, one_leave, one_word, reads_def, reads_none, reads_use, steps_first, steps_last, with_home, writes_def, writes_none, writes_use}
 use Rattle.air_select.proofs.Plain.{computing, later_condition}
-use Rattle.air_select.proofs.Related.{Related, holds_word}
+use Rattle.air_select.proofs.Related.{holds_word}
 use Rattle.air_select.proofs.Remainders.{child_in}
-use Rattle.air_select.proofs.Shapes.{OneHere, ThreeHere, one_child, one_here, three_children, three_here}
+use Rattle.air_select.proofs.Shapes.{one_child, one_here, three_children, three_here}
 
 or_cases : (a b : Bool) → (a || b) ≡ true → (a ≡ true) ⊎ (b ≡ true)
 or_cases true b e = inl refl
@@ -73,14 +68,16 @@ chosen_word false x y w e = e
 module _ (p : Procedure) (t : Tables) (start : Start) (v : Value) (h : Here p t start v) (junk : List ℕ) where
   -- ---- Select
 
-  later_child : (i c w : ℕ) → slice_get v.children (suc i) ≡ Some c → Contains v.children c → h.st.words c ≡ Some w → word_of h.s.homes (width_at t.index c) (arg_of t c) ≡ Some w
+  later_child : (i c w : ℕ) → slice_get v.children (suc i) ≡ Some c → Contains v.children c → h.st.words c ≡ Some w
+      → word_of h.s.homes (width_at t.index c) (arg_of t c) ≡ Some w
   later_child i c w there has now =
       child_word p h.valid t h.sound start h.passed h.block h.before (v ∷ h.rest) h.stands h.st h.reached h.s h.related c w
       (child_ran p h.valid h.passed h.block h.before h.st h.reached v (at p t start v h) c has)
       (readable p h.valid t h.sound start h.block v (here p t start v h) (suc i) c there (λ k. later_condition t.index v.kind.opcode i k)) now
 
   pub select_does : v.kind.opcode ≡ opcode.Select
-      → Does p t start v junk (b3.gives h.st v.id (result v.kind.opcode v.kind.chill v.ty (words_here p t start v h) (types_of p v))) (steps (meaning start) (select_on t v (condition_of t (child v.children 0))) h.s junk)
+      → Does p t start v junk (b3.gives h.st v.id (result v.kind.opcode v.kind.chill v.ty (words_here p t start v h) (types_of p v)))
+      (steps (meaning start) (select_on t v (condition_of t (child v.children 0))) h.s junk)
   select_does eo =
       let ws = words_here p t start v h in
       let c = condition_of t (child v.children 0) in
@@ -93,7 +90,8 @@ module _ (p : Procedure) (t : Tables) (start : Start) (v : Value) (h : Here p t 
       let y = child v.children 2 in
       let is : (if nat_eq three.wx 0 then three.wz else three.wy) ≡ w =
       gives_is (if nat_eq three.wx 0 then three.wz else three.wy) w
-      (ap (λ (l : List ℕ). result opcode.Select v.kind.chill v.ty l (types_of p v)) (sym three.words) ∙ ap (λ (q : Opcode). result q v.kind.chill v.ty ws (types_of p v)) (sym eo) ∙ g) in
+      (ap (λ (l : List ℕ). result opcode.Select v.kind.chill v.ty l (types_of p v)) (sym three.words)
+      ∙ ap (λ (q : Opcode). result q v.kind.chill v.ty ws (types_of p v)) (sym eo) ∙ g) in
       let d : Decides h.s.homes c three.wx =
       decides p t start v h (child v.children 0) three.wx three.x_at three.x_in three.x_now
       (λ k fits. inl (sym (ap (λ (q : Opcode). condition_fits t.index q 0 k) eo) ∙ fits)) in
@@ -109,8 +107,10 @@ module _ (p : Procedure) (t : Tables) (start : Start) (v : Value) (h : Here p t 
       puts p t start v h junk w h.s (steps (meaning start) (i ∷ []) h.s junk) (result_small p t start v h w (ap role_of eo) g) h.related
       (steps_last start i h.s junk (Goes None (with_home h.s (home t.index v.id) (width_of v.ty) w), junk)
       (one_word start i h.s junk rs (home t.index v.id) (width_of v.ty) w (d.words_are os more tail)
-      (computing p t start v h (op.SelectIf c.test) v.id rs h.s.world w refl (ap select_if (d.tells more) ∙ ap Some (chosen_word (nat_eq three.wx 0) three.wy three.wz w is)))
-      (d.writes os ∙ writes_use (width_at t.index x) (arg_of t x) (use_of t y ∷ result_of t v ∷ []) ∙ writes_use (width_at t.index y) (arg_of t y) (result_of t v ∷ [])
+      (computing p t start v h (op.SelectIf c.test) v.id rs h.s.world w refl
+      (ap select_if (d.tells more) ∙ ap Some (chosen_word (nat_eq three.wx 0) three.wy three.wz w is)))
+      (d.writes os ∙ writes_use (width_at t.index x) (arg_of t x) (use_of t y ∷ result_of t v ∷ [])
+      ∙ writes_use (width_at t.index y) (arg_of t y) (result_of t v ∷ [])
       ∙ writes_def (width_of v.ty) (home t.index v.id)))))
 
   -- ---- Jump
@@ -130,7 +130,8 @@ module _ (p : Procedure) (t : Tables) (start : Start) (v : Value) (h : Here p t 
 
   target_at : (body : Body) → v.body ≡ body → (k b : ℕ) → slice_get (successors_in body) k ≡ Some b → slice_get (targets_of v) k ≡ Some (b + 1)
   target_at body e k b there =
-      ap (λ (x : Body). slice_get (map (λ n. n + 1) (successors_in x)) k) e ∙ slice_get-map (λ n. n + 1) (successors_in body) k ∙ ap (option_map (λ n. n + 1)) there
+      ap (λ (x : Body). slice_get (map (λ n. n + 1) (successors_in x)) k) e ∙ slice_get-map (λ n. n + 1) (successors_in body) k
+      ∙ ap (option_map (λ n. n + 1)) there
 
   jump_means : (value : ℕ) (w : World) → meaning start (record { op = op.Jump; value = value; traps = false }) [] w ≡ leaves w (To 0)
   unfolding meaning
@@ -150,18 +151,21 @@ module _ (p : Procedure) (t : Tables) (start : Start) (v : Value) (h : Here p t 
 
   -- ---- Branch
 
-  branch_means : (tested : Test) (value : ℕ) (rs : List Read) (w : World) (passes : Bool) → test tested (air.width_of rs) (map (λ (r : Read). r.1) rs) ≡ Some (passes, [])
+  branch_means : (tested : Test) (value : ℕ) (rs : List Read) (w : World) (passes : Bool)
+      → test tested (air.width_of rs) (map (λ (r : Read). r.1) rs) ≡ Some (passes, [])
       → meaning start (record { op = op.BranchIf tested; value = value; traps = false }) rs w ≡ leaves w (To (if passes then 0 else 1))
   unfolding meaning
   branch_means tested value rs w passes e = ap (λ (x : Option Tested). air.branches x w) e
 
   pub branch_does : v.kind.opcode ≡ opcode.Branch
-      → Does p t start v junk (b3.branches h.st v.body (words_here p t start v h)) (steps (meaning start) (branch_on t v (condition_of t (child v.children 0))) h.s junk)
+      → Does p t start v junk (b3.branches h.st v.body (words_here p t start v h))
+      (steps (meaning start) (branch_on t v (condition_of t (child v.children 0))) h.s junk)
   branch_does eo =
       let ws = words_here p t start v h in
       let c = condition_of t (child v.children 0) in
       let allowed = subst (λ (q : Opcode). AllowsTypes q v.ty (types_of p v)) eo (allows p t start v h) in
-      let one = one_here (type_of p) h.st.words allowed.alike Any v.children ws (one_child (type_of p) h.st.words allowed.alike Any v.children ws allowed.children (are_words p t start v h)) in
+      let one = one_here (type_of p) h.st.words allowed.alike Any v.children ws
+      (one_child (type_of p) h.st.words allowed.alike Any v.children ws allowed.children (are_words p t start v h)) in
       let target = two_targets v.body (row_of_role p t start v h opcode.Branch eo).2 in
       let d : Decides h.s.homes c one.wx =
       decides p t start v h (child v.children 0) one.wx one.x_at one.x_in one.x_now
@@ -175,10 +179,12 @@ module _ (p : Procedure) (t : Tables) (start : Start) (v : Value) (h : Here p t 
       (branch_means c.test v.id (d.reads ++ []) h.s.world (not (nat_eq one.wx 0)) (d.tells []))
       (ap targets (sym (append-nil c.over)) ∙ d.writes [] ∙ writes_none)) in
       subst (λ (b : Body). Does p t start v junk (b3.branches h.st b ws) (steps (meaning start) (i ∷ []) h.s junk)) (sym target.2)
-      (subst (λ (l : List ℕ). Does p t start v junk (b3.branches h.st (Targets (target.0 ∷ target.1 ∷ [])) l) (steps (meaning start) (i ∷ []) h.s junk)) (sym one.words)
+      (subst (λ (l : List ℕ). Does p t start v junk (b3.branches h.st (Targets (target.0 ∷ target.1 ∷ [])) l) (steps (meaning start) (i ∷ []) h.s junk))
+      (sym one.words)
       ((if not (nat_eq one.wx 0) then 0 else 1), h.s, leaves_it, chosen_target (nat_eq one.wx 0) target.0 target.1 target.2, h.related))
     where
-      chosen_target : (zero : Bool) (a b : ℕ) → v.body ≡ Targets (a ∷ b ∷ []) → slice_get (targets_of v) (if not zero then 0 else 1) ≡ Some ((if zero then b else a) + 1)
+      chosen_target : (zero : Bool) (a b : ℕ) → v.body ≡ Targets (a ∷ b ∷ [])
+          → slice_get (targets_of v) (if not zero then 0 else 1) ≡ Some ((if zero then b else a) + 1)
       chosen_target true a b e = target_at (Targets (a ∷ b ∷ [])) e 1 b refl
       chosen_target false a b e = target_at (Targets (a ∷ b ∷ [])) e 0 a refl
 
@@ -188,7 +194,8 @@ module _ (p : Procedure) (t : Tables) (start : Start) (v : Value) (h : Here p t 
   cases_are (Cases cases blocks) has = (cases, blocks, refl)
   cases_are _ has = absurd has
 
-  chosen_case : (width : Width) (word : ℕ) (cases blocks : List ℕ) (b : ℕ) → b3.chosen width word cases blocks ≡ Some b → slice_get blocks (case_number width word cases) ≡ Some b
+  chosen_case : (width : Width) (word : ℕ) (cases blocks : List ℕ) (b : ℕ) → b3.chosen width word cases blocks ≡ Some b
+      → slice_get blocks (case_number width word cases) ≡ Some b
   chosen_case width word cases [] b e = absurd (cc)
   chosen_case width word [] (c ∷ blocks) b e = e
   chosen_case width word (k ∷ cases) (c ∷ blocks) b e = go (nat_eq (low width k) word) e (chosen_case width word cases blocks b)
@@ -199,7 +206,8 @@ module _ (p : Procedure) (t : Tables) (start : Start) (v : Value) (h : Here p t 
       go true e later = e
       go false e later = later e
 
-  switch_means : (cases : List ℕ) (value word : ℕ) (width : Width) (w : World) → meaning start (record { op = op.Switch cases; value = value; traps = false }) ((width, word) ∷ []) w
+  switch_means : (cases : List ℕ) (value word : ℕ) (width : Width) (w : World)
+      → meaning start (record { op = op.Switch cases; value = value; traps = false }) ((width, word) ∷ []) w
       ≡ leaves w (To (case_number width word cases))
   unfolding meaning
   switch_means cases value word width w = refl
@@ -209,7 +217,8 @@ module _ (p : Procedure) (t : Tables) (start : Start) (v : Value) (h : Here p t 
   leads None o does = tt
 
   pub switch_does : v.kind.opcode ≡ opcode.Switch
-      → Does p t start v junk (b3.switches h.st v.body (types_of p v) (words_here p t start v h)) (steps (meaning start) (inst v (op.Switch (cases_in v.body)) (use_of t (child v.children 0) ∷ []) ∷ []) h.s junk)
+      → Does p t start v junk (b3.switches h.st v.body (types_of p v) (words_here p t start v h))
+      (steps (meaning start) (inst v (op.Switch (cases_in v.body)) (use_of t (child v.children 0) ∷ []) ∷ []) h.s junk)
   switch_does eo =
       let ws = words_here p t start v h in
       let c = child v.children 0 in
@@ -220,22 +229,27 @@ module _ (p : Procedure) (t : Tables) (start : Start) (v : Value) (h : Here p t 
       let types : types_of p v ≡ type_of p shape.x ∷ [] = ap (map (type_of p)) shape.are in
       let c_is : c ≡ shape.x = ap (λ (l : List ℕ). child l 0) shape.are in
       let width : width_at t.index c ≡ width_of (type_of p shape.x) =
-      width_is p h.valid t h.sound start h.passed h.block h.before (v ∷ h.rest) h.stands h.st h.reached h.s h.related c ∙ ap (λ (q : ℕ). width_of (type_of p q)) c_is in
+      width_is p h.valid t h.sound start h.passed h.block h.before (v ∷ h.rest) h.stands h.st h.reached h.s h.related c
+      ∙ ap (λ (q : ℕ). width_of (type_of p q)) c_is in
       let number = case_number (width_at t.index c) one.wx has.0 in
       let i : AirInst = inst v (op.Switch has.0) (use_of t c ∷ []) in
       let leaves_it : steps (meaning start) (i ∷ []) h.s junk ≡ (Goes (Some (To number)) h.s, junk) =
       steps_last start i h.s junk (Goes (Some (To number)) h.s, junk)
       (one_leave start i h.s junk ((width_at t.index c, one.wx) ∷ []) (To number)
-      (reads_use h.s.homes (width_at t.index c) (arg_of t c) [] one.wx [] (child_in p t start v h junk h.s h.related opcode.Switch eo refl 0 c one.wx one.x_at one.x_in one.x_now) (reads_none h.s.homes))
+      (reads_use h.s.homes (width_at t.index c) (arg_of t c) [] one.wx []
+      (child_in p t start v h junk h.s h.related opcode.Switch eo refl 0 c one.wx one.x_at one.x_in one.x_now) (reads_none h.s.homes))
       (switch_means has.0 v.id one.wx (width_at t.index c) h.s.world) (writes_use (width_at t.index c) (arg_of t c) [] ∙ writes_none)) in
-      subst (λ (b : Body). Does p t start v junk (b3.switches h.st b (types_of p v) ws) (steps (meaning start) (inst v (op.Switch (cases_in b)) (use_of t c ∷ []) ∷ []) h.s junk)) (sym has.2)
+      subst (λ (b : Body). Does p t start v junk (b3.switches h.st b (types_of p v) ws)
+      (steps (meaning start) (inst v (op.Switch (cases_in b)) (use_of t c ∷ []) ∷ []) h.s junk)) (sym has.2)
       (subst (λ (l : List Ty). Does p t start v junk (b3.switches h.st (Cases has.0 has.1) l ws) (steps (meaning start) (i ∷ []) h.s junk)) (sym types)
-      (subst (λ (l : List ℕ). Does p t start v junk (b3.switches h.st (Cases has.0 has.1) (type_of p shape.x ∷ []) l) (steps (meaning start) (i ∷ []) h.s junk)) (sym one.words)
+      (subst (λ (l : List ℕ). Does p t start v junk (b3.switches h.st (Cases has.0 has.1) (type_of p shape.x ∷ []) l)
+      (steps (meaning start) (i ∷ []) h.s junk)) (sym one.words)
       (leads (b3.chosen (width_of (type_of p shape.x)) one.wx has.0 has.1) (steps (meaning start) (i ∷ []) h.s junk) (λ b e. (
         number,
         h.s,
         leaves_it,
-        target_at (Cases has.0 has.1) has.2 number b (ap (λ (k : Width). slice_get has.1 (case_number k one.wx has.0)) width ∙ chosen_case (width_of (type_of p shape.x)) one.wx has.0 has.1 b e),
+        target_at (Cases has.0 has.1) has.2 number b (ap (λ (k : Width). slice_get has.1 (case_number k one.wx has.0)) width
+            ∙ chosen_case (width_of (type_of p shape.x)) one.wx has.0 has.1 b e),
         h.related,
       )))))
 
@@ -245,7 +259,8 @@ module _ (p : Procedure) (t : Tables) (start : Start) (v : Value) (h : Here p t 
   unfolding meaning
   return_none value w = refl
 
-  return_word : (value word : ℕ) (width : Width) (w : World) → meaning start (record { op = op.Return; value = value; traps = false }) ((width, word) ∷ []) w ≡ leaves w (Over (Returned (Some word)))
+  return_word : (value word : ℕ) (width : Width) (w : World)
+      → meaning start (record { op = op.Return; value = value; traps = false }) ((width, word) ∷ []) w ≡ leaves w (Over (Returned (Some word)))
   unfolding meaning
   return_word value word width w = refl
 
@@ -282,7 +297,8 @@ module _ (p : Procedure) (t : Tables) (start : Start) (v : Value) (h : Here p t 
             (sym (steps-one (meaning start) copy h.s junk) ∙ moved p t start v h h.s junk width (arg_of t c) (register 0) w reads)
             ∙ steps_last start last after junk (Goes (Some (Over (Returned (Some w)))) after, junk)
             (one_leave start last after junk ((width, w) ∷ []) (Over (Returned (Some w)))
-            (reads_use after.homes width (At (register 0)) [] w [] (at_home after.homes width (register 0) w (ap (read width) (put_register h.s.homes 0 width w) ∙ holds_word width w small))
+            (reads_use after.homes width (At (register 0)) [] w []
+            (at_home after.homes width (register 0) w (ap (read width) (put_register h.s.homes 0 width w) ∙ holds_word width w small))
             (reads_none after.homes))
             (return_word v.id w width after.world) (writes_use width (At (register 0)) [] ∙ writes_none)),
         same_seen (Returned (Some w)),

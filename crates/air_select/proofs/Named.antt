@@ -1,7 +1,6 @@
 -- The operands of what is selected name temporaries of the procedure, and registers that values may stand in.
-use Rattle.std.proofs.Common.{◌≡◌, ℕ, zero, suc, ◌+◌, ◌*◌, ◌<◌, ◌≤◌, ◌⊎◌, inl, inr, Bool, true, false, List, [], ◌∷◌, ◌++◌, map, length, refl, sym, ap, ◌∙◌, subst, arith}
-use Rattle.std.specs.Prelude.{All, Contains, ◌==◌, if◌then◌else◌, nat_eq}
-use Rattle.std.specs.List.{flat_map}
+use Rattle.std.proofs.Common.{◌≡◌, ℕ, zero, suc, ◌+◌, ◌*◌, ◌<◌, ◌≤◌, inl, Bool, true, false, List, [], ◌∷◌, ◌++◌, map, length, refl, arith}
+use Rattle.std.specs.Prelude.{All, ◌==◌, if◌then◌else◌}
 use Rattle.std.proofs.lemmas.List.Elements.{All-append, All-cons, All-map, All-nil}
 use Rattle.b3_base.specs.declared.word.Width.{Width}
 use Rattle.b3_base.specs.declared.word.Width.TheVariants.{W32, W64}
@@ -15,7 +14,6 @@ use Rattle.air_ir.specs.declared.op.AirOp.TheVariants as op
 use Rattle.air_ir.specs.declared.op.Test.TheVariants.{Bit, Compare, NonZero}
 use Rattle.air_ir.specs.declared.operand.Arg.{Arg}
 use Rattle.air_ir.specs.declared.operand.Arg.TheVariants.{At, Imm}
-use Rattle.air_ir.specs.declared.operand.Home.{Home}
 use Rattle.air_ir.specs.declared.operand.Home.TheVariants.{Tmp}
 use Rattle.air_ir.specs.declared.operand.Operand.{Operand}
 use Rattle.air_ir.specs.declared.procedure.AirInst.{AirInst}
@@ -23,7 +21,7 @@ use Rattle.air_ir.specs.declared.procedure.AirProc.{AirProc}
 use Rattle.air_ir.specs.WellFormed.{NamesOwn}
 use Rattle.air_select.specs.Foldable.{bit_of, is_comparison}
 use Rattle.air_select.specs.Selected.{Condition, Tables, arg_of, argument_move, argument_moves, cases_in, chosen_rest, code_of, computes, condition, condition_of, def_at, entry_of, folded_condition, folds, inst, last_id, names_argument, negative_amount, op_of, phi_in, quotient_of, register, register_in, rest_into, result_of, return_of, rotate_by, select_on, turned, use_at, use_of, value_code}
-use Rattle.air_select.specs.Tables.{Index, argument, child, first_extra, home, known, place, second_extra, tmp_count, width_at}
+use Rattle.air_select.specs.Tables.{argument, child, first_extra, home, known, place, second_extra, tmp_count, width_at}
 use Rattle.air_select.proofs.Sites.{all_of, all_one, all_three, all_two}
 
 place_most : (ids : List ℕ) (id : ℕ) → place_among ids id ≤ length ids
@@ -146,7 +144,8 @@ module _ (q : AirProc) (t : Tables) (tmps : q.tmps ≡ tmp_count t.index) where
         (all_three IsOwn (use_of t (child v.children 1)) (use_of t (child v.children 2)) (result_of t v)
         (use_own (child v.children 1)) (use_own (child v.children 2)) (home_below v.id)))
 
-    move_own : (width : Width) (from : Arg) (to : ℕ) → IsOwn (use_at width from) → to < q.tmps → All IsOwnInst (inst v op.Move (use_at width from ∷ def_at width (Tmp to) ∷ []) ∷ [])
+    move_own : (width : Width) (from : Arg) (to : ℕ) → IsOwn (use_at width from) → to < q.tmps
+        → All IsOwnInst (inst v op.Move (use_at width from ∷ def_at width (Tmp to) ∷ []) ∷ [])
     move_own width from to a b =
         all_one IsOwnInst (inst v op.Move (use_at width from ∷ def_at width (Tmp to) ∷ [])) (all_two IsOwn (use_at width from) (def_at width (Tmp to)) a b)
 

@@ -1,11 +1,11 @@
 -- The opcodes that are one op over their children: the op computes the word that the opcode gives.
-use Rattle.std.proofs.Common.{◌≡◌, ◌≢◌, ℕ, ◌-◌, ◌/◌, ◌^◌, ◌<◌, Bool, true, false, List, [], ◌∷◌, ◌&&◌, Option, Some, None, refl, sym, ap, ◌∙◌, subst, arith, nat_eq}
+use Rattle.std.proofs.Common.{◌≡◌, ℕ, ◌-◌, ◌/◌, ◌^◌, ◌<◌, Bool, true, false, List, [], ◌∷◌, ◌&&◌, Some, refl, sym, ap, ◌∙◌, subst, nat_eq}
 use Rattle.std.specs.Prelude.{if◌then◌else◌, nat_lt, not}
 use Rattle.std.specs.Int.RustNames.{int_div}
 use Rattle.std.specs.Int.Bits.{bit_and, bit_or, bit_xor}
 use Rattle.std.proofs.lemmas.Bool.{eqb-true}
 use Rattle.b3_base.specs.Arithmetic.{leading_zeros, low, rotate_right, sign_extended}
-use Rattle.b3_base.specs.Signed.{complement, shifted_right_signed, signed, unsigned}
+use Rattle.b3_base.specs.Signed.{shifted_right_signed, signed, unsigned}
 use Rattle.b3_base.specs.Word.{bits}
 use Rattle.b3_base.specs.declared.word.Width.{Width}
 use Rattle.b3_base.specs.declared.word.Width.TheVariants.{W32, W64}
@@ -13,18 +13,15 @@ use Rattle.b3_ir.specs.Types.{AllowsTypes, AreTaken, IsTaken, width_of}
 use Rattle.b3_ir.specs.declared.opcode.Opcode.{Opcode}
 use Rattle.b3_ir.specs.declared.opcode.Opcode.TheVariants as opcode
 use Rattle.b3_ir.specs.declared.opcode.Ty.{Ty}
-use Rattle.b3_ir.specs.declared.opcode.Ty.TheVariants.{Int32, Int64}
+use Rattle.b3_ir.specs.declared.opcode.Ty.TheVariants.{Int32}
 use Rattle.b3_ir.specs.declared.table.Takes.{Takes}
 use Rattle.b3_ir.specs.declared.table.Takes.TheVariants.{Alike, This}
 use Rattle.b3_ir.specs.declared.table.More.TheVariants.{NoMore}
-use Rattle.b3_meaning.specs.Opcodes.{AreWordsOf, DivisionByZero, Gives, LeastByMinusOne, Outcome, Undefined, Undefines, amount, chilled, difference, divided, is_below, is_least_by_minus_one, least, product, result, shifted_left, sum, truth, unless_zero}
+use Rattle.b3_meaning.specs.Opcodes.{AreWordsOf, DivisionByZero, Gives, LeastByMinusOne, Undefined, Undefines, amount, chilled, difference, divided, is_below, is_least_by_minus_one, least, product, result, shifted_left, sum, truth, unless_zero}
 use Rattle.a64_inst.specs.StepData.{quotient}
 use Rattle.a64_inst.specs.declared.inst.Cond.{Cond}
 use Rattle.a64_inst.specs.declared.inst.Cond.TheVariants.{Eq, Ne, Hs, Lo, Hi, Ls, Ge, Lt, Gt, Le}
 use Rattle.air_ir.specs.Words.{computed}
-use Rattle.air_ir.specs.declared.op.AirOp.{AirOp}
-use Rattle.air_ir.specs.declared.op.AirOp.TheVariants as op
-use Rattle.air_ir.specs.declared.op.Test.TheVariants.{Compare}
 use Rattle.air_ir.proofs.Conditions as conditions
 use Rattle.air_ir.proofs.Conditions.{compares}
 use Rattle.air_select.specs.Selected.{op_of}
@@ -41,7 +38,8 @@ IsRight o = (chill : Bool) (ty : Ty) (types : List Ty) (ws : List ℕ) (w : ℕ)
 
 -- ---- shapes
 
-pub by_one : (P : List Ty → List ℕ → Type 0) (alike : Ty) (a : Takes) (types : List Ty) (ws : List ℕ) → AreTaken alike (a ∷ []) NoMore types → AreWordsOf types ws
+pub by_one : (P : List Ty → List ℕ → Type 0) (alike : Ty) (a : Takes) (types : List Ty) (ws : List ℕ) → AreTaken alike (a ∷ []) NoMore types
+    → AreWordsOf types ws
     → ((t : Ty) (x : ℕ) → IsTaken alike a t → x < 2 ^ bits (width_of t) → P (t ∷ []) (x ∷ [])) → P types ws
 by_one P alike a [] ws taken words h = absurd taken
 by_one P alike a (t ∷ u ∷ more) ws taken words h = absurd (let none : u ∷ more ≡ [] = taken.1 in cc)
@@ -49,15 +47,19 @@ by_one P alike a (t ∷ []) [] taken words h = absurd words
 by_one P alike a (t ∷ []) (x ∷ y ∷ ws) taken words h = absurd words.1
 by_one P alike a (t ∷ []) (x ∷ []) taken words h = h t x taken.0 words.0
 
-pub by_two : (P : List Ty → List ℕ → Type 0) (alike : Ty) (a b : Takes) (types : List Ty) (ws : List ℕ) → AreTaken alike (a ∷ b ∷ []) NoMore types → AreWordsOf types ws
-    → ((t u : Ty) (x y : ℕ) → IsTaken alike a t → IsTaken alike b u → x < 2 ^ bits (width_of t) → y < 2 ^ bits (width_of u) → P (t ∷ u ∷ []) (x ∷ y ∷ [])) → P types ws
+pub by_two : (P : List Ty → List ℕ → Type 0) (alike : Ty) (a b : Takes) (types : List Ty) (ws : List ℕ) → AreTaken alike (a ∷ b ∷ []) NoMore types
+    → AreWordsOf types ws
+    → ((t u : Ty) (x y : ℕ) → IsTaken alike a t → IsTaken alike b u → x < 2 ^ bits (width_of t) → y < 2 ^ bits (width_of u) → P (t ∷ u ∷ []) (x ∷ y ∷ []))
+    → P types ws
 by_two P alike a b [] ws taken words h = absurd taken
 by_two P alike a b (t ∷ types) [] taken words h = absurd words
 by_two P alike a b (t ∷ types) (x ∷ ws) taken words h =
     by_one (λ ts xs. P (t ∷ ts) (x ∷ xs)) alike b types ws taken.1 words.1 (λ u y is lt. h t u x y taken.0 is words.0 lt)
 
-pub by_three : (P : List Ty → List ℕ → Type 0) (alike : Ty) (a b c : Takes) (types : List Ty) (ws : List ℕ) → AreTaken alike (a ∷ b ∷ c ∷ []) NoMore types → AreWordsOf types ws
-    → ((t u v : Ty) (x y z : ℕ) → IsTaken alike a t → IsTaken alike b u → IsTaken alike c v → x < 2 ^ bits (width_of t) → y < 2 ^ bits (width_of u) → z < 2 ^ bits (width_of v)
+pub by_three : (P : List Ty → List ℕ → Type 0) (alike : Ty) (a b c : Takes) (types : List Ty) (ws : List ℕ) → AreTaken alike (a ∷ b ∷ c ∷ []) NoMore types
+    → AreWordsOf types ws
+    → ((t u v : Ty) (x y z : ℕ) → IsTaken alike a t → IsTaken alike b u → IsTaken alike c v → x < 2 ^ bits (width_of t) → y < 2 ^ bits (width_of u)
+    → z < 2 ^ bits (width_of v)
     → P (t ∷ u ∷ v ∷ []) (x ∷ y ∷ z ∷ [])) → P types ws
 by_three P alike a b c [] ws taken words h = absurd taken
 by_three P alike a b c (t ∷ types) [] taken words h = absurd words
@@ -74,7 +76,8 @@ Wanted o chill ty w types ws = result o chill ty ws types ≡ Gives w → comput
 own_two : (o : Opcode) (b : Takes) (g : Width → ℕ → ℕ → ℕ)
     → ((width : Width) (x y : ℕ) → computed (op_of o) width (x ∷ y ∷ []) ≡ Some (g width x y))
     → ((chill : Bool) (ty : Ty) (x y w : ℕ) (types : List Ty) → result o chill ty (x ∷ y ∷ []) types ≡ Gives w → Some (g (width_of ty) x y) ≡ Some w)
-    → (chill : Bool) (ty : Ty) (types : List Ty) (ws : List ℕ) (w : ℕ) (alike : Ty) → ty ≡ alike → AreTaken alike (Alike ∷ b ∷ []) NoMore types → AreWordsOf types ws
+    → (chill : Bool) (ty : Ty) (types : List Ty) (ws : List ℕ) (w : ℕ) (alike : Ty) → ty ≡ alike → AreTaken alike (Alike ∷ b ∷ []) NoMore types
+    → AreWordsOf types ws
     → Wanted o chill ty w types ws
 own_two o b g computes same chill ty types ws w alike own taken words =
     by_two (Wanted o chill ty w) alike Alike b types ws taken words (λ t u x y it iu ltx lty gives.
@@ -131,7 +134,8 @@ pub divided_is : (width : Width) (chill : Bool) (x y w : ℕ) → divided width 
 divided_is width chill x y w e = go (nat_eq y 0) refl (is_least_by_minus_one width x y) refl e
   where
     go : (zero : Bool) → nat_eq y 0 ≡ zero → (extreme : Bool) → is_least_by_minus_one width x y ≡ extreme
-        → (if zero then chilled chill 0 DivisionByZero else if extreme then chilled chill x LeastByMinusOne else Gives (unsigned width (int_div (signed width x) (signed width y)))) ≡ Gives w
+        → (if zero then chilled chill 0 DivisionByZero else if extreme then chilled chill x LeastByMinusOne else Gives
+        (unsigned width (int_div (signed width x) (signed width y)))) ≡ Gives w
         → quotient width true x y ≡ w
     go true ez extreme ee e = rw ez (chilled_is chill 0 w DivisionByZero e)
     go false ez true ee e = least_is width x y ee ∙ chilled_is chill x w LeastByMinusOne e
@@ -186,9 +190,12 @@ is_one_op opcode.BelowEqual = true
 is_one_op _ = false
 
 pub one_op_right : (o : Opcode) → is_one_op o ≡ true → IsRight o
-one_op_right opcode.Add is c ty ts ws w h words = own_two opcode.Add Alike sum (λ k x y. refl) (λ c t x y w ts e. given _ _ e) c ty ts ws w h.alike h.gives h.children words
-one_op_right opcode.Sub is c ty ts ws w h words = own_two opcode.Sub Alike difference (λ k x y. refl) (λ c t x y w ts e. given _ _ e) c ty ts ws w h.alike h.gives h.children words
-one_op_right opcode.Mul is c ty ts ws w h words = own_two opcode.Mul Alike product (λ k x y. refl) (λ c t x y w ts e. given _ _ e) c ty ts ws w h.alike h.gives h.children words
+one_op_right opcode.Add is c ty ts ws w h words =
+    own_two opcode.Add Alike sum (λ k x y. refl) (λ c t x y w ts e. given _ _ e) c ty ts ws w h.alike h.gives h.children words
+one_op_right opcode.Sub is c ty ts ws w h words =
+    own_two opcode.Sub Alike difference (λ k x y. refl) (λ c t x y w ts e. given _ _ e) c ty ts ws w h.alike h.gives h.children words
+one_op_right opcode.Mul is c ty ts ws w h words =
+    own_two opcode.Mul Alike product (λ k x y. refl) (λ c t x y w ts e. given _ _ e) c ty ts ws w h.alike h.gives h.children words
 one_op_right opcode.BitAnd is c ty ts ws w h words =
     own_two opcode.BitAnd Alike (λ k x y. bit_and x y) (λ k x y. refl) (λ c t x y w ts e. given _ _ e) c ty ts ws w h.alike h.gives h.children words
 one_op_right opcode.BitOr is c ty ts ws w h words =
@@ -199,13 +206,16 @@ one_op_right opcode.Neg is c ty ts ws w h words =
     own_one opcode.Neg Alike (λ k x. difference k 0 x) (λ k x. refl) c ty ts ws w h.alike h.children words
     (λ t x it e. ap (λ (k : Ty). Some (difference (width_of k) 0 x)) (it ∙ sym h.gives) ∙ given _ _ e)
 one_op_right opcode.Div is c ty ts ws w h words =
-    own_two opcode.Div Alike (λ k x y. quotient k true x y) (λ k x y. refl) (λ c t x y w ts e. ap Some (divided_is (width_of t) c x y w e)) c ty ts ws w h.alike h.gives h.children words
+    own_two opcode.Div Alike (λ k x y. quotient k true x y) (λ k x y. refl) (λ c t x y w ts e. ap Some (divided_is (width_of t) c x y w e))
+    c ty ts ws w h.alike h.gives h.children words
 one_op_right opcode.UDiv is c ty ts ws w h words =
-    own_two opcode.UDiv Alike (λ k x y. quotient k false x y) (λ k x y. refl) (λ c t x y w ts e. ap Some (unsigned_quotient (width_of t) x y w e)) c ty ts ws w h.alike h.gives h.children words
+    own_two opcode.UDiv Alike (λ k x y. quotient k false x y) (λ k x y. refl) (λ c t x y w ts e. ap Some (unsigned_quotient (width_of t) x y w e))
+    c ty ts ws w h.alike h.gives h.children words
 one_op_right opcode.Shl is c ty ts ws w h words =
     own_two opcode.Shl (This Int32) shifted_left (λ k x y. refl) (λ c t x y w ts e. given _ _ e) c ty ts ws w h.alike h.gives h.children words
 one_op_right opcode.SShr is c ty ts ws w h words =
-    own_two opcode.SShr (This Int32) (λ k x y. shifted_right_signed k x (amount k y)) (λ k x y. refl) (λ c t x y w ts e. given _ _ e) c ty ts ws w h.alike h.gives h.children words
+    own_two opcode.SShr (This Int32) (λ k x y. shifted_right_signed k x (amount k y)) (λ k x y. refl) (λ c t x y w ts e. given _ _ e)
+    c ty ts ws w h.alike h.gives h.children words
 one_op_right opcode.ZShr is c ty ts ws w h words =
     own_two opcode.ZShr (This Int32) (λ k x y. x / 2 ^ amount k y) (λ k x y. refl) (λ c t x y w ts e. given _ _ e) c ty ts ws w h.alike h.gives h.children words
 one_op_right opcode.RotR is c ty ts ws w h words =
@@ -224,23 +234,33 @@ one_op_right opcode.SExt32 is c ty ts ws w h words =
 one_op_right opcode.ZExt32 is c ty ts ws w h words =
     own_one opcode.ZExt32 (This Int32) (λ k x. x) (λ k x. refl) c ty ts ws w h.alike h.children words (λ t x it e. given _ _ e)
 one_op_right opcode.Equal is c ty ts ws w h words =
-    comparing opcode.Equal Eq (λ t x y. nat_eq x y) (λ k x y. refl) (λ c ty t x y ts. refl) (λ t x y. conditions.is_equal (width_of t) x y) c ty ts ws w h.alike h.children words
+    comparing opcode.Equal Eq (λ t x y. nat_eq x y) (λ k x y. refl) (λ c ty t x y ts. refl) (λ t x y. conditions.is_equal (width_of t) x y)
+    c ty ts ws w h.alike h.children words
 one_op_right opcode.NotEqual is c ty ts ws w h words =
-    comparing opcode.NotEqual Ne (λ t x y. not (nat_eq x y)) (λ k x y. refl) (λ c ty t x y ts. refl) (λ t x y. conditions.differs (width_of t) x y) c ty ts ws w h.alike h.children words
+    comparing opcode.NotEqual Ne (λ t x y. not (nat_eq x y)) (λ k x y. refl) (λ c ty t x y ts. refl) (λ t x y. conditions.differs (width_of t) x y)
+    c ty ts ws w h.alike h.children words
 one_op_right opcode.LessThan is c ty ts ws w h words =
-    comparing opcode.LessThan Lt (λ t x y. is_below t x y) (λ k x y. refl) (λ c ty t x y ts. refl) (λ t x y. conditions.is_less (width_of t) x y) c ty ts ws w h.alike h.children words
+    comparing opcode.LessThan Lt (λ t x y. is_below t x y) (λ k x y. refl) (λ c ty t x y ts. refl) (λ t x y. conditions.is_less (width_of t) x y)
+    c ty ts ws w h.alike h.children words
 one_op_right opcode.GreaterThan is c ty ts ws w h words =
-    comparing opcode.GreaterThan Gt (λ t x y. is_below t y x) (λ k x y. refl) (λ c ty t x y ts. refl) (λ t x y. conditions.is_greater (width_of t) x y) c ty ts ws w h.alike h.children words
+    comparing opcode.GreaterThan Gt (λ t x y. is_below t y x) (λ k x y. refl) (λ c ty t x y ts. refl) (λ t x y. conditions.is_greater (width_of t) x y)
+    c ty ts ws w h.alike h.children words
 one_op_right opcode.LessEqual is c ty ts ws w h words =
-    comparing opcode.LessEqual Le (λ t x y. not (is_below t y x)) (λ k x y. refl) (λ c ty t x y ts. refl) (λ t x y. conditions.is_no_greater (width_of t) x y) c ty ts ws w h.alike h.children words
+    comparing opcode.LessEqual Le (λ t x y. not (is_below t y x)) (λ k x y. refl) (λ c ty t x y ts. refl) (λ t x y. conditions.is_no_greater (width_of t) x y)
+    c ty ts ws w h.alike h.children words
 one_op_right opcode.GreaterEqual is c ty ts ws w h words =
-    comparing opcode.GreaterEqual Ge (λ t x y. not (is_below t x y)) (λ k x y. refl) (λ c ty t x y ts. refl) (λ t x y. conditions.is_no_less (width_of t) x y) c ty ts ws w h.alike h.children words
+    comparing opcode.GreaterEqual Ge (λ t x y. not (is_below t x y)) (λ k x y. refl) (λ c ty t x y ts. refl) (λ t x y. conditions.is_no_less (width_of t) x y)
+    c ty ts ws w h.alike h.children words
 one_op_right opcode.Above is c ty ts ws w h words =
-    comparing opcode.Above Hi (λ t x y. nat_lt y x) (λ k x y. refl) (λ c ty t x y ts. refl) (λ t x y. conditions.is_above (width_of t) x y) c ty ts ws w h.alike h.children words
+    comparing opcode.Above Hi (λ t x y. nat_lt y x) (λ k x y. refl) (λ c ty t x y ts. refl) (λ t x y. conditions.is_above (width_of t) x y)
+    c ty ts ws w h.alike h.children words
 one_op_right opcode.Below is c ty ts ws w h words =
-    comparing opcode.Below Lo (λ t x y. nat_lt x y) (λ k x y. refl) (λ c ty t x y ts. refl) (λ t x y. conditions.is_below (width_of t) x y) c ty ts ws w h.alike h.children words
+    comparing opcode.Below Lo (λ t x y. nat_lt x y) (λ k x y. refl) (λ c ty t x y ts. refl) (λ t x y. conditions.is_below (width_of t) x y)
+    c ty ts ws w h.alike h.children words
 one_op_right opcode.AboveEqual is c ty ts ws w h words =
-    comparing opcode.AboveEqual Hs (λ t x y. not (nat_lt x y)) (λ k x y. refl) (λ c ty t x y ts. refl) (λ t x y. conditions.is_not_below (width_of t) x y) c ty ts ws w h.alike h.children words
+    comparing opcode.AboveEqual Hs (λ t x y. not (nat_lt x y)) (λ k x y. refl) (λ c ty t x y ts. refl) (λ t x y. conditions.is_not_below (width_of t) x y)
+    c ty ts ws w h.alike h.children words
 one_op_right opcode.BelowEqual is c ty ts ws w h words =
-    comparing opcode.BelowEqual Ls (λ t x y. not (nat_lt y x)) (λ k x y. refl) (λ c ty t x y ts. refl) (λ t x y. conditions.is_not_above (width_of t) x y) c ty ts ws w h.alike h.children words
+    comparing opcode.BelowEqual Ls (λ t x y. not (nat_lt y x)) (λ k x y. refl) (λ c ty t x y ts. refl) (λ t x y. conditions.is_not_above (width_of t) x y)
+    c ty ts ws w h.alike h.children words
 one_op_right _ is c ty ts ws w h words = absurd (cc)

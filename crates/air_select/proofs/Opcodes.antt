@@ -1,5 +1,5 @@
 -- Each value, by its opcode: its instructions do what it leads to.
-use Rattle.std.proofs.Common.{◌≡◌, ◌≢◌, ℕ, ◌⊎◌, inl, inr, Bool, true, false, ◌&&◌, List, [], ◌∷◌, Option, Some, None, refl, sym, ap, ◌∙◌, subst}
+use Rattle.std.proofs.Common.{◌≡◌, ℕ, inl, inr, Bool, true, false, ◌&&◌, List, [], refl, sym, subst}
 use Rattle.std.specs.Prelude.{if◌then◌else◌}
 use Rattle.b3_base.specs.Observed.{Start}
 use Rattle.b3_ir.specs.Naming.{type_of}
@@ -7,15 +7,14 @@ use Rattle.b3_ir.specs.Procedure.{Procedure}
 use Rattle.b3_ir.specs.declared.opcode.Opcode.{Opcode}
 use Rattle.b3_ir.specs.declared.opcode.Opcode.TheVariants as opcode
 use Rattle.b3_ir.specs.declared.value.Value.{Value}
-use Rattle.b3_meaning.specs.Opcodes.{Gives, Outcome, result}
+use Rattle.b3_meaning.specs.Opcodes.{Outcome, result}
 use Rattle.b3_meaning.specs.Roles.{role_of}
 use Rattle.b3_meaning.specs.Run as b3
 use Rattle.b3_meaning.specs.declared.role.Role.{Role}
 use Rattle.b3_meaning.specs.declared.role.Role.TheVariants as role
 use Rattle.b3_rules.specs.Rules.{types_of}
 use Rattle.air_ir.specs.Meaning.{meaning}
-use Rattle.air_ir.specs.Steps.{Goes, Outcome as Ran, steps}
-use Rattle.air_ir.specs.declared.procedure.AirInst.{AirInst}
+use Rattle.air_ir.specs.Steps.{Outcome as Ran, steps}
 use Rattle.air_select.specs.Contract.{is_built}
 use Rattle.air_select.specs.Foldable.{is_and, is_bit, is_constant}
 use Rattle.air_select.specs.Selected.{Tables, code_of, folds, value_code}
@@ -53,7 +52,8 @@ module _ (p : Procedure) (t : Tables) (start : Start) (v : Value) (h : Here p t 
 
   no_code_pure : folds t v.id ≡ true → role_of v.kind.opcode ≡ role.Pure → Wanted (role_of v.kind.opcode) (steps (meaning start) [] h.s junk)
   no_code_pure gone pure =
-      subst (λ (r : Role). Wanted r (steps (meaning start) [] h.s junk)) (sym pure) (no_code gone (result v.kind.opcode v.kind.chill v.ty (words_here p t start v h) (types_of p v)))
+      subst (λ (r : Role). Wanted r (steps (meaning start) [] h.s junk)) (sym pure)
+      (no_code gone (result v.kind.opcode v.kind.chill v.ty (words_here p t start v h) (types_of p v)))
 
   folded_does : folds t v.id ≡ true → Wanted (role_of v.kind.opcode) (steps (meaning start) [] h.s junk)
   folded_does gone = elim (h.sound.kinds h.block v (here p t start v h) gone) [
@@ -106,7 +106,8 @@ module _ (p : Procedure) (t : Tables) (start : Start) (v : Value) (h : Here p t 
   pub value_does : is_built v.kind.opcode ≡ true → Does p t start v junk (b3.effect (type_of p) start h.st v) (steps (meaning start) (value_code t v) h.s junk)
   unfolding value_code
   value_does built =
-      subst (λ (e : b3.Effect). Does p t start v junk e (steps (meaning start) (value_code t v) h.s junk)) (sym (effect_is p t start v h)) (go (folds t v.id) refl)
+      subst (λ (e : b3.Effect). Does p t start v junk e (steps (meaning start) (value_code t v) h.s junk)) (sym (effect_is p t start v h))
+      (go (folds t v.id) refl)
     where
       go : (f : Bool) → folds t v.id ≡ f → Wanted (role_of v.kind.opcode) (steps (meaning start) (if f then [] else code_of t v.kind.opcode v) h.s junk)
       go true e = folded_does e

@@ -1,37 +1,32 @@
 -- The operands of what is selected are those that the ops take.
-use Rattle.std.proofs.Common.{◌≡◌, ◌≢◌, ℕ, zero, suc, ◌+◌, ◌*◌, ◌-◌, ◌%◌, ◌^◌, ◌<◌, ◌≤◌, ◌⊎◌, inl, inr, Bool, true, false, ◌||◌, List, [], ◌∷◌, ◌++◌, map, Option, Some, None, length, refl, sym, ap, ◌∙◌, subst, arith, nat_eq}
+use Rattle.std.proofs.Common.{◌≡◌, ◌≢◌, ℕ, zero, suc, ◌^◌, ◌<◌, inl, inr, Bool, true, false, ◌||◌, List, [], ◌∷◌, map, Option, Some, None, refl, sym, ap, ◌∙◌, subst, arith}
 use Rattle.std.specs.Prelude.{Contains, if◌then◌else◌, slice_get}
 use Rattle.std.proofs.lemmas.Bool.{eqb-true}
 use Rattle.b3_base.specs.BitMask.{bit_mask}
 use Rattle.b3_base.specs.Word.{bits}
 use Rattle.b3_base.specs.declared.word.Width.{Width}
-use Rattle.b3_base.specs.declared.word.Width.TheVariants.{W32, W64}
 use Rattle.b3_ir.specs.Fits.{reported_count}
 use Rattle.b3_ir.specs.Naming.{all_values, type_of, value_named}
 use Rattle.b3_ir.specs.Procedure.{Procedure, values_of}
-use Rattle.b3_ir.specs.Types.{AllowsTypes, AreMore, AreTaken, IsTaken, width_of}
+use Rattle.b3_ir.specs.Types.{AreTaken, IsTaken, width_of}
 use Rattle.b3_ir.specs.declared.opcode.Opcode.{Opcode}
-use Rattle.b3_ir.specs.declared.opcode.Opcode.TheVariants as opcode
 use Rattle.b3_ir.specs.declared.opcode.Ty.{Ty}
-use Rattle.b3_ir.specs.declared.opcode.Ty.TheVariants.{Void, Int32, Int64}
+use Rattle.b3_ir.specs.declared.opcode.Ty.TheVariants.{Void}
 use Rattle.b3_ir.specs.declared.table.More.TheVariants.{NoMore}
 use Rattle.b3_ir.specs.declared.table.Takes.{Takes as Taken}
-use Rattle.b3_ir.specs.declared.table.Takes.TheVariants.{Alike, Any, This}
 use Rattle.b3_ir.specs.declared.value.Value.{Value}
 use Rattle.b3_ir.proofs.Typing.{allowed}
 use Rattle.b3_rules.specs.Rules.{types_of}
-use Rattle.b3_sound.proofs.Distinct.{stands, type_of_value}
+use Rattle.b3_sound.proofs.Distinct.{stands}
 use Rattle.b3_sound.proofs.Kept.{IsKept}
 use Rattle.b3_sound.proofs.Rows.{IsRow, row_by_role}
-use Rattle.air_ir.specs.Forms.{AllFit, Fits, Immediates, NoImmediate, AnyWord, OfSum, OfLogic, OnlyZero, IsImmediate, IsWord, Takes, Word, BitOf, Result, is_short}
-use Rattle.air_ir.specs.declared.operand.Arg.{Arg}
+use Rattle.air_ir.specs.Forms.{Fits, Immediates, NoImmediate, AnyWord, OfSum, OfLogic, OnlyZero, IsImmediate, IsWord, Word}
 use Rattle.air_ir.specs.declared.operand.Arg.TheVariants.{At, Imm}
-use Rattle.air_ir.specs.declared.operand.Operand.{Operand}
-use Rattle.air_select.specs.Foldable.{condition_fits, constant_fits, fits, is_comparison, is_constant, is_immediate, is_mask, is_named, second_immediates, some_below}
-use Rattle.air_select.specs.Selected.{Tables, arg_of, folds, use_at, use_of}
-use Rattle.air_select.specs.Tables.{home, known, known_in, width_at, word_in}
+use Rattle.air_select.specs.Foldable.{condition_fits, constant_fits, is_constant, is_immediate, is_mask, is_named, second_immediates, some_below}
+use Rattle.air_select.specs.Selected.{Tables, arg_of, folds, use_of}
+use Rattle.air_select.specs.Tables.{home, known, known_in, width_at}
 use Rattle.air_select.specs.declared.known.Known.{Known}
-use Rattle.air_select.proofs.Children.{FitsAsCondition, FitsAsConstant, fit_cases}
+use Rattle.air_select.proofs.Children.{fit_cases}
 use Rattle.air_select.proofs.Facts.{body_below, constant_role}
 use Rattle.air_select.proofs.Returned.{id_found, named_of, stands_somewhere, contains_at}
 use Rattle.air_select.proofs.Setting.{IsSound}
@@ -86,7 +81,8 @@ module _ (p : Procedure) (valid : IsKept p) (t : Tables) (sound : IsSound p t) w
       let rules = valid.rules at.0 st.0 w st.1 in
       let is : known t.index c ≡ known_in at.0 w = ap (known t.index) (sym found.1) ∙ sound.is_known at.0 w in_b in
       let role = constant_role w.kind.opcode (sym (ap (λ (k : Known). is_constant k.opcode) is) ∙ const) in
-      let row = row_by_role w.kind.opcode w.ty (types_of p w) (reported_count w) w.body (allowed w.kind.opcode w.ty (types_of p w) rules.typed) rules.fits.body in
+      let row = row_by_role w.kind.opcode w.ty (types_of p w) (reported_count w) w.body (allowed w.kind.opcode w.ty (types_of p w) rules.typed)
+      rules.fits.body in
       let body = body_below (2 ^ bits (width_of w.ty)) w.body (subst (λ q. IsRow q w.ty (types_of p w) w.body) role row) in
       subst (λ (k : Known). k.word < 2 ^ bits (width_of k.ty)) (sym is) body.1
 
@@ -96,7 +92,8 @@ module _ (p : Procedure) (valid : IsKept p) (t : Tables) (sound : IsSound p t) w
         → IsWord (immediates_at v.kind.opcode i) (width_at t.index c) (arg_of t c)
     word_fits i c at none typed = by (folds t c) refl
       where
-        by : (f : Bool) → folds t c ≡ f → IsWord (immediates_at v.kind.opcode i) (width_at t.index c) (if f then Imm (known t.index c).word else At (home t.index c))
+        by : (f : Bool) → folds t c ≡ f → IsWord (immediates_at v.kind.opcode i) (width_at t.index c)
+            (if f then Imm (known t.index c).word else At (home t.index c))
         by false e = tt
         by true e = elim (fit_cases t b v.kind.opcode i c (sound.uses_fit b i c v here at e)) [
           | inl constant ↦ (

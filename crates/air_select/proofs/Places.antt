@@ -1,6 +1,6 @@
 -- The places of values in the index of a valid procedure.
-use Rattle.std.proofs.Common.{◌≡◌, ◌≢◌, ℕ, zero, suc, ◌+◌, ◌-◌, ◌<◌, ◌≤◌, inl, inr, Bool, true, false, ◌||◌, List, [], ◌∷◌, ◌++◌, Some, None, cond, length, map, take, drop, refl, sym, ap, ◌∙◌, subst, arith, nat_eq, eq-eqb, append_assoc, length-append, ⊎_elim}
-use Rattle.std.specs.Prelude.{Contains, nat_lt, position, slice_get, slice_index_or}
+use Rattle.std.proofs.Common.{◌≡◌, ◌≢◌, ℕ, zero, suc, ◌+◌, ◌-◌, ◌<◌, ◌≤◌, inl, inr, Bool, true, false, List, [], ◌∷◌, ◌++◌, Some, None, cond, length, map, take, refl, sym, ap, ◌∙◌, subst, arith, nat_eq, eq-eqb, append_assoc, length-append, ⊎_elim}
+use Rattle.std.specs.Prelude.{nat_lt, position, slice_get, slice_index_or}
 use Rattle.std.specs.List.{list_any, position_or_len}
 use Rattle.std.specs.Option.{option_map}
 use Rattle.std.proofs.Math.ListN.{get_or-eq_default}
@@ -11,14 +11,13 @@ use Rattle.std.proofs.lemmas.List.Folds.{list_any-append}
 use Rattle.std.proofs.lemmas.List.Recursion.{is_position_or_len}
 use Rattle.std.proofs.lemmas.Option.{get_or_from_slice_get, slice_get_within, slice_get-map}
 use Rattle.std.specs.List.{flat_map}
-use Rattle.b3_ir.specs.Naming.{all_values, value_named, with_id}
+use Rattle.b3_ir.specs.Naming.{all_values, with_id}
 use Rattle.b3_ir.specs.Procedure.{Block, Procedure, StandsAt, no_block, place_among, values_of}
 use Rattle.b3_ir.specs.declared.value.Value.{Value}
 use Rattle.b3_rules.specs.Valid.{IsValidProcedure, ValueAt}
 use Rattle.b3_rules.specs.declared.rule.Rule.TheVariants as rule
 use Rattle.air_select.specs.Indexed.{ids, ids_before}
 use Rattle.air_select.specs.Tables.{ids_of, index_of, known, known_from, known_in, place, unknown}
-use Rattle.air_select.specs.declared.known.Known.{Known}
 
 -- ---- lists
 

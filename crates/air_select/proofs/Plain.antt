@@ -1,39 +1,37 @@
 -- The values that are one instruction over their children, or one copy.
-use Rattle.std.proofs.Common.{◌≡◌, ◌≢◌, ℕ, zero, suc, ◌+◌, ◌^◌, ◌<◌, ◌⊎◌, inl, inr, Bool, true, false, List, [], ◌∷◌, ◌++◌, map, Option, Some, None, refl, sym, ap, ◌∙◌, subst, append-nil}
-use Rattle.std.specs.Prelude.{Contains, slice_get, if◌then◌else◌}
+use Rattle.std.proofs.Common.{◌≡◌, ℕ, suc, ◌^◌, ◌<◌, Bool, true, false, List, [], ◌∷◌, ◌++◌, map, Some, None, refl, sym, ap, ◌∙◌, subst, append-nil}
+use Rattle.std.specs.Prelude.{Contains, slice_get}
 use Rattle.std.proofs.lemmas.Option.{slice_get-get_or}
 use Rattle.b3_base.specs.Observed.{Start}
 use Rattle.b3_base.specs.Word.{bits}
 use Rattle.b3_base.specs.declared.word.Width.{Width}
 use Rattle.b3_ir.specs.Naming.{type_of}
-use Rattle.b3_ir.specs.Procedure.{Procedure, values_of}
+use Rattle.b3_ir.specs.Procedure.{Procedure}
 use Rattle.b3_ir.specs.Types.{AllowsTypes, width_of}
 use Rattle.b3_ir.specs.declared.opcode.Opcode.{Opcode}
 use Rattle.b3_ir.specs.declared.opcode.Opcode.TheVariants as opcode
-use Rattle.b3_ir.specs.declared.opcode.Ty.{Ty}
 use Rattle.b3_ir.specs.declared.value.Value.{Value}
-use Rattle.b3_meaning.specs.Opcodes.{Gives, result}
+use Rattle.b3_meaning.specs.Opcodes.{result}
 use Rattle.b3_meaning.specs.Roles.{role_of}
 use Rattle.b3_meaning.specs.Run as b3
 use Rattle.b3_meaning.specs.declared.role.Role.TheVariants as role
 use Rattle.b3_rules.specs.Rules.{types_of}
-use Rattle.b3_sound.proofs.Lists.{contains_head, contains_tail}
 use Rattle.air_ir.specs.Kinds.{Computes, Copies, Kind, kind_of}
 use Rattle.air_ir.specs.Meaning as air
 use Rattle.air_ir.specs.Meaning.{World, effect_of, gives, gives_word, meaning, operation}
-use Rattle.air_ir.specs.Operands.{Read, Target, targets, words}
-use Rattle.air_ir.specs.Steps.{Goes, State, steps}
+use Rattle.air_ir.specs.Operands.{Read, targets, words}
+use Rattle.air_ir.specs.Steps.{Goes, steps}
 use Rattle.air_ir.specs.Words.{computed}
 use Rattle.air_ir.specs.declared.op.AirOp.{AirOp}
 use Rattle.air_ir.specs.declared.operand.Operand.{Operand}
 use Rattle.air_ir.specs.declared.procedure.AirInst.{AirInst}
 use Rattle.air_select.specs.Foldable.{condition_fits}
-use Rattle.air_select.specs.Selected.{Tables, arg_of, computes, folds, inst, op_of, result_of, use_of}
+use Rattle.air_select.specs.Selected.{Tables, arg_of, computes, inst, op_of, result_of, use_of}
 use Rattle.air_select.specs.Tables.{Index, home, width_at}
 use Rattle.air_select.specs.declared.known.Known.{Known}
-use Rattle.air_select.proofs.Children.{IsReadable, children_words, readable, typed, width_is, words_cons, words_nil}
+use Rattle.air_select.proofs.Children.{children_words, readable, typed, width_is, words_cons, words_nil}
 use Rattle.air_select.proofs.Does.{Does, Here, allows, are_typed, are_words, at, gives_does, here, puts, result_small, words_here}
-use Rattle.air_select.proofs.Facts.{Ran, child_ran}
+use Rattle.air_select.proofs.Facts.{child_ran}
 use Rattle.air_select.proofs.Instructions.{one_word, reads_def, steps_last, with_home, writes_def, writes_use}
 use Rattle.air_select.proofs.OneOp.{first_width, is_one_op, one_op_right}
 
@@ -122,7 +120,8 @@ module _ (p : Procedure) (t : Tables) (start : Start) (v : Value) (h : Here p t 
   reads cs ws = typed p h.valid t h.sound start h.passed h.block h.before (v ∷ h.rest) h.stands h.st h.reached h.s h.related cs ws
 
   pub reads_words : (cs ws : List ℕ) → b3.words_of (type_of p) h.st.words cs ≡ Some ws → map (λ (r : Read). r.1) (reads cs ws) ≡ ws
-  reads_words [] ws e = ap (λ (l : List ℕ). map (λ (r : Read). r.1) (reads [] l)) (words_nil (type_of p) h.st.words ws e) ∙ sym (words_nil (type_of p) h.st.words ws e)
+  reads_words [] ws e = ap (λ (l : List ℕ). map (λ (r : Read). r.1) (reads [] l)) (words_nil (type_of p) h.st.words ws e)
+      ∙ sym (words_nil (type_of p) h.st.words ws e)
   reads_words (c ∷ cs) ws e =
       let one = words_cons (type_of p) h.st.words c cs ws e in
       subst (λ (l : List ℕ). map (λ (r : Read). r.1) (reads (c ∷ cs) l) ≡ l) (sym one.2) (ap (λ (l : List ℕ). one.0 ∷ l) (reads_words cs one.1 one.4))
@@ -141,7 +140,8 @@ module _ (p : Procedure) (t : Tables) (start : Start) (v : Value) (h : Here p t 
   pub over_words : ((i : ℕ) (k : Known) → condition_fits t.index v.kind.opcode i k ≡ false)
       → words h.s.homes (map (use_of t) v.children ++ result_of t v ∷ []) ≡ Some (reads v.children (words_here p t start v h))
   over_words none =
-      children_words p h.valid t h.sound start h.passed h.block h.before (v ∷ h.rest) h.stands h.st h.reached h.s h.related v.children (words_here p t start v h) (result_of t v ∷ []) []
+      children_words p h.valid t h.sound start h.passed h.block h.before (v ∷ h.rest) h.stands h.st h.reached h.s h.related v.children
+      (words_here p t start v h) (result_of t v ∷ []) []
       (λ id has. child_ran p h.valid h.passed h.block h.before h.st h.reached v (at p t start v h) id has)
       (λ id has. let place = child_place v.children id has in
       readable p h.valid t h.sound start h.block v (here p t start v h) place.0 id place.1 (none place.0))
@@ -157,7 +157,8 @@ module _ (p : Procedure) (t : Tables) (start : Start) (v : Value) (h : Here p t 
       → meaning start (record { op = o; value = value; traps = false }) rs w ≡ gives w (word ∷ [])
   unfolding meaning
   computing o value rs w word kind e =
-      ap (λ (k : Kind). effect_of k start (record { op = o; value = value; traps = false }) (air.width_of rs) rs (map (λ (r : Read). r.1) rs) w) kind ∙ ap (gives_word w) e
+      ap (λ (k : Kind). effect_of k start (record { op = o; value = value; traps = false }) (air.width_of rs) rs (map (λ (r : Read). r.1) rs) w) kind
+      ∙ ap (gives_word w) e
 
   pub copying : (o : AirOp) (value : ℕ) (rs : List Read) (w : World) → kind_of o ≡ Copies
       → meaning start (record { op = o; value = value; traps = false }) rs w ≡ gives w (map (λ (r : Read). r.1) rs)
@@ -180,13 +181,16 @@ module _ (p : Procedure) (t : Tables) (start : Start) (v : Value) (h : Here p t 
         means over_targets))
 
     pub one_op_does : (o : Opcode) → v.kind.opcode ≡ o → is_one_op o ≡ true
-        → Does p t start v junk (b3.gives h.st v.id (result v.kind.opcode v.kind.chill v.ty (words_here p t start v h) (types_of p v))) (steps (meaning start) (computes t v (op_of o)) h.s junk)
+        → Does p t start v junk (b3.gives h.st v.id (result v.kind.opcode v.kind.chill v.ty (words_here p t start v h) (types_of p v)))
+        (steps (meaning start) (computes t v (op_of o)) h.s junk)
     one_op_does o e is =
-        gives_does p t start v h junk (result v.kind.opcode v.kind.chill v.ty (words_here p t start v h) (types_of p v)) (steps (meaning start) (computes t v (op_of o)) h.s junk)
+        gives_does p t start v h junk (result v.kind.opcode v.kind.chill v.ty (words_here p t start v h) (types_of p v))
+        (steps (meaning start) (computes t v (op_of o)) h.s junk)
         (λ w g.
         over_does o (op_of o) w e (one_op_has o is) (result_small p t start v h w (ap role_of e ∙ one_op_pure o is) g)
         (computing (op_of o) v.id (reads v.children (words_here p t start v h)) h.s.world w (one_op_kind o is)
-        (ap (λ (k : Width). computed (op_of o) k (map (λ (r : Read). r.1) (reads v.children (words_here p t start v h)))) (reads_width v.children (words_here p t start v h) (are_words p t start v h))
+        (ap (λ (k : Width). computed (op_of o) k (map (λ (r : Read). r.1) (reads v.children (words_here p t start v h))))
+        (reads_width v.children (words_here p t start v h) (are_words p t start v h))
         ∙ ap (computed (op_of o) (first_width (types_of p v))) (reads_words v.children (words_here p t start v h) (are_words p t start v h))
         ∙ one_op_right o is v.kind.chill v.ty (types_of p v) (words_here p t start v h) w
         (subst (λ (q : Opcode). AllowsTypes q v.ty (types_of p v)) e (allows p t start v h)) (are_typed p t start v h)

@@ -1,26 +1,23 @@
 -- The states of the two runs: what homes hold of the words of values.
-use Rattle.std.proofs.Common.{◌≡◌, ◌≢◌, ℕ, suc, ◌+◌, ◌*◌, ◌^◌, ◌<◌, inl, inr, Bool, true, false, List, [], ◌∷◌, length, nat_eq, Option, Some, None, refl, sym, ap, ◌∙◌, subst, arith}
-use Rattle.std.specs.Prelude.{if◌then◌else◌}
+use Rattle.std.proofs.Common.{◌≡◌, ◌≢◌, ℕ, ◌+◌, ◌*◌, ◌^◌, ◌<◌, inl, inr, true, false, length, Some, refl, sym, ap, ◌∙◌, subst, arith}
 use Rattle.std.proofs.lemmas.Bool.{cases_eq, eq-eqb, ne_eqb}
 use Rattle.b3_base.specs.Arithmetic.{low}
 use Rattle.b3_base.specs.Observed.{Start}
 use Rattle.b3_base.specs.Word.{bits}
 use Rattle.b3_base.specs.declared.word.Width.{Width}
 use Rattle.b3_base.specs.declared.word.Width.TheVariants.{W32, W64}
-use Rattle.b3_ir.specs.Naming.{type_of, value_named}
+use Rattle.b3_ir.specs.Naming.{value_named}
 use Rattle.b3_ir.specs.Procedure.{Procedure, values_of}
-use Rattle.b3_ir.specs.Types.{width_of}
 use Rattle.b3_ir.specs.declared.opcode.Opcode.TheVariants.{Phi}
 use Rattle.b3_ir.specs.declared.value.Value.{Value}
 use Rattle.b3_meaning.specs.Run as b3
-use Rattle.air_ir.specs.Meaning.{World}
-use Rattle.air_ir.specs.Operands.{Homes, Held, Holds, put, read, same_home}
+use Rattle.air_ir.specs.Operands.{Homes, Held, Holds, put, read}
 use Rattle.air_ir.specs.Steps.{State}
 use Rattle.air_ir.specs.declared.operand.Home.{Home}
-use Rattle.air_ir.specs.declared.operand.Home.TheVariants.{Tmp, Reg, Spill}
+use Rattle.air_ir.specs.declared.operand.Home.TheVariants.{Tmp}
 use Rattle.b3_sound.proofs.Effects.{word_here, word_there}
 use Rattle.air_select.specs.Selected.{Tables, folds, names_argument}
-use Rattle.air_select.specs.Tables.{argument, first_extra, home, location, place, second_extra, width_at}
+use Rattle.air_select.specs.Tables.{argument, home, location, place, width_at}
 use Rattle.air_select.proofs.Setting.{IsSound}
 
 -- a home holds a word at a width

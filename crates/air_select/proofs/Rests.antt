@@ -1,8 +1,8 @@
 -- The remainder is the dividend less the product of the quotient and the divisor, modulo the width.
 use Rattle.std.proofs.Common.{◌≡◌, ◌≢◌, ℕ, ℤ, pos, negsuc, zero, suc, ◌+◌, ◌≤◌, ◌-◌, ◌*◌, ◌/◌, ◌%◌, ◌^◌, ◌<◌, Bool, true, false, ◌&&◌, refl, sym, ap, ◌∙◌, subst, arith, nat_eq, ⊎_elim, div-le_self, mul_comm}
 use Rattle.std.specs.Prelude.{◌+ℤ◌, ◌*ℤ◌, neg_ℤ, if◌then◌else◌}
-use Rattle.std.specs.Int.{Width, cast_signed, cast_unsigned, int_wrap, w32, w64}
-use Rattle.std.specs.Int.RustNames.{FitsSigned, int_div, int_rem, unsigned_abs}
+use Rattle.std.specs.Int.{cast_signed, cast_unsigned, int_wrap, w32, w64}
+use Rattle.std.specs.Int.RustNames.{FitsSigned, int_div, int_rem}
 use Rattle.std.proofs.Math.IntN.{nat_abs, ◌-ℤ◌}
 use Rattle.std.proofs.Math.Nat.{div-lt_self, mod-le}
 use Rattle.std.proofs.lemmas.Bool.{cases_eq, cases_lt, eq-eqb, eqb-true, le-ltb, lt-ltb}
@@ -12,7 +12,7 @@ use Rattle.b3_base.specs.Signed.{signed, unsigned}
 use Rattle.b3_base.specs.Word as words
 use Rattle.b3_base.specs.declared.word.Width.{Width as Wide}
 use Rattle.b3_base.specs.declared.word.Width.TheVariants.{W32, W64}
-use Rattle.b3_meaning.specs.Opcodes.{DivisionByZero, Gives, LeastByMinusOne, Undefined, Undefines, chilled, difference, is_least_by_minus_one, least, left_over, product, remainder, unless_zero}
+use Rattle.b3_meaning.specs.Opcodes.{DivisionByZero, Gives, LeastByMinusOne, Undefines, chilled, difference, is_least_by_minus_one, least, left_over, product, remainder, unless_zero}
 use Rattle.a64_inst.specs.StepData.{quotient}
 use Rattle.air_select.proofs.OneOp.{both, chilled_is, undefined_gives}
 
@@ -47,7 +47,8 @@ rest_fits_32 (pos a) k size = let less : a % nat_abs k ≤ a = mod-le a (nat_abs
 rest_fits_32 (negsuc a) k size = let less : suc a % nat_abs k ≤ suc a = mod-le (suc a) (nat_abs k) in neg_fits_32 (suc a % nat_abs k) (omega arith)
 
 core_32 : (x y : ℕ) → x < 2 ^ 32 → y < 2 ^ 32 → FitsSigned w32 (int_div (cast_signed w32 x) (cast_signed w32 y))
-    → cast_unsigned w32 (int_div (cast_signed w32 x) (cast_signed w32 y)) < 2 ^ 32 → cast_unsigned w32 (int_rem (cast_signed w32 x) (cast_signed w32 y)) < 2 ^ 32
+    → cast_unsigned w32 (int_div (cast_signed w32 x) (cast_signed w32 y)) < 2 ^ 32
+    → cast_unsigned w32 (int_rem (cast_signed w32 x) (cast_signed w32 y)) < 2 ^ 32
     → FitsSigned w32 (int_rem (cast_signed w32 x) (cast_signed w32 y))
     → (x + (2 ^ 32 - cast_unsigned w32 (int_div (cast_signed w32 x) (cast_signed w32 y)) * y % 2 ^ 32)) % 2 ^ 32
     ≡ cast_unsigned w32 (int_rem (cast_signed w32 x) (cast_signed w32 y))
@@ -79,7 +80,8 @@ sized_32 x lt =
 
 rest_32 : (x y : ℕ) → x < 2 ^ 32 → y < 2 ^ 32 → (cast_signed w32 x ≡ negsuc (2 ^ 31 - 1) → cast_signed w32 y ≡ negsuc 0 → ⊥)
     → (cast_unsigned w32 (int_div (cast_signed w32 x) (cast_signed w32 y)) < 2 ^ 32)
-    × ((x + (2 ^ 32 - cast_unsigned w32 (int_div (cast_signed w32 x) (cast_signed w32 y)) * y % 2 ^ 32)) % 2 ^ 32 ≡ cast_unsigned w32 (int_rem (cast_signed w32 x) (cast_signed w32 y)))
+    × ((x + (2 ^ 32 - cast_unsigned w32 (int_div (cast_signed w32 x) (cast_signed w32 y)) * y % 2 ^ 32)) % 2 ^ 32 ≡ cast_unsigned w32
+    (int_rem (cast_signed w32 x) (cast_signed w32 y)))
 rest_32 x y px py not_extreme =
     let fq = quotient_fits_32 (cast_signed w32 x) (cast_signed w32 y) (sized_32 x px) not_extreme in
     let fr = rest_fits_32 (cast_signed w32 x) (cast_signed w32 y) (sized_32 x px) in
@@ -114,7 +116,8 @@ rest_fits_64 (pos a) k size = let less : a % nat_abs k ≤ a = mod-le a (nat_abs
 rest_fits_64 (negsuc a) k size = let less : suc a % nat_abs k ≤ suc a = mod-le (suc a) (nat_abs k) in neg_fits_64 (suc a % nat_abs k) (omega arith)
 
 core_64 : (x y : ℕ) → x < 2 ^ 64 → y < 2 ^ 64 → FitsSigned w64 (int_div (cast_signed w64 x) (cast_signed w64 y))
-    → cast_unsigned w64 (int_div (cast_signed w64 x) (cast_signed w64 y)) < 2 ^ 64 → cast_unsigned w64 (int_rem (cast_signed w64 x) (cast_signed w64 y)) < 2 ^ 64
+    → cast_unsigned w64 (int_div (cast_signed w64 x) (cast_signed w64 y)) < 2 ^ 64
+    → cast_unsigned w64 (int_rem (cast_signed w64 x) (cast_signed w64 y)) < 2 ^ 64
     → FitsSigned w64 (int_rem (cast_signed w64 x) (cast_signed w64 y))
     → (x + (2 ^ 64 - cast_unsigned w64 (int_div (cast_signed w64 x) (cast_signed w64 y)) * y % 2 ^ 64)) % 2 ^ 64
     ≡ cast_unsigned w64 (int_rem (cast_signed w64 x) (cast_signed w64 y))
@@ -146,7 +149,8 @@ sized_64 x lt =
 
 rest_64 : (x y : ℕ) → x < 2 ^ 64 → y < 2 ^ 64 → (cast_signed w64 x ≡ negsuc (2 ^ 63 - 1) → cast_signed w64 y ≡ negsuc 0 → ⊥)
     → (cast_unsigned w64 (int_div (cast_signed w64 x) (cast_signed w64 y)) < 2 ^ 64)
-    × ((x + (2 ^ 64 - cast_unsigned w64 (int_div (cast_signed w64 x) (cast_signed w64 y)) * y % 2 ^ 64)) % 2 ^ 64 ≡ cast_unsigned w64 (int_rem (cast_signed w64 x) (cast_signed w64 y)))
+    × ((x + (2 ^ 64 - cast_unsigned w64 (int_div (cast_signed w64 x) (cast_signed w64 y)) * y % 2 ^ 64)) % 2 ^ 64 ≡ cast_unsigned w64
+    (int_rem (cast_signed w64 x) (cast_signed w64 y)))
 rest_64 x y px py not_extreme =
     let fq = quotient_fits_64 (cast_signed w64 x) (cast_signed w64 y) (sized_64 x px) not_extreme in
     let fr = rest_fits_64 (cast_signed w64 x) (cast_signed w64 y) (sized_64 x px) in
@@ -170,7 +174,8 @@ pub record IsRest (width : Wide) (q x y w : ℕ) : Type 0 where
 
 not_extreme : (width : Wide) (x y : ℕ) → is_least_by_minus_one width x y ≡ false → x ≡ least width → y ≡ 2 ^ words.bits width - 1 → ⊥
 not_extreme width x y e ex ey =
-    let bad : true ≡ false = sym (ap (λ b. b && nat_eq y (2 ^ words.bits width - 1)) (eq-eqb x (least width) ex) ∙ eq-eqb y (2 ^ words.bits width - 1) ey) ∙ e in cc
+    let bad : true ≡ false = sym (ap (λ b. b && nat_eq y (2 ^ words.bits width - 1)) (eq-eqb x (least width) ex) ∙ eq-eqb y (2 ^ words.bits width - 1) ey)
+    ∙ e in cc
 
 ordinary : (width : Wide) (x y : ℕ) → x < 2 ^ words.bits width → y < 2 ^ words.bits width → is_least_by_minus_one width x y ≡ false
     → (unsigned width (int_div (signed width x) (signed width y)) < 2 ^ words.bits width)
@@ -178,7 +183,8 @@ ordinary : (width : Wide) (x y : ℕ) → x < 2 ^ words.bits width → y < 2 ^ w
 ordinary W32 x y px py e = rest_32 x y px py (λ a b. not_extreme W32 x y e (least_32 x px a) (minus_one_32 y py b))
 ordinary W64 x y px py e = rest_64 x y px py (λ a b. not_extreme W64 x y e (least_64 x px a) (minus_one_64 y py b))
 
-extreme : (width : Wide) → difference width (least width) (product width (quotient width true (least width) (2 ^ words.bits width - 1)) (2 ^ words.bits width - 1)) ≡ 0
+extreme : (width : Wide) → difference width (least width)
+    (product width (quotient width true (least width) (2 ^ words.bits width - 1)) (2 ^ words.bits width - 1)) ≡ 0
 extreme W32 = refl
 extreme W64 = refl
 
@@ -213,9 +219,11 @@ rest_is width chill x y w px py e = go (nat_eq y 0) refl (is_least_by_minus_one 
         let ex : x ≡ least width = eqb-true x (least width) parts.0 in
         let ey : y ≡ 2 ^ words.bits width - 1 = eqb-true y (2 ^ words.bits width - 1) parts.1 in
         record {
-          small = subst (λ n. quotient width true n y < 2 ^ words.bits width) (sym ex) (subst (λ n. quotient width true (least width) n < 2 ^ words.bits width) (sym ey) (least_small width));
+          small = subst (λ n. quotient width true n y < 2 ^ words.bits width) (sym ex)
+              (subst (λ n. quotient width true (least width) n < 2 ^ words.bits width) (sym ey) (least_small width));
           rest = λ other.
-              ap (λ n. difference width n (product width (quotient width true n y) y)) ex ∙ ap (λ n. difference width (least width) (product width (quotient width true (least width) n) n)) ey
+              ap (λ n. difference width n (product width (quotient width true n y) y)) ex
+              ∙ ap (λ n. difference width (least width) (product width (quotient width true (least width) n) n)) ey
               ∙ extreme width ∙ chilled_is chill 0 w LeastByMinusOne e;
           zero_quotient = λ same. absurd (let bad : true ≡ false = sym same ∙ ez in cc);
           zero_rest = λ same. absurd (let bad : true ≡ false = sym same ∙ ez in cc);
@@ -246,7 +254,8 @@ no_zero y e same = let bad : true ≡ false = sym (eq-eqb y 0 same) ∙ e in cc
 pub unsigned_rest_is : (width : Wide) (x y w : ℕ) → x < 2 ^ words.bits width → unless_zero y (x % y) ≡ Gives w → IsRest width (quotient width false x y) x y w
 unsigned_rest_is width x y w px e = go (nat_eq y 0) refl e
   where
-    go : (zero : Bool) → nat_eq y 0 ≡ zero → (if zero then Undefines DivisionByZero else Gives (x % y)) ≡ Gives w → IsRest width (quotient width false x y) x y w
+    go : (zero : Bool) → nat_eq y 0 ≡ zero → (if zero then Undefines DivisionByZero else Gives (x % y)) ≡ Gives w
+        → IsRest width (quotient width false x y) x y w
     go true ez e = absurd (undefined_gives DivisionByZero w e)
     go false ez e =
         let plain : quotient width false x y ≡ x / y = rw ez refl in

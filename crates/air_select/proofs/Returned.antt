@@ -1,5 +1,5 @@
 -- What a selected procedure returns is what some Return of the procedure has.
-use Rattle.std.proofs.Common.{◌≡◌, ◌≢◌, ℕ, zero, suc, ◌<◌, ◌⊎◌, inl, inr, true, false, List, [], ◌∷◌, map, length, Option, Some, None, refl, sym, ap, ◌∙◌, subst, ⊎_elim, arith, nat_eq}
+use Rattle.std.proofs.Common.{◌≡◌, ◌≢◌, ℕ, zero, suc, ◌<◌, inl, inr, true, false, List, [], ◌∷◌, map, length, Option, Some, None, refl, sym, ap, ◌∙◌, subst, ⊎_elim, arith, nat_eq}
 use Rattle.std.specs.Prelude.{Contains, if◌then◌else◌, slice_get, slice_index_or}
 use Rattle.std.specs.List.{flat_map}
 use Rattle.std.proofs.lemmas.Bool.Decides.{eqb_tells}
@@ -23,7 +23,7 @@ use Rattle.b3_sound.proofs.Lists.{contains_head, contains_none, contains_tail}
 use Rattle.stackmap.specs.declared.site.Returns.{Returns}
 use Rattle.stackmap.specs.declared.site.Returns.TheVariants as returns
 use Rattle.air_select.specs.Contract.{ReturnsType}
-use Rattle.air_select.specs.Selected.{returns_by, returns_child, returns_type, selected, selected_by, tables}
+use Rattle.air_select.specs.Selected.{returns_by, returns_child, returns_type, selected, selected_by}
 use Rattle.air_select.specs.Tables.{Index, index_of, known}
 
 -- ---- where values stand

@@ -1,6 +1,6 @@
 -- RotL: a rotation right by the negative of the amount.
-use Rattle.std.proofs.Common.{◌≡◌, ◌≢◌, ℕ, suc, ◌+◌, ◌-◌, ◌*◌, ◌%◌, ◌^◌, ◌<◌, Bool, true, false, List, [], ◌∷◌, map, Option, Some, None, refl, sym, ap, ◌∙◌, subst, arith}
-use Rattle.std.specs.Prelude.{Contains, if◌then◌else◌, slice_get}
+use Rattle.std.proofs.Common.{◌≡◌, ℕ, ◌+◌, ◌-◌, ◌*◌, ◌%◌, ◌^◌, ◌<◌, Bool, true, false, List, [], ◌∷◌, Some, None, refl, sym, ap, ◌∙◌, subst, arith}
+use Rattle.std.specs.Prelude.{if◌then◌else◌}
 use Rattle.b3_base.specs.Arithmetic.{low, rotate_right, rotated_right}
 use Rattle.b3_base.specs.Observed.{Start}
 use Rattle.b3_base.specs.Word.{bits}
@@ -23,7 +23,6 @@ use Rattle.b3_sound.proofs.Results.{low_in}
 use Rattle.air_ir.specs.Meaning.{meaning}
 use Rattle.air_ir.specs.Operands.{Holds, read, targets, word_of, words}
 use Rattle.air_ir.specs.Steps.{Goes, State, step, steps}
-use Rattle.air_ir.specs.Words.{computed}
 use Rattle.air_ir.specs.declared.op.AirOp.TheVariants as op
 use Rattle.air_ir.specs.declared.operand.Arg.{Arg}
 use Rattle.air_ir.specs.declared.operand.Arg.TheVariants.{At, Imm}
@@ -77,10 +76,12 @@ module _ (p : Procedure) (t : Tables) (start : Start) (v : Value) (h : Here p t 
       (is : rotate_right (width_of v.ty) two.wx (bits (width_of v.ty) - two.wy % bits (width_of v.ty)) ≡ w) where
     x_width : width_at t.index (child v.children 0) ≡ width_of v.ty
     x_width =
-        width_is p h.valid t h.sound start h.passed h.block h.before (v ∷ h.rest) h.stands h.st h.reached h.s h.related (child v.children 0) ∙ ap width_of (two.x_taken ∙ sym own)
+        width_is p h.valid t h.sound start h.passed h.block h.before (v ∷ h.rest) h.stands h.st h.reached h.s h.related (child v.children 0)
+        ∙ ap width_of (two.x_taken ∙ sym own)
 
     y_width : width_at t.index (child v.children 1) ≡ W32
-    y_width = width_is p h.valid t h.sound start h.passed h.block h.before (v ∷ h.rest) h.stands h.st h.reached h.s h.related (child v.children 1) ∙ ap width_of two.y_taken
+    y_width = width_is p h.valid t h.sound start h.passed h.block h.before (v ∷ h.rest) h.stands h.st h.reached h.s h.related (child v.children 1)
+        ∙ ap width_of two.y_taken
 
     rotation_step : (s : State) → Related p t start h.st s → (amount : Arg) (n : ℕ) → word_of s.homes W32 amount ≡ Some n
         → n % bits (width_of v.ty) ≡ (bits (width_of v.ty) - two.wy % bits (width_of v.ty)) % bits (width_of v.ty)
@@ -96,7 +97,8 @@ module _ (p : Procedure) (t : Tables) (start : Start) (v : Value) (h : Here p t 
 
     -- a folded amount
     folded_rotation : folds t (child v.children 1) ≡ true → w < 2 ^ bits (width_of v.ty)
-        → Does p t start v junk (b3.Next (b3.with_word h.st v.id w)) (steps (meaning start) (rotate_by t v (Imm (turned (width_of v.ty) (known t.index (child v.children 1)).word)) ∷ []) h.s junk)
+        → Does p t start v junk (b3.Next (b3.with_word h.st v.id w))
+        (steps (meaning start) (rotate_by t v (Imm (turned (width_of v.ty) (known t.index (child v.children 1)).word)) ∷ []) h.s junk)
     folded_rotation f small =
         let k = (known t.index (child v.children 1)).word in
         let amount = Imm (turned (width_of v.ty) k) in
@@ -108,12 +110,14 @@ module _ (p : Procedure) (t : Tables) (start : Start) (v : Value) (h : Here p t 
         ∙ child_in p t start v h junk h.s h.related opcode.RotL eo refl 1 (child v.children 1) two.wy two.y_at two.y_in two.y_now) in
         puts p t start v h junk w h.s (steps (meaning start) (rotate_by t v amount ∷ []) h.s junk) small h.related
         (steps_last start (rotate_by t v amount) h.s junk (Goes None (with_home h.s (home t.index v.id) (width_of v.ty) w), junk)
-        (rotation_step h.s h.related amount (turned (width_of v.ty) k) (of_immediate h.s.homes W32 (turned (width_of v.ty) k) ∙ ap Some (turned_low (width_of v.ty) k))
+        (rotation_step h.s h.related amount (turned (width_of v.ty) k)
+        (of_immediate h.s.homes W32 (turned (width_of v.ty) k) ∙ ap Some (turned_low (width_of v.ty) k))
         (turned_is (width_of v.ty) k two.wy word)))
 
     -- an amount in a home
     plain_rotation : w < 2 ^ bits (width_of v.ty)
-        → Does p t start v junk (b3.Next (b3.with_word h.st v.id w)) (steps (meaning start) (negative_amount t v ∷ rotate_by t v (At (first_extra t.index v.id)) ∷ []) h.s junk)
+        → Does p t start v junk (b3.Next (b3.with_word h.st v.id w))
+        (steps (meaning start) (negative_amount t v ∷ rotate_by t v (At (first_extra t.index v.id)) ∷ []) h.s junk)
     plain_rotation small =
         let y = child v.children 1 in
         let n = difference W32 0 two.wy in
@@ -130,7 +134,8 @@ module _ (p : Procedure) (t : Tables) (start : Start) (v : Value) (h : Here p t 
         extra_related p t h.sound start h.st h.s h.related v.id v (named p t start v h) 1 (Holds W32 n) (omega arith) (omega arith)
         (λ e. let bad : opcode.RotL ≡ opcode.Phi = sym eo ∙ e in cc) in
         let reads : word_of after.homes W32 (At extra) ≡ Some n =
-        at_home after.homes W32 extra n (ap (read W32) (put_here h.s.homes (3 * place t.index v.id + 1) (Holds W32 n)) ∙ holds_word W32 n (low_in W32 (0 + (2 ^ 32 - two.wy)))) in
+        at_home after.homes W32 extra n (ap (read W32) (put_here h.s.homes (3 * place t.index v.id + 1) (Holds W32 n))
+        ∙ holds_word W32 n (low_in W32 (0 + (2 ^ 32 - two.wy)))) in
         puts p t start v h junk w after (steps (meaning start) (negative_amount t v ∷ rotate_by t v (At extra) ∷ []) h.s junk) small r1
         (steps_first start (negative_amount t v) (rotate_by t v (At extra) ∷ []) h.s after junk negative
         ∙ steps_last start (rotate_by t v (At extra)) after junk (Goes None (with_home after (home t.index v.id) (width_of v.ty) w), junk)
@@ -142,12 +147,14 @@ module _ (p : Procedure) (t : Tables) (start : Start) (v : Value) (h : Here p t 
       where
         go : (f : Bool) → folds t (child v.children 1) ≡ f
             → Does p t start v junk (b3.Next (b3.with_word h.st v.id w)) (steps (meaning start)
-            (if f then rotate_by t v (Imm (turned (width_of v.ty) (known t.index (child v.children 1)).word)) ∷ [] else negative_amount t v ∷ rotate_by t v (At (first_extra t.index v.id)) ∷ []) h.s junk)
+            (if f then rotate_by t v (Imm (turned (width_of v.ty) (known t.index (child v.children 1)).word)) ∷ [] else negative_amount t v ∷ rotate_by t v
+            (At (first_extra t.index v.id)) ∷ []) h.s junk)
         go true e = folded_rotation e small
         go false e = plain_rotation small
 
   pub rotate_does : v.kind.opcode ≡ opcode.RotL
-      → Does p t start v junk (b3.gives h.st v.id (result v.kind.opcode v.kind.chill v.ty (words_here p t start v h) (types_of p v))) (steps (meaning start) (code.rotate_left t v) h.s junk)
+      → Does p t start v junk (b3.gives h.st v.id (result v.kind.opcode v.kind.chill v.ty (words_here p t start v h) (types_of p v)))
+      (steps (meaning start) (code.rotate_left t v) h.s junk)
   rotate_does eo =
       let ws = words_here p t start v h in
       gives_does p t start v h junk (result v.kind.opcode v.kind.chill v.ty ws (types_of p v)) (steps (meaning start) (code.rotate_left t v) h.s junk)
@@ -157,5 +164,6 @@ module _ (p : Procedure) (t : Tables) (start : Start) (v : Value) (h : Here p t 
       (two_children (type_of p) h.st.words allowed.alike Alike (This Int32) v.children ws allowed.children (are_words p t start v h)) in
       let is : rotate_left (width_of v.ty) two.wx two.wy ≡ w =
       gives_is (rotate_left (width_of v.ty) two.wx two.wy) w
-      (ap (λ (l : List ℕ). result opcode.RotL v.kind.chill v.ty l (types_of p v)) (sym two.words) ∙ ap (λ (q : Opcode). result q v.kind.chill v.ty ws (types_of p v)) (sym eo) ∙ g) in
+      (ap (λ (l : List ℕ). result opcode.RotL v.kind.chill v.ty l (types_of p v)) (sym two.words)
+      ∙ ap (λ (q : Opcode). result q v.kind.chill v.ty ws (types_of p v)) (sym eo) ∙ g) in
       either_rotation eo allowed.alike allowed.gives two w is (result_small p t start v h w (ap role_of eo) g))

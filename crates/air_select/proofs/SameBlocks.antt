@@ -1,33 +1,32 @@
 -- The run of the selected procedure has the blocks of the run of B3.
-use Rattle.std.proofs.Common.{◌≡◌, ◌≢◌, ℕ, zero, suc, ◌+◌, ◌^◌, ◌<◌, ◌≤◌, ◌⊎◌, inl, inr, Bool, true, false, List, [], ◌∷◌, ◌++◌, map, length, Option, Some, None, refl, sym, ap, ◌∙◌, subst, arith, append-nil, append_assoc}
-use Rattle.std.specs.Prelude.{All, Contains, slice_get, slice_index_or, if◌then◌else◌}
+use Rattle.std.proofs.Common.{◌≡◌, ℕ, suc, ◌+◌, ◌<◌, true, false, List, [], ◌∷◌, ◌++◌, map, length, Some, None, refl, sym, ap, ◌∙◌, subst, arith, append-nil, append_assoc}
+use Rattle.std.specs.Prelude.{Contains, slice_get, slice_index_or}
 use Rattle.std.specs.List.{flat_map}
 use Rattle.std.proofs.lemmas.List.Concat.{flat_map-cons}
 use Rattle.std.proofs.lemmas.List.{get_or-map}
 use Rattle.b3_base.specs.Observed.{Answer, Event, Memory, Observation, Start}
-use Rattle.b3_base.specs.Ranged.{IsRangedAnswer, IsRangedStart}
 use Rattle.b3_base.specs.Run.{iterate}
 use Rattle.b3_base.specs.declared.observation.Status.{Status}
 use Rattle.b3_base.specs.declared.observation.Status.TheVariants.{Going}
 use Rattle.b3_base.proofs.Run.{iterate-related}
 use Rattle.b3_ir.specs.Naming.{type_of}
-use Rattle.b3_ir.specs.Procedure.{Block, Procedure, no_block, values_of}
+use Rattle.b3_ir.specs.Procedure.{Procedure, no_block, values_of}
 use Rattle.b3_ir.specs.Table.{is_terminal}
 use Rattle.b3_ir.specs.declared.value.Value.{Value}
 use Rattle.b3_meaning.specs.Roles.{role_of}
 use Rattle.b3_meaning.specs.Run as b3
 use Rattle.b3_rules.specs.Paths.{successors_in}
-use Rattle.b3_sound.specs.Laws.{IsStarted, StandsAfter}
+use Rattle.b3_sound.specs.Laws.{IsStarted}
 use Rattle.b3_sound.proofs.Effects.{IsEffectOf}
 use Rattle.b3_sound.proofs.Keeping.{child_words, enters, goes_on, in_block}
 use Rattle.b3_sound.proofs.Kept.{EndsBlock, IsKept}
 use Rattle.b3_sound.proofs.Law.{effect_here, path_in}
 use Rattle.b3_sound.proofs.Reached.{IsReached}
 use Rattle.b3_sound.proofs.Rows.{is_ending, terminal_ends}
-use Rattle.air_ir.specs.Blocks.{At, Config, Lost, Stopped, block_of, block_step, entered, left, run_step, seen_as}
-use Rattle.air_ir.specs.Meaning.{Exit, Over, To, meaning}
+use Rattle.air_ir.specs.Blocks.{At, Config, Stopped, block_of, block_step, left, run_step, seen_as}
+use Rattle.air_ir.specs.Meaning.{Over, To, meaning}
 use Rattle.air_ir.specs.Run.{IsUndefined, observe}
-use Rattle.air_ir.specs.Steps.{Goes, Outcome, State, Undefined, go_on, steps}
+use Rattle.air_ir.specs.Steps.{Goes, Outcome, State, go_on, steps}
 use Rattle.air_ir.specs.declared.procedure.AirBlock.{AirBlock}
 use Rattle.air_ir.specs.declared.procedure.AirInst.{AirInst}
 use Rattle.air_ir.specs.declared.procedure.AirProc.{AirProc}
@@ -59,7 +58,8 @@ module _ (p : Procedure) (valid : IsKept p) (t : Tables) (sound : IsSound p t) (
   abbrev Running : List Value → State → List ℕ → Outcome × List ℕ
   Running vs s junk = steps (meaning start) (flat_map (value_code t) vs) s junk
 
-  here_at : (b : ℕ) (passed : List ℕ) (before rest : List Value) (v : Value) (st : b3.State) (s : State) → values_of p b ≡ before ++ v ∷ rest → IsReached p passed b before st
+  here_at : (b : ℕ) (passed : List ℕ) (before rest : List Value) (v : Value) (st : b3.State) (s : State) → values_of p b ≡ before ++ v ∷ rest
+      → IsReached p passed b before st
       → Related p t start st s → Here p t start v
   here_at b passed before rest v st s is reached r = record {
     valid = valid;
@@ -96,7 +96,11 @@ module _ (p : Procedure) (valid : IsKept p) (t : Tables) (sound : IsSound p t) (
     rw does.2 refl,
     ap (λ (l : List ℕ). slice_get l does.0) (targets_one v) ∙ does.3,
     does.4,
-    (b ∷ passed, subst (λ (s : b3.State). IsReached p (b ∷ passed) block [] s) (sym fits.2) (enters p valid b passed before st v ([], is) reached block refl fits.0 fits.1)),
+    (
+      b ∷ passed,
+      subst (λ (s : b3.State). IsReached p (b ∷ passed) block [] s) (sym fits.2)
+          (enters p valid b passed before st v ([], is) reached block refl fits.0 fits.1),
+    ),
   )
   last_comes b passed before v st junk is reached ws (b3.End (b3.Over seen)) o fits does = (does.0, does.1, rw does.2 refl, does.3)
   last_comes b passed before v st junk is reached ws (b3.End (b3.Lost b3.Malformed)) o fits does = tt
@@ -106,7 +110,8 @@ module _ (p : Procedure) (valid : IsKept p) (t : Tables) (sound : IsSound p t) (
   middle_comes : (b : ℕ) (passed : List ℕ) (before rest : List Value) (v : Value) (st : b3.State) (junk : List ℕ) (is : values_of p b ≡ before ++ v ∷ rest)
       → (reached : IsReached p passed b before st) → is_terminal v.kind.opcode ≡ false → (e : b3.Effect) (o : Outcome × List ℕ) (ts : List ℕ)
       → IsEffectOf (role_of v.kind.opcode) p st v (child_words p valid b passed before st v (rest, is) reached).0 e → Does p t start v junk e o
-      → ((next : b3.State) (s : State) → IsReached p passed b (before ++ v ∷ []) next → Related p t start next s → Comes ts junk (b3.run_values (type_of p) start rest next) (Running rest s junk))
+      → ((next : b3.State) (s : State) → IsReached p passed b (before ++ v ∷ []) next → Related p t start next s
+      → Comes ts junk (b3.run_values (type_of p) start rest next) (Running rest s junk))
       → Comes ts junk (b3.after e (b3.run_values (type_of p) start rest)) (go_on (meaning start) (Running rest) o)
   middle_comes b passed before rest v st junk is reached goes (b3.Next next) o ts fits does more =
       rw does.1 (more next does.0 (goes_on p valid b passed before st v (rest, is) reached next fits.1) does.2)
@@ -123,7 +128,8 @@ module _ (p : Procedure) (valid : IsKept p) (t : Tables) (sound : IsSound p t) (
   unfolding steps
   steps_none_is s junk = refl
 
-  values_come : (b : ℕ) (passed : List ℕ) (rest before : List Value) (st : b3.State) (s : State) (junk : List ℕ) → values_of p b ≡ before ++ rest → EndsBlock rest
+  values_come : (b : ℕ) (passed : List ℕ) (rest before : List Value) (st : b3.State) (s : State) (junk : List ℕ) → values_of p b ≡ before ++ rest
+      → EndsBlock rest
       → IsReached p passed b before st → Related p t start st s
       → Comes (flat_map targets_of rest) junk (b3.run_values (type_of p) start rest st) (Running rest s junk)
   unfolding here_at
@@ -131,22 +137,28 @@ module _ (p : Procedure) (valid : IsKept p) (t : Tables) (sound : IsSound p t) (
   values_come b passed (v ∷ []) before st s junk is ending reached r =
       let h = here_at b passed before [] v st s is reached r in
       subst (λ (o : Outcome × List ℕ). Comes (flat_map targets_of (v ∷ [])) junk (b3.run_values (type_of p) start (v ∷ []) st) o)
-      (sym (ap (λ (l : List AirInst). steps (meaning start) l s junk) (flat_map-cons (value_code t) v []) ∙ steps-append (meaning start) (value_code t v) [] s junk
+      (sym (ap (λ (l : List AirInst). steps (meaning start) l s junk) (flat_map-cons (value_code t) v [])
+      ∙ steps-append (meaning start) (value_code t v) [] s junk
       ∙ ap (λ (f : State → List ℕ → Outcome × List ℕ). go_on (meaning start) f (steps (meaning start) (value_code t v) s junk)) (λ i x y. steps_none_is x y i)))
-      (last_comes b passed before v st junk is reached (child_words p valid b passed before st v ([], is) reached).0 (b3.effect (type_of p) start st v) (steps (meaning start) (value_code t v) s junk)
+      (last_comes b passed before v st junk is reached (child_words p valid b passed before st v ([], is) reached).0 (b3.effect (type_of p) start st v)
+      (steps (meaning start) (value_code t v) s junk)
       (effect_here p valid start answers started b passed before st v ([], is) reached)
       (value_does p t start v h junk (built b v (in_middle b before [] v is))))
   values_come b passed (v ∷ w ∷ vs) before st s junk is ending reached r =
       let h = here_at b passed before (w ∷ vs) v st s is reached r in
       let none : targets_of v ≡ [] = ap (map (λ n. n + 1)) (names_none b v (in_middle b before (w ∷ vs) v is) ending.0) in
-      let targets_are : flat_map targets_of (v ∷ w ∷ vs) ≡ flat_map targets_of (w ∷ vs) = flat_map-cons targets_of v (w ∷ vs) ∙ ap (λ (l : List ℕ). l ++ flat_map targets_of (w ∷ vs)) none in
+      let targets_are : flat_map targets_of (v ∷ w ∷ vs) ≡ flat_map targets_of (w ∷ vs) = flat_map-cons targets_of v (w ∷ vs)
+      ∙ ap (λ (l : List ℕ). l ++ flat_map targets_of (w ∷ vs)) none in
       subst (λ (l : List ℕ). Comes l junk (b3.run_values (type_of p) start (v ∷ w ∷ vs) st) (Running (v ∷ w ∷ vs) s junk)) (sym targets_are)
       (subst (λ (o : Outcome × List ℕ). Comes (flat_map targets_of (w ∷ vs)) junk (b3.run_values (type_of p) start (v ∷ w ∷ vs) st) o)
-      (sym (ap (λ (l : List AirInst). steps (meaning start) l s junk) (flat_map-cons (value_code t) v (w ∷ vs)) ∙ steps-append (meaning start) (value_code t v) (flat_map (value_code t) (w ∷ vs)) s junk))
-      (middle_comes b passed before (w ∷ vs) v st junk is reached ending.0 (b3.effect (type_of p) start st v) (steps (meaning start) (value_code t v) s junk) (flat_map targets_of (w ∷ vs))
+      (sym (ap (λ (l : List AirInst). steps (meaning start) l s junk) (flat_map-cons (value_code t) v (w ∷ vs))
+      ∙ steps-append (meaning start) (value_code t v) (flat_map (value_code t) (w ∷ vs)) s junk))
+      (middle_comes b passed before (w ∷ vs) v st junk is reached ending.0 (b3.effect (type_of p) start st v) (steps (meaning start) (value_code t v) s junk)
+      (flat_map targets_of (w ∷ vs))
       (effect_here p valid start answers started b passed before st v (w ∷ vs, is) reached)
       (value_does p t start v h junk (built b v (in_middle b before (w ∷ vs) v is)))
-      (λ next s' reached' r'. values_come b passed (w ∷ vs) (before ++ v ∷ []) next s' junk (is ∙ sym (append_assoc before (v ∷ []) (w ∷ vs))) ending.1 reached' r')))
+      (λ next s' reached' r'. values_come b passed (w ∷ vs) (before ++ v ∷ []) next s' junk (is ∙ sym (append_assoc before (v ∷ []) (w ∷ vs)))
+      ending.1 reached' r')))
 
   -- ---- blocks
 
@@ -174,18 +186,21 @@ module _ (p : Procedure) (valid : IsKept p) (t : Tables) (sound : IsSound p t) (
     block_alike junk b st s r passed reached =
         let lt = path_in p valid passed b reached.path in
         let code = block_code t (slice_index_or p.blocks b no_block) in
-        subst (λ (x : AirBlock). Alike junk (b3.run_values (type_of p) start (values_of p b) st) (left x.targets (steps (meaning start) x.insts s junk))) (sym (block_is b lt))
+        subst (λ (x : AirBlock). Alike junk (b3.run_values (type_of p) start (values_of p b) st) (left x.targets (steps (meaning start) x.insts s junk)))
+        (sym (block_is b lt))
         (leaves_block (flat_map targets_of (values_of p b)) junk (b3.run_values (type_of p) start (values_of p b) st) (Running (values_of p b) s junk)
         (values_come b passed (values_of p b) [] st s junk refl (valid.ends b lt) reached r))
 
     pub run_alike : (junk : List ℕ) (c : b3.Config) (d : Config × List ℕ) → Alike junk c d → Alike junk (b3.block_step p start c) (run_step (meaning start) q d)
     unfolding run_step
     run_alike junk (b3.At b st) d a =
-        subst (λ (x : Config × List ℕ). Alike junk (b3.block_step p start (b3.At b st)) (run_step (meaning start) q x)) (sym a.1) (block_alike junk b st a.0 a.2 a.3.0 a.3.1)
+        subst (λ (x : Config × List ℕ). Alike junk (b3.block_step p start (b3.At b st)) (run_step (meaning start) q x)) (sym a.1)
+        (block_alike junk b st a.0 a.2 a.3.0 a.3.1)
     run_alike junk (b3.Over seen) d a = ap (run_step (meaning start) q) a
     run_alike junk (b3.Lost loss) d a = tt
 
-    pub runs_alike : (junk : List ℕ) (n : ℕ) (c : b3.Config) (d : Config × List ℕ) → Alike junk c d → Alike junk (iterate (b3.block_step p start) n c) (iterate (run_step (meaning start) q) n d)
+    pub runs_alike : (junk : List ℕ) (n : ℕ) (c : b3.Config) (d : Config × List ℕ) → Alike junk c d
+        → Alike junk (iterate (b3.block_step p start) n c) (iterate (run_step (meaning start) q) n d)
     runs_alike junk n c d a = iterate-related (b3.block_step p start) (run_step (meaning start) q) (Alike junk) (run_alike junk) n c d a
 
   -- what is seen

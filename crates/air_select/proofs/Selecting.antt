@@ -1,9 +1,9 @@
 -- What `select` promises of a procedure of a valid module.
-use Rattle.std.proofs.Common.{◌≡◌, ℕ, ◌<◌, List, [], ◌∷◌, map, length, Option, Some, refl, sym, ap, ◌∙◌, subst}
+use Rattle.std.proofs.Common.{◌≡◌, ℕ, List, [], ◌∷◌, map, Some, refl, sym, ap, ◌∙◌}
 use Rattle.std.specs.Prelude.{IfOk, Result, Ok, Err, slice_get, slice_index_or}
 use Rattle.std.specs.Option.{option_map}
 use Rattle.std.proofs.lemmas.Option.{slice_get-get_or, slice_get-map, slice_get_within}
-use Rattle.b3_ir.specs.Procedure.{AllFit, Block, Kept, Procedure, empty_kept, procedures, values_of}
+use Rattle.b3_ir.specs.Procedure.{AllFit, Kept, Procedure, empty_kept, procedures, values_of}
 use Rattle.b3_ir.specs.declared.procedure.SlotLine.{SlotLine}
 use Rattle.b3_rules.specs.Valid.{IsValid, IsValidProcedure}
 use Rattle.b3_sound.proofs.FromValid.{is_kept}

@@ -1,5 +1,5 @@
 -- What the tables say of a procedure, as the proofs need it.
-use Rattle.std.proofs.Common.{◌≡◌, ℕ, ◌<◌, ◌⊎◌, true, false, length, Option, Some}
+use Rattle.std.proofs.Common.{◌≡◌, ℕ, ◌<◌, ◌⊎◌, true, length, Some}
 use Rattle.std.specs.Prelude.{Contains, slice_get}
 use Rattle.b3_ir.specs.Naming.{type_of, value_named}
 use Rattle.b3_ir.specs.Procedure.{Procedure, values_of}

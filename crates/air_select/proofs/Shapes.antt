@@ -1,5 +1,5 @@
 -- The children of a value, by what its row takes.
-use Rattle.std.proofs.Common.{◌≡◌, ℕ, ◌<◌, Bool, true, false, List, [], ◌∷◌, map, Option, Some, None, refl, sym, ap, ◌∙◌, subst}
+use Rattle.std.proofs.Common.{◌≡◌, ℕ, List, [], ◌∷◌, map, Option, Some, refl, sym, ap, ◌∙◌, subst}
 use Rattle.std.specs.Prelude.{Contains, slice_get}
 use Rattle.b3_ir.specs.Types.{AreTaken, IsTaken}
 use Rattle.b3_ir.specs.declared.opcode.Ty.{Ty}
@@ -61,7 +61,8 @@ module _ (types : ℕ → Ty) (f : ℕ → Option ℕ) (alike : Ty) where
         x_taken = taken.0;
       }
 
-  pub two_children : (a b : Takes) (cs ws : List ℕ) → AreTaken alike (a ∷ b ∷ []) NoMore (map types cs) → b3.words_of types f cs ≡ Some ws → TwoChildren a b cs ws
+  pub two_children : (a b : Takes) (cs ws : List ℕ) → AreTaken alike (a ∷ b ∷ []) NoMore (map types cs) → b3.words_of types f cs ≡ Some ws
+      → TwoChildren a b cs ws
   two_children a b [] ws taken e = absurd taken
   two_children a b (c ∷ cs) ws taken e =
       let one = words_cons types f c cs ws e in
@@ -79,7 +80,8 @@ module _ (types : ℕ → Ty) (f : ℕ → Option ℕ) (alike : Ty) where
         y_taken = others.x_taken;
       }
 
-  pub three_children : (a b c : Takes) (cs ws : List ℕ) → AreTaken alike (a ∷ b ∷ c ∷ []) NoMore (map types cs) → b3.words_of types f cs ≡ Some ws → ThreeChildren a b c cs ws
+  pub three_children : (a b c : Takes) (cs ws : List ℕ) → AreTaken alike (a ∷ b ∷ c ∷ []) NoMore (map types cs) → b3.words_of types f cs ≡ Some ws
+      → ThreeChildren a b c cs ws
   three_children a b c [] ws taken e = absurd taken
   three_children a b c (d ∷ cs) ws taken e =
       let one = words_cons types f d cs ws e in

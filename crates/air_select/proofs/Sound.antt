@@ -1,6 +1,6 @@
 -- What selection looks up of a valid procedure is what the proofs need of it.
-use Rattle.std.proofs.Common.{◌≡◌, ◌≢◌, ℕ, zero, suc, ◌+◌, ◌<◌, ◌≤◌, ◌⊎◌, inl, inr, Bool, true, false, ◌&&◌, ◌||◌, List, [], ◌∷◌, ◌++◌, Option, Some, None, length, map, refl, sym, ap, ◌∙◌, subst, arith, nat_eq, ⊎_elim}
-use Rattle.std.specs.Prelude.{Contains, if◌then◌else◌, slice_get, slice_index_or}
+use Rattle.std.proofs.Common.{◌≡◌, ◌≢◌, ℕ, zero, suc, ◌+◌, ◌<◌, ◌⊎◌, inl, inr, Bool, true, false, ◌&&◌, ◌||◌, List, [], ◌∷◌, Option, Some, None, length, map, refl, sym, ap, ◌∙◌, subst, arith, nat_eq, ⊎_elim}
+use Rattle.std.specs.Prelude.{Contains, slice_get, slice_index_or}
 use Rattle.std.specs.List.{flat_map, list_all}
 use Rattle.std.specs.Option.{option_map}
 use Rattle.std.proofs.Math.ListN.{get_or-eq_default}
@@ -10,7 +10,7 @@ use Rattle.std.proofs.lemmas.List.{length-map}
 use Rattle.std.proofs.lemmas.List.Elements.{Contains-append_left, Contains-append_right}
 use Rattle.std.proofs.lemmas.Option.{get_or_from_slice_get, slice_get-get_or, slice_get-map, slice_get_within}
 use Rattle.b3_ir.specs.Naming.{all_values, type_of, type_or_void, value_named}
-use Rattle.b3_ir.specs.Procedure.{Block, Procedure, StandsAt, place_among, values_of}
+use Rattle.b3_ir.specs.Procedure.{Block, Procedure, place_among, values_of}
 use Rattle.b3_ir.specs.declared.opcode.Opcode.{Opcode}
 use Rattle.b3_ir.specs.declared.opcode.Opcode.TheVariants as opcode
 use Rattle.b3_ir.specs.declared.value.Value.{Value}
@@ -18,10 +18,10 @@ use Rattle.b3_rules.specs.Valid.{IsValidProcedure}
 use Rattle.b3_sound.proofs.Lists.{contains_cases, contains_head, contains_none, contains_tail}
 use Rattle.air_select.specs.Foldable.{Use, condition_fits, fits, fits_as, is_bit_test, is_comparison, is_constant, is_foldable, uses, uses_by, uses_from, uses_in, uses_of}
 use Rattle.air_select.specs.Selected.{folds, tables}
-use Rattle.air_select.specs.Tables.{Index, ids_of, index_of, known, known_from, known_in, place, unknown}
+use Rattle.air_select.specs.Tables.{Index, ids_of, index_of, known, known_from, known_in, unknown}
 use Rattle.air_select.specs.declared.known.Known.{Known}
-use Rattle.air_select.proofs.Places.{at_place, known_get, known_is, known_length, named, not_named, number, row, row_found, same_place, values_in}
-use Rattle.air_select.proofs.Setting.{IsFoldedKind, IsSound}
+use Rattle.air_select.proofs.Places.{at_place, known_get, known_is, known_length, named, not_named, row_found, same_place, values_in}
+use Rattle.air_select.proofs.Setting.{IsSound}
 
 -- ---- tests
 

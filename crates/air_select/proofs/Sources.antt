@@ -1,19 +1,17 @@
 -- An Upsilon copies its child's word to the location of its Phi, and a Trunc the low half of its child's word.
-use Rattle.std.proofs.Common.{◌≡◌, ◌≢◌, ℕ, ◌%◌, ◌^◌, ◌<◌, false, List, [], ◌∷◌, map, Option, Some, None, refl, sym, ap, ◌∙◌, subst, arith}
-use Rattle.std.specs.Prelude.{Contains, slice_get}
+use Rattle.std.proofs.Common.{◌≡◌, ℕ, ◌%◌, ◌^◌, false, List, [], ◌∷◌, map, Some, None, refl, sym, ap, ◌∙◌, subst, arith}
 use Rattle.b3_base.specs.Arithmetic.{low}
 use Rattle.b3_base.specs.Observed.{Start}
-use Rattle.b3_base.specs.Word.{bits}
 use Rattle.b3_base.specs.declared.word.Width.{Width}
 use Rattle.b3_base.specs.declared.word.Width.TheVariants.{W32, W64}
 use Rattle.b3_ir.specs.Fits.{IsTarget}
-use Rattle.b3_ir.specs.Naming.{type_of, type_or_void, value_named}
+use Rattle.b3_ir.specs.Naming.{type_of, type_or_void}
 use Rattle.b3_ir.specs.Procedure.{Procedure}
 use Rattle.b3_ir.specs.Types.{AllowsTypes, width_of}
 use Rattle.b3_ir.specs.declared.opcode.Opcode.{Opcode}
 use Rattle.b3_ir.specs.declared.opcode.Opcode.TheVariants as opcode
 use Rattle.b3_ir.specs.declared.opcode.Ty.{Ty}
-use Rattle.b3_ir.specs.declared.opcode.Ty.TheVariants.{Int32, Int64}
+use Rattle.b3_ir.specs.declared.opcode.Ty.TheVariants.{Int64}
 use Rattle.b3_ir.specs.declared.table.Takes.TheVariants.{Any, This}
 use Rattle.b3_ir.specs.declared.value.Body.{Body}
 use Rattle.b3_ir.specs.declared.value.Body.TheVariants.{Target}
@@ -25,19 +23,16 @@ use Rattle.b3_rules.specs.Rules.{SuitsPhi, types_of}
 use Rattle.air_ir.specs.Meaning.{meaning}
 use Rattle.air_ir.specs.Operands.{Empty, Held, Holds, read, word_of}
 use Rattle.air_ir.specs.Steps.{Goes, steps}
-use Rattle.air_ir.specs.declared.operand.Arg.{Arg}
-use Rattle.air_ir.specs.declared.operand.Arg.TheVariants.{At, Imm}
-use Rattle.air_select.specs.Foldable.{condition_fits, constant_fits}
+use Rattle.air_ir.specs.declared.operand.Arg.TheVariants.{At}
+use Rattle.air_select.specs.Foldable.{condition_fits}
 use Rattle.air_select.specs.Selected.{Tables, arg_of, folds, move, phi_in}
 use Rattle.air_select.specs.Tables.{child, home, location, width_at}
-use Rattle.air_select.specs.declared.known.Known.{Known}
 use Rattle.air_select.proofs.Children.{unfolded, width_is, word_small}
 use Rattle.air_select.proofs.Copied.{child_here, first_child, moved, place_of_child, row_of_role}
 use Rattle.air_select.proofs.Does.{Does, Here, allows, are_words, gives_does, here, puts, result_small, rules, words_here}
 use Rattle.air_select.proofs.Instructions.{at_home, with_home}
-use Rattle.air_select.proofs.Plain.{no_condition}
 use Rattle.air_select.proofs.Related.{holds_word, location_related}
-use Rattle.air_select.proofs.Shapes.{OneChild, one_child}
+use Rattle.air_select.proofs.Shapes.{one_child}
 
 target_is : (body : Body) → IsTarget body → (phi : ℕ) × (body ≡ Target phi)
 target_is (Target phi) is = (phi, refl)
@@ -74,14 +69,18 @@ module _ (p : Procedure) (t : Tables) (start : Start) (v : Value) (h : Here p t 
       let widths : width_at t.index phi ≡ width_at t.index shape.x =
       width_here phi ∙ ap width_of (ap type_or_void suits.1 ∙ sym types) ∙ sym (width_here shape.x) in
       subst (λ (b : Body). Does p t start v junk (b3.sets h.st b ws)
-      (steps (meaning start) (move v (width_at t.index (child v.children 0)) (arg_of t (child v.children 0)) (location t.index (phi_in b)) ∷ []) h.s junk)) (sym target.1)
+      (steps (meaning start) (move v (width_at t.index (child v.children 0)) (arg_of t (child v.children 0)) (location t.index (phi_in b)) ∷ []) h.s junk))
+      (sym target.1)
       (subst (λ (l : List ℕ). Does p t start v junk (b3.sets h.st (Target phi) l)
-      (steps (meaning start) (move v (width_at t.index (child v.children 0)) (arg_of t (child v.children 0)) (location t.index phi) ∷ []) h.s junk)) (sym shape.words)
+      (steps (meaning start) (move v (width_at t.index (child v.children 0)) (arg_of t (child v.children 0)) (location t.index phi) ∷ []) h.s junk))
+      (sym shape.words)
       (subst (λ (c : ℕ). Does p t start v junk (b3.Next (b3.with_location h.st phi shape.wx))
-      (steps (meaning start) (move v (width_at t.index c) (arg_of t c) (location t.index phi) ∷ []) h.s junk)) (sym (ap (λ (l : List ℕ). child l 0) shape.are)) (
+      (steps (meaning start) (move v (width_at t.index c) (arg_of t c) (location t.index phi) ∷ []) h.s junk))
+      (sym (ap (λ (l : List ℕ). child l 0) shape.are)) (
         with_home h.s (location t.index phi) (width_at t.index shape.x) shape.wx,
         moved p t start v h h.s junk (width_at t.index shape.x) (arg_of t shape.x) (location t.index phi) shape.wx
-            (child_here p t start v h 0 shape.x shape.wx (place_of_child p t start v h v.children shape.x [] shape.are) (first_child p t start v h shape.x [] shape.are) shape.x_now
+            (child_here p t start v h 0 shape.x shape.wx (place_of_child p t start v h v.children shape.x [] shape.are)
+            (first_child p t start v h shape.x [] shape.are) shape.x_now
             (λ k. ap (λ (q : Opcode). condition_fits t.index q 0 k) eo)),
         location_related p t h.sound start h.st h.s h.related phi suits.0 suits.1 shape.wx (Holds (width_at t.index shape.x) shape.wx) suits.2
             (ap (λ (k : Width). read k (Holds (width_at t.index shape.x) shape.wx)) widths ∙ holds_word (width_at t.index shape.x) shape.wx
@@ -104,7 +103,8 @@ module _ (p : Procedure) (t : Tables) (start : Start) (v : Value) (h : Here p t 
       let c_is : child v.children 0 ≡ shape.x = ap (λ (l : List ℕ). child l 0) shape.are in
       let same : low W32 shape.wx ≡ w =
       same_word (low W32 shape.wx) w
-      (ap (λ (l : List ℕ). result opcode.Trunc v.kind.chill v.ty l (types_of p v)) (sym shape.words) ∙ ap (λ (q : Opcode). result q v.kind.chill v.ty ws (types_of p v)) (sym eo) ∙ g) in
+      (ap (λ (l : List ℕ). result opcode.Trunc v.kind.chill v.ty l (types_of p v)) (sym shape.words)
+      ∙ ap (λ (q : Opcode). result q v.kind.chill v.ty ws (types_of p v)) (sym eo) ∙ g) in
       let un : folds t shape.x ≡ false =
       unfolded p h.valid t h.sound start h.block v (here p t start v h) 0 shape.x (place_of_child p t start v h v.children shape.x [] shape.are)
       (λ k. ap (λ (q : Opcode). condition_fits t.index q 0 k) eo) (λ width word. refl) in
@@ -114,7 +114,8 @@ module _ (p : Procedure) (t : Tables) (start : Start) (v : Value) (h : Here p t 
       ap (λ (k : Width). read k (h.s.homes (home t.index shape.x))) (sym wide) ∙ h.related.words shape.x shape.wx shape.x_now un in
       let arg_is : arg_of t (child v.children 0) ≡ At (home t.index shape.x) = ap (arg_of t) c_is ∙ rw un refl in
       let reads : word_of h.s.homes W32 (arg_of t (child v.children 0)) ≡ Some w =
-      ap (word_of h.s.homes W32) arg_is ∙ at_home h.s.homes W32 (home t.index shape.x) (low W32 shape.wx) (low_half (h.s.homes (home t.index shape.x)) shape.wx in_home) ∙ ap Some same in
+      ap (word_of h.s.homes W32) arg_is ∙ at_home h.s.homes W32 (home t.index shape.x) (low W32 shape.wx)
+      (low_half (h.s.homes (home t.index shape.x)) shape.wx in_home) ∙ ap Some same in
       let narrow : W32 ≡ width_of v.ty = ap width_of (sym allowed.gives) in
       puts p t start v h junk w h.s (steps (meaning start) code h.s junk) (result_small p t start v h w (ap role_of eo) g) h.related
       (moved p t start v h h.s junk W32 (arg_of t (child v.children 0)) (home t.index v.id) w reads

@@ -1,18 +1,17 @@
 -- A condition is over the operands that its test takes.
-use Rattle.std.proofs.Common.{◌≡◌, ◌≢◌, ℕ, zero, suc, ◌+◌, ◌*◌, ◌^◌, ◌<◌, ◌≤◌, ◌⊎◌, inl, inr, Bool, true, false, ◌&&◌, ◌||◌, List, [], ◌∷◌, ◌++◌, map, Option, Some, None, length, refl, sym, ap, ◌∙◌, subst, ⊎_elim, arith, nat_eq}
-use Rattle.std.specs.Prelude.{All, Contains, if◌then◌else◌, slice_get}
+use Rattle.std.proofs.Common.{◌≡◌, ◌≢◌, ℕ, ◌^◌, ◌<◌, ◌≤◌, ◌⊎◌, inl, inr, Bool, true, false, ◌&&◌, List, [], ◌∷◌, Some, refl, sym, ap, ◌∙◌, subst, ⊎_elim, arith}
+use Rattle.std.specs.Prelude.{Contains, if◌then◌else◌, slice_get}
 use Rattle.std.proofs.lemmas.Bool.{cases_lt, eqb-true}
 use Rattle.std.proofs.Math.Pow.{pow_mono}
 use Rattle.b3_base.specs.Word.{bits}
 use Rattle.b3_base.specs.declared.word.Width.{Width}
-use Rattle.b3_base.specs.declared.word.Width.TheVariants.{W32, W64}
 use Rattle.b3_ir.specs.Naming.{all_values, type_of, value_named}
 use Rattle.b3_ir.specs.Procedure.{Procedure, values_of}
-use Rattle.b3_ir.specs.Types.{AllowsTypes, AreTaken, IsTaken, width_of}
+use Rattle.b3_ir.specs.Types.{AllowsTypes, AreTaken, width_of}
 use Rattle.b3_ir.specs.declared.opcode.Opcode.{Opcode}
 use Rattle.b3_ir.specs.declared.opcode.Opcode.TheVariants as opcode
 use Rattle.b3_ir.specs.declared.opcode.Ty.{Ty}
-use Rattle.b3_ir.specs.declared.opcode.Ty.TheVariants.{Void, Int32, Int64}
+use Rattle.b3_ir.specs.declared.opcode.Ty.TheVariants.{Void}
 use Rattle.b3_ir.specs.declared.table.More.TheVariants.{NoMore}
 use Rattle.b3_ir.specs.declared.table.Takes.TheVariants.{Alike}
 use Rattle.b3_ir.specs.declared.value.Value.{Value}
@@ -20,16 +19,14 @@ use Rattle.b3_ir.proofs.Typing.{allowed}
 use Rattle.b3_rules.specs.Rules.{types_of}
 use Rattle.b3_sound.proofs.Distinct.{stands}
 use Rattle.b3_sound.proofs.Kept.{IsKept}
-use Rattle.air_ir.specs.Forms.{AllFit, Fits, NoImmediate, OfSum, OfLogic, IsHome, IsWord, Takes, Word, BitOf, test_takes}
+use Rattle.air_ir.specs.Forms.{AllFit, Fits, NoImmediate, OfSum, IsHome, IsWord, Word, BitOf, test_takes}
 use Rattle.air_ir.specs.declared.op.Test.TheVariants.{Bit, Compare, NonZero}
-use Rattle.air_ir.specs.declared.operand.Arg.{Arg}
 use Rattle.air_ir.specs.declared.operand.Arg.TheVariants.{At, Imm}
-use Rattle.air_ir.specs.declared.operand.Operand.{Operand}
 use Rattle.air_select.specs.Foldable.{bit_of, condition_fits, constant_fits, is_and, is_bit, is_bit_test, is_comparison, is_constant, second_immediates}
-use Rattle.air_select.specs.Selected.{Condition, Tables, arg_of, condition, condition_of, folded_condition, folds, use_at, use_of}
+use Rattle.air_select.specs.Selected.{Condition, Tables, condition, condition_of, folded_condition, folds, use_of}
 use Rattle.air_select.specs.Tables.{child, home, known, known_in, width_at}
 use Rattle.air_select.specs.declared.known.Known.{Known}
-use Rattle.air_select.proofs.Children.{FitsAsCondition, FitsAsConstant, fit_cases, unfolded}
+use Rattle.air_select.proofs.Children.{fit_cases}
 use Rattle.air_select.proofs.Forms.{child_as, fit_one, fit_two}
 use Rattle.air_select.proofs.Operands.{constant_small, two_of}
 use Rattle.air_select.proofs.Returned.{contains_at, id_found, named_of, stands_somewhere}
@@ -136,7 +133,11 @@ module _ (p : Procedure) (kept : IsKept p) (t : Tables) (sound : IsSound p t) wh
       }
 
   compare_tested : (c : ℕ) → Pair c → is_comparison (known t.index c).opcode ≡ true
-      → IsTested (record { test = Compare (condition (known t.index c).opcode); over = use_of t (known t.index c).first ∷ use_of t (known t.index c).second ∷ [] })
+      → IsTested (record {
+        test = Compare (condition (known t.index c).opcode);
+        over =
+            use_of t (known t.index c).first ∷ use_of t (known t.index c).second ∷ [];
+      })
   compare_tested c pair is = (
     pair.width,
     fit_two (Word pair.width NoImmediate) (Word pair.width OfSum) (use_of t (known t.index c).first) (use_of t (known t.index c).second) pair.first
@@ -163,7 +164,8 @@ module _ (p : Procedure) (kept : IsKept p) (t : Tables) (sound : IsSound p t) wh
       subst (λ n. n < 2 ^ bits pair.width) (sym power) (subst (λ w. (known t.index k.second).word < 2 ^ bits w) pair.second_width small) in (
         pair.width,
         fit_one (BitOf pair.width (bit_of (known t.index k.second).word)) (use_of t k.first)
-            (home_only pair.width k.first pair.first (bit_of (known t.index k.second).word) (low_bit (bit_of (known t.index k.second).word) (bits pair.width) lt)),
+            (home_only pair.width k.first pair.first (bit_of (known t.index k.second).word)
+            (low_bit (bit_of (known t.index k.second).word) (bits pair.width) lt)),
       )
 
   -- ---- the condition of a Branch or a Select
@@ -182,12 +184,21 @@ module _ (p : Procedure) (kept : IsKept p) (t : Tables) (sound : IsSound p t) wh
     folded_tested : ((is_comparison (known t.index c).opcode ≡ true) ⊎ (is_bit_test t.index (known t.index c) ≡ true)) → IsTested (folded_condition t c)
     folded_tested (inl comparison) =
         let tested = compare_tested c (pair_fits c (stands_of c typed) (comparison_pair (known t.index c).opcode comparison)) comparison in
-        subst (λ f. IsTested (if f then record { test = Compare (condition (known t.index c).opcode); over = use_of t (known t.index c).first ∷ use_of t (known t.index c).second ∷ [] }
-        else record { test = Bit (bit_of (known t.index (known t.index c).second).word); over = use_of t (known t.index c).first ∷ [] })) (sym comparison) tested
+        subst (λ f. IsTested (if f then record {
+          test = Compare (condition (known t.index c).opcode);
+          over =
+              use_of t (known t.index c).first ∷ use_of t (known t.index c).second ∷ [];
+        }
+        else record { test = Bit (bit_of (known t.index (known t.index c).second).word); over = use_of t (known t.index c).first ∷ [] })) (sym comparison)
+        tested
     folded_tested (inr bit) =
         let is = bit_and_is (known t.index c) bit in
         let tested = bit_tested c (pair_fits c (stands_of c typed) (and_pair (known t.index c).opcode is)) bit in
-        subst (λ f. IsTested (if f then record { test = Compare (condition (known t.index c).opcode); over = use_of t (known t.index c).first ∷ use_of t (known t.index c).second ∷ [] }
+        subst (λ f. IsTested (if f then record {
+          test = Compare (condition (known t.index c).opcode);
+          over =
+              use_of t (known t.index c).first ∷ use_of t (known t.index c).second ∷ [];
+        }
         else record { test = Bit (bit_of (known t.index (known t.index c).second).word); over = use_of t (known t.index c).first ∷ [] }))
         (sym (no_comparison (known t.index c).opcode is)) tested
 

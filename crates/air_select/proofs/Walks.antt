@@ -1,5 +1,5 @@
 -- The walk over the values of a block, one after the other, and what is made of them on the way.
-use Rattle.std.proofs.Common.{◌≡◌, ℕ, zero, suc, ◌+◌, ◌<◌, List, [], ◌∷◌, length, drop, Option, Some, None, refl, sym, ap, ◌∙◌, subst, arith}
+use Rattle.std.proofs.Common.{◌≡◌, ℕ, zero, suc, ◌+◌, ◌<◌, List, [], ◌∷◌, length, drop, Option, Some, refl, sym, ap, ◌∙◌, subst, arith}
 use Rattle.std.specs.Prelude.{slice_get, IfSome}
 use Rattle.b3_ir.specs.Procedure.{IsIn, Kept, StandsAt, values_from, values_of}
 use Rattle.b3_ir.specs.declared.value.Value.{Value}

@@ -1,5 +1,5 @@
 -- What is selected weighs little: a value's instructions at most 120, and 32 for each child and case.
-use Rattle.std.proofs.Common.{◌≡◌, ℕ, zero, suc, ◌+◌, ◌*◌, ◌≤◌, max, Bool, true, false, List, [], ◌∷◌, ◌++◌, map, length, refl, sym, ap, ◌∙◌, subst, arith, length-append}
+use Rattle.std.proofs.Common.{◌≡◌, ℕ, zero, suc, ◌+◌, ◌*◌, ◌≤◌, Bool, true, false, List, [], ◌∷◌, ◌++◌, map, length, refl, ap, arith, length-append}
 use Rattle.std.specs.Prelude.{All, if◌then◌else◌, sum_by}
 use Rattle.std.specs.List.{flat_map}
 use Rattle.std.proofs.lemmas.List.{length-map}
@@ -16,7 +16,7 @@ use Rattle.b3_ir.specs.declared.opcode.Opcode.TheVariants as opcode
 use Rattle.b3_ir.specs.declared.value.Body.{Body}
 use Rattle.b3_ir.specs.declared.value.Body.TheVariants.{Cases}
 use Rattle.b3_ir.specs.declared.value.Value.{Value}
-use Rattle.air_ir.specs.Weight.{arg_words, inst_weight, is_shuffle, op_words, weight, words_by}
+use Rattle.air_ir.specs.Weight.{arg_words, inst_weight, is_shuffle, op_words, weight}
 use Rattle.air_ir.specs.declared.op.AirOp.{AirOp}
 use Rattle.air_ir.specs.declared.op.AirOp.TheVariants as op
 use Rattle.air_ir.specs.declared.op.Test.TheVariants.{Bit, Compare, NonZero}
@@ -30,7 +30,7 @@ use Rattle.air_ir.specs.declared.procedure.AirInst.{AirInst}
 use Rattle.air_select.specs.Contract.{IsFew, IsWithinLimits, case_count, child_count}
 use Rattle.air_select.specs.Foldable.{bit_of, is_comparison}
 use Rattle.air_select.specs.Selected.{Condition, Tables, arg_of, argument_move, argument_moves, block_code, cases_in, chosen_rest, code_of, computes, condition, condition_of, copy_of, def_at, entry_of, folded_condition, folds, inst, last_id, move, names_argument, negative_amount, op_of, phi_in, quotient_of, register, register_in, rest_into, result_of, return_of, rotate_by, select_on, selected, selected_by, tables, turned, use_at, use_of, value_code}
-use Rattle.air_select.specs.Tables.{Index, argument, child, first_extra, home, ids_of, known, location, place, second_extra, width_at, word_in}
+use Rattle.air_select.specs.Tables.{Index, argument, child, first_extra, home, known, location, place, second_extra, width_at, word_in}
 use Rattle.air_select.proofs.Sites.{all_of, all_one, all_three, all_two}
 
 -- ---- operands

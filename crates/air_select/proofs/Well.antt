@@ -1,11 +1,10 @@
 -- What is selected is well formed.
-use Rattle.std.proofs.Common.{◌≡◌, ◌≢◌, ℕ, zero, suc, ◌+◌, ◌*◌, ◌<◌, ◌≤◌, ◌⊎◌, inl, inr, Bool, true, false, ◌&&◌, List, [], ◌∷◌, ◌++◌, map, Option, Some, None, length, refl, sym, ap, ◌∙◌, subst, arith}
-use Rattle.std.specs.Prelude.{All, Contains, if◌then◌else◌, slice_get, slice_index_or}
+use Rattle.std.proofs.Common.{◌≡◌, ℕ, zero, suc, ◌+◌, ◌<◌, inl, inr, Bool, true, false, ◌&&◌, List, [], ◌∷◌, ◌++◌, map, Some, None, length, refl, sym, ap, ◌∙◌, subst, arith}
+use Rattle.std.specs.Prelude.{All, Contains, if◌then◌else◌, slice_get}
 use Rattle.std.specs.List.{flat_map}
 use Rattle.std.proofs.lemmas.List.{append-nil, append_assoc, length-map}
 use Rattle.std.proofs.lemmas.List.Concat.{flat_map-cons}
 use Rattle.std.proofs.lemmas.List.Elements.{All-append, All-cons, All-contains, All-map, All-nil, All-weaker}
-use Rattle.b3_base.specs.declared.word.Width.{Width}
 use Rattle.b3_base.specs.declared.word.Width.TheVariants.{W64}
 use Rattle.b3_ir.specs.Fits.{HasCases, HasTargets, IsBody, IsPlain, reported_count}
 use Rattle.b3_ir.specs.Procedure.{AllFit as ValuesFit, Block, Procedure, StandsAt, no_block, values_of}
@@ -14,7 +13,7 @@ use Rattle.b3_ir.specs.declared.opcode.Opcode.{Opcode}
 use Rattle.b3_ir.specs.declared.opcode.Opcode.TheVariants as opcode
 use Rattle.b3_ir.specs.declared.opcode.Ty.{Ty}
 use Rattle.b3_ir.specs.declared.value.Body.{Body}
-use Rattle.b3_ir.specs.declared.value.Body.TheVariants.{Plain, Constant, Argument, Slot, Offset, Target, Map, Targets, Cases}
+use Rattle.b3_ir.specs.declared.value.Body.TheVariants.{Plain, Argument, Targets, Cases}
 use Rattle.b3_ir.specs.declared.value.Value.{Value}
 use Rattle.b3_rules.specs.Paths.{successors_in}
 use Rattle.b3_rules.specs.Rules.{IsArgumentIn}
@@ -25,25 +24,23 @@ use Rattle.b3_sound.proofs.Distinct.{stands}
 use Rattle.b3_sound.proofs.FromValid.{is_kept}
 use Rattle.b3_sound.proofs.Kept.{EndsBlock, IsKept}
 use Rattle.b3_sound.proofs.Lists.{contains_head, contains_tail}
-use Rattle.air_ir.specs.Forms.{HasOperands, NoImmediate, AnyWord, Result, Word}
+use Rattle.air_ir.specs.Forms.{AnyWord, Result, Word}
 use Rattle.air_ir.specs.Kinds.{target_count}
 use Rattle.air_ir.specs.WellFormed.{IsGoodBlock, IsGoodInst, IsWellFormed}
-use Rattle.air_ir.specs.declared.op.AirOp.{AirOp}
 use Rattle.air_ir.specs.declared.op.AirOp.TheVariants as op
 use Rattle.air_ir.specs.declared.operand.Arg.TheVariants.{At}
-use Rattle.air_ir.specs.declared.procedure.AirBlock.{AirBlock}
 use Rattle.air_ir.specs.declared.procedure.AirInst.{AirInst}
 use Rattle.air_ir.specs.declared.procedure.AirProc.{AirProc}
 use Rattle.air_select.specs.Contract.{IsBuilt, is_built}
-use Rattle.air_select.specs.Foldable.{is_and, is_bit_test, is_comparison, is_constant}
-use Rattle.air_select.specs.Selected.{Tables, arg_of, argument_move, argument_moves, block_code, cases_in, code_of, condition_of, def_at, entry_of, folds, inst, last_id, move, names_argument, op_of, register, register_in, return_of, selected_by, targets_of, use_at, use_of, value_code}
-use Rattle.air_select.specs.Tables.{Index, argument, child, known_in, tmp_count, width_at}
+use Rattle.air_select.specs.Foldable.{is_and, is_comparison, is_constant}
+use Rattle.air_select.specs.Selected.{Tables, arg_of, argument_move, argument_moves, block_code, cases_in, code_of, def_at, entry_of, folds, inst, last_id, move, names_argument, op_of, register, register_in, return_of, selected_by, targets_of, use_at, value_code}
+use Rattle.air_select.specs.Tables.{argument, child, tmp_count, width_at}
 use Rattle.air_select.proofs.Forms.{fit_none, fit_two}
 use Rattle.air_select.proofs.Good.{Has, code_has}
-use Rattle.air_select.proofs.Named.{IsOwn, IsOwnInst, entry_own, value_own}
-use Rattle.air_select.proofs.Returned.{at_place, contains_at}
+use Rattle.air_select.proofs.Named.{IsOwnInst, entry_own, value_own}
+use Rattle.air_select.proofs.Returned.{at_place}
 use Rattle.air_select.proofs.Setting.{IsFoldedKind, IsSound}
-use Rattle.air_select.proofs.Sites.{All-slice, all_of, all_one, all_three, all_two}
+use Rattle.air_select.proofs.Sites.{All-slice, all_one, all_three, all_two}
 
 -- ---- ends
 abbrev pub IsInner : AirInst → Type 0
@@ -109,7 +106,8 @@ return_ends t v (c ∷ cs) plain = record {
   ends = ap Some (sym (none_counted v.body plain));
 }
 
-last_code : (t : Tables) (v : Value) (o : Opcode) → is_terminal o ≡ true → IsBody (row_of o).carries v.ty (reported_count v) v.body → Ends (code_of t o v) (targets_of v)
+last_code : (t : Tables) (v : Value) (o : Opcode) → is_terminal o ≡ true → IsBody (row_of o).carries v.ty (reported_count v) v.body
+    → Ends (code_of t o v) (targets_of v)
 last_code t v opcode.Jump e body = alone (inst v op.Jump []) (targets_of v) (ap Some (sym (targets_counted 1 v.body body)))
 last_code t v opcode.Oops e body = alone (inst v op.Oops []) (targets_of v) (ap Some (sym (none_counted v.body body)))
 last_code t v opcode.Branch e body = alone _ (targets_of v) (ap Some (sym (targets_counted 2 v.body body)))
@@ -232,7 +230,8 @@ module _ (p : Procedure) (valid : IsValidProcedure p) (fit : ValuesFit p.blocks)
   value_good b block there v has =
       let in_values : Contains (values_of p b) v = subst (λ (l : List Value). Contains l v) (sym (block_values b block there)) has in
       let at = here_at b v in_values in
-      let is_built : is_built v.kind.opcode ≡ true = All-contains IsBuiltValue block.values v (All-slice (λ (x : Block). All IsBuiltValue x.values) p.blocks b block built there) has in
+      let is_built : is_built v.kind.opcode ≡ true =
+      All-contains IsBuiltValue block.values v (All-slice (λ (x : Block). All IsBuiltValue x.values) p.blocks b block built there) has in
       let operands : All (Has p valid fit t sound) (value_code t v) =
       pick (All (Has p valid fit t sound)) (folds t v.id) [] (code_of t v.kind.opcode v) (All-nil (Has p valid fit t sound))
       (code_has p valid fit t sound b at.0 v at.1 v.kind.opcode refl is_built) in
@@ -293,7 +292,8 @@ module _ (p : Procedure) (valid : IsValidProcedure p) (fit : ValuesFit p.blocks)
   entry_inner vs value (suc r) =
       All-append IsInner (argument_moves t.index vs value r) (if names_argument vs r then argument_move t.index value r ∷ [] else [])
       (entry_inner vs value r)
-      (pick (All IsInner) (names_argument vs r) (argument_move t.index value r ∷ []) [] (all_one IsInner (argument_move t.index value r) refl) (All-nil IsInner))
+      (pick (All IsInner) (names_argument vs r) (argument_move t.index value r ∷ []) [] (all_one IsInner (argument_move t.index value r) refl)
+      (All-nil IsInner))
 
   entry_insts : All (Has p valid fit t sound) (entry_of t.index (values_of p 0)).insts → All (IsOwnInst q t tmps_are) (entry_of t.index (values_of p 0)).insts
       → All (IsGoodInst q) (entry_of t.index (values_of p 0)).insts

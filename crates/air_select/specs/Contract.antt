@@ -8,7 +8,7 @@ use Rattle.b3_ir.specs.declared.opcode.Ty.{Ty}
 use Rattle.b3_ir.specs.declared.value.Body.{Body}
 use Rattle.b3_ir.specs.declared.value.Body.TheVariants.{Cases}
 use Rattle.b3_ir.specs.declared.value.Value.{Value}
-use Rattle.air_ir.specs.Kinds.{Kind, Copies, Computes, Loads, Stores, Checks, ChecksResult, Calls, Patches, SlotAddresses, FramePointers, Branches, Jumps, Switches, Returns, Fails, kind_of}
+use Rattle.air_ir.specs.Kinds.{Kind, Copies, Computes, Branches, Jumps, Switches, Returns, Fails, kind_of}
 use Rattle.air_ir.specs.WellFormed as air
 use Rattle.air_ir.specs.declared.op.AirOp.{AirOp}
 use Rattle.air_ir.specs.declared.op.AirOp.TheVariants.{BranchIf, SelectIf, Shuffle}

@@ -1,4 +1,4 @@
-use Rattle.std.proofs.Common.{◌≡◌, ℕ, ◌+◌, ◌*◌, ◌≤◌, List, map, refl, sym, ap, ◌∙◌, subst}
+use Rattle.std.proofs.Common.{◌≡◌, ◌+◌, ◌*◌, ◌≤◌, map, refl, sym, ap, ◌∙◌, subst}
 use Rattle.std.specs.Prelude.{IfOk}
 use Rattle.b3_ir.specs.Procedure.{AllFit, Procedure, total}
 use Rattle.b3_ir.specs.declared.opcode.Ty.TheVariants.{Int32, Int64}
@@ -10,7 +10,7 @@ use Rattle.air_ir.specs.Run.{HasBlocksOf}
 use Rattle.air_ir.specs.Weight.{weight}
 use Rattle.air_ir.specs.WellFormed.{HasOneSiteEach, IsWellFormed, NamesSpillsBelow}
 use Rattle.air_ir.specs.declared.procedure.AirProc.{AirProc}
-use Rattle.air_select.specs.Contract.{IsArithmetic, IsBuilt, IsFew, IsFolded, IsWithinLimits, ReturnsType, child_count, procedure_at}
+use Rattle.air_select.specs.Contract.{IsArithmetic, IsFew, IsFolded, IsWithinLimits, ReturnsType, child_count, procedure_at}
 use Rattle.air_select.specs.Selected.{selected, tables}
 use Rattle.air_select.proofs.Folded.{is_folded}
 use Rattle.air_select.proofs.Returned as returned
