@@ -48,7 +48,8 @@ use Rattle.a64_emit.proofs.TestsRun.{Ready, ready_one, ready_two, select_end, se
 
 -- ---- operands
 
-fit_cons : (t : Takes) (ts : List Takes) (os : List Operand) → AllFit (t ∷ ts) os → (a : Operand) × (rest : List Operand) × (os ≡ a ∷ rest) × Fits t a × AllFit ts rest
+fit_cons : (t : Takes) (ts : List Takes) (os : List Operand) → AllFit (t ∷ ts) os
+    → (a : Operand) × (rest : List Operand) × (os ≡ a ∷ rest) × Fits t a × AllFit ts rest
 unfolding AllFit
 fit_cons t ts [] fits = absurd fits
 fit_cons t ts (a ∷ rest) fits = (a, rest, refl, fits.0, fits.1)
@@ -76,7 +77,8 @@ home_register z width scratch (Addr base offset) usable is = absurd usable
 home_register z width scratch (Index base index shift) usable is = absurd usable
 home_register z width scratch (FrameSlot n) usable is = absurd usable
 
-fits_source : (z : Setting) (immediates : Immediates) (width : Width) (scratch : ℕ) (arg : Arg) → IsUsable z arg → IsWord immediates width arg → FitsSource immediates width (source_of scratch arg)
+fits_source : (z : Setting) (immediates : Immediates) (width : Width) (scratch : ℕ) (arg : Arg) → IsUsable z arg → IsWord immediates width arg
+    → FitsSource immediates width (source_of scratch arg)
 fits_source z immediates width scratch (At (Reg r)) usable is = tt
 fits_source z immediates width scratch (At (Spill n)) usable is = tt
 fits_source z immediates width scratch (At (Tmp n)) usable is = absurd usable
@@ -122,7 +124,8 @@ pub record IsOneTest (t : Test) (width : Width) (T : Takes) : Type 0 where
       ∷ Select W32 true (result_reg d.arg) 31 31 (opposite_cond (condition t)) ∷ put_result f (result_reg d.arg) d.arg
   pub select_code : (f : Frame) (a p q d : Operand) → inst_code f (op.SelectIf t) (a ∷ p ∷ q ∷ d ∷ [])
       ≡ (fetch f 15 a.arg ++ []) ++ testing t a.width (source_of 15 a.arg) (source_of 16 p.arg) ∷ fetch f 15 p.arg ++ fetch f 16 q.arg
-      ++ Select p.width false (result_reg d.arg) (reg_of (source_of 15 p.arg)) (reg_of (source_of 16 q.arg)) (condition t) ∷ put_result f (result_reg d.arg) d.arg
+      ++ Select p.width false (result_reg d.arg) (reg_of (source_of 15 p.arg)) (reg_of (source_of 16 q.arg)) (condition t) ∷ put_result f
+          (result_reg d.arg) d.arg
   pub sets : (w : Width) (x : ℕ) → computed (op.SetIf t) w (x ∷ []) ≡ Some (truth (passes t w x 0))
   pub selects : (w : Width) (x u v : ℕ) → computed (op.SelectIf t) w (x ∷ u ∷ v ∷ []) ≡ Some (if passes t w x 0 then u else v)
 
@@ -168,13 +171,15 @@ module _ (z : Setting) (set : IsSet z) (serves : IsFrameOf z.procedure z.frame) 
       let written = written_home wd d.0 d.3 in
       let usable = (opened 0 a.0 (ap (λ os. slice_get os 0) operands)).reads a.3.0 wa NoImmediate a.3.2 in
       let width : a.0.width ≡ wa = a.3.1 in
-      one_runs z set serves i s c a.0 d.0 written.0 operands (simple_code i.op (a.0 ∷ d.0 ∷ []) (subst IsSimple (sym e) simple)) (ap kind_of e ∙ kind) a.3.0 written.1 rel
+      one_runs z set serves i s c a.0 d.0 written.0 operands (simple_code i.op (a.0 ∷ d.0 ∷ []) (subst IsSimple (sym e) simple)) (ap kind_of e
+          ∙ kind) a.3.0 written.1 rel
       usable ((opened 1 d.0 (ap (λ os. slice_get os 1) operands)).writes written.0 written.1)
       (subst (IsWidthOf i.op) (sym width) (subst (λ o. IsWidthOf o wa) (sym e) at)) (home_register z wa 15 a.0.arg usable a.3.2)
       (subst (λ w. IsComputed i.op w (source_of 16 d.0.arg)) (sym width) (subst (λ o. IsComputed o wa (source_of 16 d.0.arg)) (sym e) (computes d.0.arg)))
 
   two_form : (i : AirInst) (s : State) (c : Machine) (o : AirOp) (wa wb wd : Width) (immediates : Immediates) → i.op ≡ o → IsSimple o → kind_of o ≡ Computes
-      → AllFit (home wa ∷ Word wb immediates ∷ Result wd ∷ []) i.operands → IsWidthOf o wa → wb ≡ second_width o wa → (takes_constant o ≡ false → immediates ≡ NoImmediate)
+      → AllFit (home wa ∷ Word wb immediates ∷ Result wd ∷ []) i.operands → IsWidthOf o wa → wb ≡ second_width o wa
+      → (takes_constant o ≡ false → immediates ≡ NoImmediate)
       → ((b : Arg) → IsUsable z b → IsWord immediates wb b → IsComputed o wa (source_of 16 b))
       → AreOpen z i.operands → IsRelated z s c → InstRuns z i s c
   two_form i s c o wa wb wd immediates e simple kind fits at second none computes opened rel =
@@ -187,13 +192,15 @@ module _ (z : Setting) (set : IsSet z) (serves : IsFrameOf z.procedure z.frame) 
       let usable_a = (opened 0 a.0 (ap (λ os. slice_get os 0) operands)).reads a.3.0 wa NoImmediate a.3.2 in
       let usable_b = (opened 1 b.0 (ap (λ os. slice_get os 1) operands)).reads b.3.0 wb immediates b.3.2 in
       let width : a.0.width ≡ wa = a.3.1 in
-      two_runs z set serves i s c a.0 b.0 d.0 written.0 operands (simple_code i.op (a.0 ∷ b.0 ∷ d.0 ∷ []) (subst IsSimple (sym e) simple)) (ap kind_of e ∙ kind) a.3.0 b.3.0 written.1 rel
+      two_runs z set serves i s c a.0 b.0 d.0 written.0 operands (simple_code i.op (a.0 ∷ b.0 ∷ d.0 ∷ []) (subst IsSimple (sym e) simple)) (ap kind_of e
+          ∙ kind) a.3.0 b.3.0 written.1 rel
       usable_a usable_b ((opened 2 d.0 (ap (λ os. slice_get os 2) operands)).writes written.0 written.1)
       (subst (IsWidthOf i.op) (sym width) (subst (λ o. IsWidthOf o wa) (sym e) at))
       (b.3.1 ∙ second ∙ ap (λ o. second_width o wa) (sym e) ∙ ap (second_width i.op) (sym width))
       (home_register z wa 15 a.0.arg usable_a a.3.2)
       (λ no_constant. home_register z wb 16 b.0.arg usable_b (subst (λ m. IsWord m wb b.0.arg) (none (ap takes_constant (sym e) ∙ no_constant)) b.3.2))
-      (subst (λ w. IsComputed i.op w (source_of 16 b.0.arg)) (sym width) (subst (λ o. IsComputed o wa (source_of 16 b.0.arg)) (sym e) (computes b.0.arg usable_b b.3.2)))
+      (subst (λ w. IsComputed i.op w (source_of 16 b.0.arg)) (sym width)
+      (subst (λ o. IsComputed o wa (source_of 16 b.0.arg)) (sym e) (computes b.0.arg usable_b b.3.2)))
 
   three_form : (i : AirInst) (s : State) (c : Machine) (o : AirOp) (wa wd : Width) → i.op ≡ o → IsSimple o → kind_of o ≡ Computes
       → AllFit (home wa ∷ home wa ∷ home wa ∷ Result wd ∷ []) i.operands → IsWidthOf o wa → ((b : Arg) → IsComputed o wa (source_of 16 b))
@@ -210,7 +217,8 @@ module _ (z : Setting) (set : IsSet z) (serves : IsFrameOf z.procedure z.frame) 
       let usable_b = (opened 1 b.0 (ap (λ os. slice_get os 1) operands)).reads b.3.0 wa NoImmediate b.3.2 in
       let usable_x = (opened 2 x.0 (ap (λ os. slice_get os 2) operands)).reads x.3.0 wa NoImmediate x.3.2 in
       let width : a.0.width ≡ wa = a.3.1 in
-      three_runs z set serves i s c a.0 b.0 x.0 d.0 written.0 operands (simple_code i.op (a.0 ∷ b.0 ∷ x.0 ∷ d.0 ∷ []) (subst IsSimple (sym e) simple)) (ap kind_of e ∙ kind) a.3.0 b.3.0 x.3.0 written.1 rel
+      three_runs z set serves i s c a.0 b.0 x.0 d.0 written.0 operands (simple_code i.op (a.0 ∷ b.0 ∷ x.0 ∷ d.0 ∷ []) (subst IsSimple (sym e) simple))
+          (ap kind_of e ∙ kind) a.3.0 b.3.0 x.3.0 written.1 rel
       usable_a usable_b usable_x ((opened 3 d.0 (ap (λ os. slice_get os 3) operands)).writes written.0 written.1)
       (subst (IsWidthOf i.op) (sym width) (subst (λ o. IsWidthOf o wa) (sym e) at)) (b.3.1 ∙ sym width) (x.3.1 ∙ sym width)
       (home_register z wa 15 a.0.arg usable_a a.3.2) (home_register z wa 16 b.0.arg usable_b b.3.2) (home_register z wa 17 x.0.arg usable_x x.3.2)
@@ -227,7 +235,8 @@ module _ (z : Setting) (set : IsSet z) (serves : IsFrameOf z.procedure z.frame) 
       let operands : i.operands ≡ a.0 ∷ d.0 ∷ [] = a.2 ∙ ap (λ os. a.0 ∷ os) (d.2 ∙ ap (λ os. d.0 ∷ os) (fit_nil d.1 d.4)) in
       let written = written_home width d.0 d.3 in
       let usable = (opened 0 a.0 (ap (λ os. slice_get os 0) operands)).reads a.3.0 width AnyWord a.3.2 in
-      copy_runs z set serves i s c a.0 d.0 written.0 operands (ap (λ o. inst_code z.frame o (a.0 ∷ d.0 ∷ [])) e) (ap kind_of e) a.3.0 (d.3.1 ∙ sym a.3.1) written.1 rel
+      copy_runs z set serves i s c a.0 d.0 written.0 operands (ap (λ o. inst_code z.frame o (a.0 ∷ d.0 ∷ [])) e) (ap kind_of e) a.3.0 (d.3.1
+          ∙ sym a.3.1) written.1 rel
       usable (subst (λ w. IsConstantOf w a.0.arg) (sym a.3.1) (constant_of z AnyWord width a.0.arg usable a.3.2))
       ((opened 1 d.0 (ap (λ os. slice_get os 1) operands)).writes written.0 written.1)
 
@@ -263,7 +272,8 @@ module _ (z : Setting) (set : IsSet z) (serves : IsFrameOf z.procedure z.frame) 
                   let read = reads ∙ ap (λ o. All o B) p ∙ ap (λ o. All (Some x) o) q in
                   let rs : List Read = (a.0.width, x) ∷ (b.0.width, y) ∷ [] in
                   let t : Test = Compare cond in
-                  let ready = ready_two z set serves s c cond a.0.arg b.0.arg a.0.width x y rel usable_a usable_b p (ap (λ w. word_of s.homes w b.0.arg) (sym same) ∙ q) in
+                  let ready = ready_two z set serves s c cond a.0.arg b.0.arg a.0.width x y rel usable_a usable_b p
+                      (ap (λ w. word_of s.homes w b.0.arg) (sym same) ∙ q) in
                   inr (set_end z set serves i s c t _ (source_of 15 a.0.arg) (source_of 16 b.0.arg) a.0.width x y d.0 written.0 ready written.1 may
                   (home_register z width 15 a.0.arg usable_a a.3.2)
                   (subst (λ w. IsTested t w (source_of 16 b.0.arg)) (sym a.3.1) (fits_source z OfSum width 16 b.0.arg usable_b b.3.2))
@@ -287,7 +297,8 @@ module _ (z : Setting) (set : IsSet z) (serves : IsFrameOf z.procedure z.frame) 
       let usable_a = (opened 0 a.0 (ap (λ os. slice_get os 0) operands)).reads tested.role width NoImmediate tested.word in
       let may = (opened 1 d.0 (ap (λ os. slice_get os 1) operands)).writes written.0 written.1 in
       let reads : words s.homes i.operands ≡ and_word a.0.width (word_of s.homes a.0.width a.0.arg) (Some []) =
-      ap (words s.homes) operands ∙ words_use s.homes a.0 (d.0 ∷ []) tested.role ∙ ap (and_word a.0.width (word_of s.homes a.0.width a.0.arg)) (words_result s.homes d.0 written.0 written.1) in
+      ap (words s.homes) operands ∙ words_use s.homes a.0 (d.0 ∷ []) tested.role
+          ∙ ap (and_word a.0.width (word_of s.homes a.0.width a.0.arg)) (words_result s.homes d.0 written.0 written.1) in
       let writes = ap targets operands ∙ targets_use a.0 (d.0 ∷ []) tested.role ∙ targets_result d.0 written.0 written.1 in
       let place = place_usable z written.0 may in
       elim (word_of s.homes a.0.width a.0.arg) as (λ o. word_of s.homes a.0.width a.0.arg ≡ o → InstRuns z i s c) [
@@ -295,11 +306,13 @@ module _ (z : Setting) (set : IsSet z) (serves : IsFrameOf z.procedure z.frame) 
         | Some x ↦ λ p.
             let read = reads ∙ ap (λ o. and_word a.0.width o (Some [])) p in
             let rs : List Read = (a.0.width, x) ∷ [] in
-            let ready = ready_one z set serves s c t a.0.arg (source_of 16 d.0.arg) a.0.width x rel usable_a (λ r. one.second r (source_of 16 d.0.arg) a.0.width) p in
+            let ready = ready_one z set serves s c t a.0.arg (source_of 16 d.0.arg) a.0.width x rel usable_a
+                (λ r. one.second r (source_of 16 d.0.arg) a.0.width) p in
             inr (set_end z set serves i s c t _ (source_of 15 a.0.arg) (source_of 16 d.0.arg) a.0.width x 0 d.0 written.0 ready written.1 may
             (home_register z width 15 a.0.arg usable_a tested.word)
             (subst (λ w. IsTested t w (source_of 16 d.0.arg)) (sym tested.width) (one.may (source_of 16 d.0.arg) a.0 a.3))
-            (source_most z 15 a.0.arg (omega arith) usable_a) (subst (λ arg. reg_of (source_of 16 arg) ≤ 31) (sym written.1.arg) (source_most z 16 (At written.0) (omega arith) place))
+            (source_most z 15 a.0.arg (omega arith) usable_a)
+            (subst (λ arg. reg_of (source_of 16 arg) ≤ 31) (sym written.1.arg) (source_most z 16 (At written.0) (omega arith) place))
             (ap (λ os. inst_code z.frame i.op os) operands ∙ ap (λ o. inst_code z.frame o (a.0 ∷ d.0 ∷ [])) e ∙ one.set_code z.frame a.0 d.0)
             (step_gives z.start i s rs written.0 d.0.width (truth (passes t a.0.width x 0)) read writes
             (computes_word z.start i s rs (truth (passes t a.0.width x 0)) (ap kind_of e) (ap (λ o. computed o a.0.width (x ∷ [])) e ∙ one.sets a.0.width x))))
@@ -307,7 +320,8 @@ module _ (z : Setting) (set : IsSet z) (serves : IsFrameOf z.procedure z.frame) 
 
   -- SelectIf of a comparison
   select_compare : (i : AirInst) (s : State) (c : Machine) (cond : Cond) (width other : Width) → i.op ≡ op.SelectIf (Compare cond)
-      → AllFit (home width ∷ Word width OfSum ∷ home other ∷ home other ∷ Result other ∷ []) i.operands → AreOpen z i.operands → IsRelated z s c → InstRuns z i s c
+      → AllFit (home width ∷ Word width OfSum ∷ home other ∷ home other ∷ Result other ∷ []) i.operands → AreOpen z i.operands → IsRelated z s c
+      → InstRuns z i s c
   unfolding inst_code
   select_compare i s c cond width other e fits opened rel =
       let a = fit_cons (home width) (Word width OfSum ∷ home other ∷ home other ∷ Result other ∷ []) i.operands fits in
@@ -316,7 +330,8 @@ module _ (z : Setting) (set : IsSet z) (serves : IsFrameOf z.procedure z.frame) 
       let n = fit_cons (home other) (Result other ∷ []) m.1 m.4 in
       let d = fit_cons (Result other) [] n.1 n.4 in
       let operands : i.operands ≡ a.0 ∷ b.0 ∷ m.0 ∷ n.0 ∷ d.0 ∷ [] =
-      a.2 ∙ ap (λ os. a.0 ∷ os) (b.2 ∙ ap (λ os. b.0 ∷ os) (m.2 ∙ ap (λ os. m.0 ∷ os) (n.2 ∙ ap (λ os. n.0 ∷ os) (d.2 ∙ ap (λ os. d.0 ∷ os) (fit_nil d.1 d.4))))) in
+      a.2 ∙ ap (λ os. a.0 ∷ os) (b.2 ∙ ap (λ os. b.0 ∷ os) (m.2
+          ∙ ap (λ os. m.0 ∷ os) (n.2 ∙ ap (λ os. n.0 ∷ os) (d.2 ∙ ap (λ os. d.0 ∷ os) (fit_nil d.1 d.4))))) in
       let written = written_home other d.0 d.3 in
       let usable_a = (opened 0 a.0 (ap (λ os. slice_get os 0) operands)).reads a.3.0 width NoImmediate a.3.2 in
       let usable_b = (opened 1 b.0 (ap (λ os. slice_get os 1) operands)).reads b.3.0 width OfSum b.3.2 in
@@ -343,16 +358,21 @@ module _ (z : Setting) (set : IsSet z) (serves : IsFrameOf z.procedure z.frame) 
         | Some x ↦ λ p. elim (word_of s.homes b.0.width b.0.arg) as (λ o. word_of s.homes b.0.width b.0.arg ≡ o → InstRuns z i s c) [
             | None ↦ λ q. inl (step_lost z.start i s (reads ∙ ap (λ o. All o B M N) p ∙ ap (λ o. All (Some x) o M N) q))
             | Some y ↦ λ q. elim (word_of s.homes m.0.width m.0.arg) as (λ o. word_of s.homes m.0.width m.0.arg ≡ o → InstRuns z i s c) [
-                | None ↦ λ r. inl (step_lost z.start i s (reads ∙ ap (λ o. All o B M N) p ∙ ap (λ o. All (Some x) o M N) q ∙ ap (λ o. All (Some x) (Some y) o N) r))
+                | None ↦ λ r. inl (step_lost z.start i s (reads ∙ ap (λ o. All o B M N) p ∙ ap (λ o. All (Some x) o M N) q
+                    ∙ ap (λ o. All (Some x) (Some y) o N) r))
                 | Some u ↦ λ r. elim (word_of s.homes n.0.width n.0.arg) as (λ o. word_of s.homes n.0.width n.0.arg ≡ o → InstRuns z i s c) [
                     | None ↦ λ l. inl (step_lost z.start i s
-                        (reads ∙ ap (λ o. All o B M N) p ∙ ap (λ o. All (Some x) o M N) q ∙ ap (λ o. All (Some x) (Some y) o N) r ∙ ap (λ o. All (Some x) (Some y) (Some u) o) l))
+                        (reads ∙ ap (λ o. All o B M N) p ∙ ap (λ o. All (Some x) o M N) q ∙ ap (λ o. All (Some x) (Some y) o N) r
+                        ∙ ap (λ o. All (Some x) (Some y) (Some u) o) l))
                     | Some v ↦ λ l.
-                        let read = reads ∙ ap (λ o. All o B M N) p ∙ ap (λ o. All (Some x) o M N) q ∙ ap (λ o. All (Some x) (Some y) o N) r ∙ ap (λ o. All (Some x) (Some y) (Some u) o) l in
+                        let read = reads ∙ ap (λ o. All o B M N) p ∙ ap (λ o. All (Some x) o M N) q ∙ ap (λ o. All (Some x) (Some y) o N) r
+                            ∙ ap (λ o. All (Some x) (Some y) (Some u) o) l in
                         let rs : List Read = (a.0.width, x) ∷ (b.0.width, y) ∷ (m.0.width, u) ∷ (n.0.width, v) ∷ [] in
                         let t : Test = Compare cond in
-                        let ready = ready_two z set serves s c cond a.0.arg b.0.arg a.0.width x y rel usable_a usable_b p (ap (λ w. word_of s.homes w b.0.arg) (sym same) ∙ q) in
-                        inr (select_end z set serves i s c t _ (source_of 15 a.0.arg) (source_of 16 b.0.arg) a.0.width x y m.0.arg n.0.arg m.0.width u v d.0 written.0 ready written.1 may
+                        let ready = ready_two z set serves s c cond a.0.arg b.0.arg a.0.width x y rel usable_a usable_b p
+                            (ap (λ w. word_of s.homes w b.0.arg) (sym same) ∙ q) in
+                        inr (select_end z set serves i s c t _ (source_of 15 a.0.arg) (source_of 16 b.0.arg) a.0.width x y m.0.arg n.0.arg m.0.width u v
+                            d.0 written.0 ready written.1 may
                         (home_register z width 15 a.0.arg usable_a a.3.2)
                         (subst (λ w. IsTested t w (source_of 16 b.0.arg)) (sym a.3.1) (fits_source z OfSum width 16 b.0.arg usable_b b.3.2))
                         (source_most z 15 a.0.arg (omega arith) usable_a) (source_most z 16 b.0.arg (omega arith) usable_b)
@@ -360,7 +380,8 @@ module _ (z : Setting) (set : IsSet z) (serves : IsFrameOf z.procedure z.frame) 
                         r (ap (λ w. word_of s.homes w n.0.arg) (sym same_n) ∙ l)
                         (ap (λ os. inst_code z.frame i.op os) operands ∙ ap (λ o. inst_code z.frame o (a.0 ∷ b.0 ∷ m.0 ∷ n.0 ∷ d.0 ∷ [])) e)
                         (step_gives z.start i s rs written.0 d.0.width (if passes t a.0.width x y then u else v) read writes
-                        (computes_word z.start i s rs (if passes t a.0.width x y then u else v) (ap kind_of e) (ap (λ o. computed o a.0.width (x ∷ y ∷ u ∷ v ∷ [])) e))))
+                        (computes_word z.start i s rs (if passes t a.0.width x y then u else v) (ap kind_of e)
+                        (ap (λ o. computed o a.0.width (x ∷ y ∷ u ∷ v ∷ [])) e))))
                   ] refl
               ] refl
           ] refl
@@ -402,16 +423,20 @@ module _ (z : Setting) (set : IsSet z) (serves : IsFrameOf z.procedure z.frame) 
                 | Some v ↦ λ l.
                     let read = reads ∙ ap (λ o. All o M N) p ∙ ap (λ o. All (Some x) o N) r ∙ ap (λ o. All (Some x) (Some u) o) l in
                     let rs : List Read = (a.0.width, x) ∷ (m.0.width, u) ∷ (n.0.width, v) ∷ [] in
-                    let ready = ready_one z set serves s c t a.0.arg (source_of 16 m.0.arg) a.0.width x rel usable_a (λ r. one.second r (source_of 16 m.0.arg) a.0.width) p in
-                    inr (select_end z set serves i s c t _ (source_of 15 a.0.arg) (source_of 16 m.0.arg) a.0.width x 0 m.0.arg n.0.arg m.0.width u v d.0 written.0 ready written.1 may
+                    let ready = ready_one z set serves s c t a.0.arg (source_of 16 m.0.arg) a.0.width x rel usable_a
+                        (λ r. one.second r (source_of 16 m.0.arg) a.0.width) p in
+                    inr (select_end z set serves i s c t _ (source_of 15 a.0.arg) (source_of 16 m.0.arg) a.0.width x 0 m.0.arg n.0.arg m.0.width u v d.0
+                        written.0 ready written.1 may
                     (home_register z width 15 a.0.arg usable_a tested.word)
                     (subst (λ w. IsTested t w (source_of 16 m.0.arg)) (sym tested.width) (one.may (source_of 16 m.0.arg) a.0 a.3))
                     (source_most z 15 a.0.arg (omega arith) usable_a) (source_most z 16 m.0.arg (omega arith) usable_m)
                     usable_m usable_n (home_register z other 15 m.0.arg usable_m m.3.2) (home_register z other 16 n.0.arg usable_n n.3.2)
                     r (ap (λ w. word_of s.homes w n.0.arg) (sym same_n) ∙ l)
-                    (ap (λ os. inst_code z.frame i.op os) operands ∙ ap (λ o. inst_code z.frame o (a.0 ∷ m.0 ∷ n.0 ∷ d.0 ∷ [])) e ∙ one.select_code z.frame a.0 m.0 n.0 d.0)
+                    (ap (λ os. inst_code z.frame i.op os) operands ∙ ap (λ o. inst_code z.frame o (a.0 ∷ m.0 ∷ n.0 ∷ d.0 ∷ [])) e
+                    ∙ one.select_code z.frame a.0 m.0 n.0 d.0)
                     (step_gives z.start i s rs written.0 d.0.width (if passes t a.0.width x 0 then u else v) read writes
-                    (computes_word z.start i s rs (if passes t a.0.width x 0 then u else v) (ap kind_of e) (ap (λ o. computed o a.0.width (x ∷ u ∷ v ∷ [])) e ∙ one.selects a.0.width x u v))))
+                    (computes_word z.start i s rs (if passes t a.0.width x 0 then u else v) (ap kind_of e)
+                    (ap (λ o. computed o a.0.width (x ∷ u ∷ v ∷ [])) e ∙ one.selects a.0.width x u v))))
               ] refl
           ] refl
       ] refl
@@ -424,36 +449,52 @@ module _ (z : Setting) (set : IsSet z) (serves : IsFrameOf z.procedure z.frame) 
   set_form i s c NonZero width other e fits opened rel = set_one i s c NonZero width (home width) e fits (nonzero_test width) opened rel
   set_form i s c (Bit k) width other e fits opened rel = set_one i s c (Bit k) width (BitOf width k) e fits (bit_test width k) opened rel
 
-  select_form : (i : AirInst) (s : State) (c : Machine) (t : Test) (width other : Width) → i.op ≡ op.SelectIf t → AreThese (takes (op.SelectIf t) width other) i.operands
+  select_form : (i : AirInst) (s : State) (c : Machine) (t : Test) (width other : Width) → i.op ≡ op.SelectIf t
+      → AreThese (takes (op.SelectIf t) width other) i.operands
       → AreOpen z i.operands → IsRelated z s c → InstRuns z i s c
   select_form i s c (Compare cond) width other e fits opened rel = select_compare i s c cond width other e fits opened rel
   select_form i s c NonZero width other e fits opened rel = select_one i s c NonZero width other (home width) e fits (nonzero_test width) opened rel
   select_form i s c (Bit k) width other e fits opened rel = select_one i s c (Bit k) width other (BitOf width k) e fits (bit_test width k) opened rel
 
-  by_op : (i : AirInst) (s : State) (c : Machine) (returns : Returns) (o : AirOp) → i.op ≡ o → is_built o ≡ true → target_count o ≡ None → HasOperands returns o i.operands
+  by_op : (i : AirInst) (s : State) (c : Machine) (returns : Returns) (o : AirOp) → i.op ≡ o → is_built o ≡ true → target_count o ≡ None
+      → HasOperands returns o i.operands
       → AreOpen z i.operands → IsRelated z s c → InstRuns z i s c
   by_op i s c returns op.Move e built inner h opened rel = move_form i s c h.0 e h.2 opened rel
-  by_op i s c returns op.Add e built inner h opened rel = two_form i s c op.Add h.0 h.0 h.0 OfSum e tt refl h.2 tt refl (λ n. absurd cc) (λ b usable is. fits_source z OfSum h.0 16 b usable is) opened rel
-  by_op i s c returns op.Sub e built inner h opened rel = two_form i s c op.Sub h.0 h.0 h.0 NoImmediate e tt refl h.2 tt refl (λ n. refl) (λ b usable is. tt) opened rel
+  by_op i s c returns op.Add e built inner h opened rel =
+      two_form i s c op.Add h.0 h.0 h.0 OfSum e tt refl h.2 tt refl (λ n. absurd cc) (λ b usable is. fits_source z OfSum h.0 16 b usable is) opened rel
+  by_op i s c returns op.Sub e built inner h opened rel =
+      two_form i s c op.Sub h.0 h.0 h.0 NoImmediate e tt refl h.2 tt refl (λ n. refl) (λ b usable is. tt) opened rel
   by_op i s c returns op.Neg e built inner h opened rel = one_form i s c op.Neg h.0 h.0 e tt refl h.2 tt (λ b. tt) opened rel
-  by_op i s c returns op.Mul e built inner h opened rel = two_form i s c op.Mul h.0 h.0 h.0 NoImmediate e tt refl h.2 tt refl (λ n. refl) (λ b usable is. tt) opened rel
+  by_op i s c returns op.Mul e built inner h opened rel =
+      two_form i s c op.Mul h.0 h.0 h.0 NoImmediate e tt refl h.2 tt refl (λ n. refl) (λ b usable is. tt) opened rel
   by_op i s c returns op.MulSub e built inner h opened rel = three_form i s c op.MulSub h.0 h.0 e tt refl h.2 tt (λ b. tt) opened rel
-  by_op i s c returns op.Div e built inner h opened rel = two_form i s c op.Div h.0 h.0 h.0 NoImmediate e tt refl h.2 tt refl (λ n. refl) (λ b usable is. tt) opened rel
-  by_op i s c returns op.UDiv e built inner h opened rel = two_form i s c op.UDiv h.0 h.0 h.0 NoImmediate e tt refl h.2 tt refl (λ n. refl) (λ b usable is. tt) opened rel
-  by_op i s c returns op.And e built inner h opened rel = two_form i s c op.And h.0 h.0 h.0 OfLogic e tt refl h.2 tt refl (λ n. absurd cc) (λ b usable is. fits_source z OfLogic h.0 16 b usable is) opened rel
-  by_op i s c returns op.Or e built inner h opened rel = two_form i s c op.Or h.0 h.0 h.0 OfLogic e tt refl h.2 tt refl (λ n. absurd cc) (λ b usable is. fits_source z OfLogic h.0 16 b usable is) opened rel
-  by_op i s c returns op.Xor e built inner h opened rel = two_form i s c op.Xor h.0 h.0 h.0 OfLogic e tt refl h.2 tt refl (λ n. absurd cc) (λ b usable is. fits_source z OfLogic h.0 16 b usable is) opened rel
-  by_op i s c returns op.Lsl e built inner h opened rel = two_form i s c op.Lsl h.0 W32 h.0 AnyWord e tt refl h.2 tt refl (λ n. absurd cc) (λ b usable is. tt) opened rel
-  by_op i s c returns op.Lsr e built inner h opened rel = two_form i s c op.Lsr h.0 W32 h.0 AnyWord e tt refl h.2 tt refl (λ n. absurd cc) (λ b usable is. tt) opened rel
-  by_op i s c returns op.Asr e built inner h opened rel = two_form i s c op.Asr h.0 W32 h.0 AnyWord e tt refl h.2 tt refl (λ n. absurd cc) (λ b usable is. tt) opened rel
-  by_op i s c returns op.Ror e built inner h opened rel = two_form i s c op.Ror h.0 W32 h.0 AnyWord e tt refl h.2 tt refl (λ n. absurd cc) (λ b usable is. tt) opened rel
+  by_op i s c returns op.Div e built inner h opened rel =
+      two_form i s c op.Div h.0 h.0 h.0 NoImmediate e tt refl h.2 tt refl (λ n. refl) (λ b usable is. tt) opened rel
+  by_op i s c returns op.UDiv e built inner h opened rel =
+      two_form i s c op.UDiv h.0 h.0 h.0 NoImmediate e tt refl h.2 tt refl (λ n. refl) (λ b usable is. tt) opened rel
+  by_op i s c returns op.And e built inner h opened rel =
+      two_form i s c op.And h.0 h.0 h.0 OfLogic e tt refl h.2 tt refl (λ n. absurd cc) (λ b usable is. fits_source z OfLogic h.0 16 b usable is) opened rel
+  by_op i s c returns op.Or e built inner h opened rel =
+      two_form i s c op.Or h.0 h.0 h.0 OfLogic e tt refl h.2 tt refl (λ n. absurd cc) (λ b usable is. fits_source z OfLogic h.0 16 b usable is) opened rel
+  by_op i s c returns op.Xor e built inner h opened rel =
+      two_form i s c op.Xor h.0 h.0 h.0 OfLogic e tt refl h.2 tt refl (λ n. absurd cc) (λ b usable is. fits_source z OfLogic h.0 16 b usable is) opened rel
+  by_op i s c returns op.Lsl e built inner h opened rel =
+      two_form i s c op.Lsl h.0 W32 h.0 AnyWord e tt refl h.2 tt refl (λ n. absurd cc) (λ b usable is. tt) opened rel
+  by_op i s c returns op.Lsr e built inner h opened rel =
+      two_form i s c op.Lsr h.0 W32 h.0 AnyWord e tt refl h.2 tt refl (λ n. absurd cc) (λ b usable is. tt) opened rel
+  by_op i s c returns op.Asr e built inner h opened rel =
+      two_form i s c op.Asr h.0 W32 h.0 AnyWord e tt refl h.2 tt refl (λ n. absurd cc) (λ b usable is. tt) opened rel
+  by_op i s c returns op.Ror e built inner h opened rel =
+      two_form i s c op.Ror h.0 W32 h.0 AnyWord e tt refl h.2 tt refl (λ n. absurd cc) (λ b usable is. tt) opened rel
   by_op i s c returns op.Clz e built inner h opened rel = one_form i s c op.Clz h.0 h.0 e tt refl h.2 tt (λ b. tt) opened rel
   by_op i s c returns op.SExt8 e built inner h opened rel = one_form i s c op.SExt8 W32 W32 e tt refl h.2 refl (λ b. tt) opened rel
   by_op i s c returns op.SExt16 e built inner h opened rel = one_form i s c op.SExt16 W32 W32 e tt refl h.2 refl (λ b. tt) opened rel
   by_op i s c returns op.SExt32 e built inner h opened rel = one_form i s c op.SExt32 W32 W64 e tt refl h.2 refl (λ b. tt) opened rel
   by_op i s c returns op.ZExt32 e built inner h opened rel = one_form i s c op.ZExt32 W32 W64 e tt refl h.2 refl (λ b. tt) opened rel
-  by_op i s c returns op.MulHigh e built inner h opened rel = two_form i s c op.MulHigh W64 W64 W64 NoImmediate e tt refl h.2 refl refl (λ n. refl) (λ b usable is. tt) opened rel
-  by_op i s c returns op.UMulHigh e built inner h opened rel = two_form i s c op.UMulHigh W64 W64 W64 NoImmediate e tt refl h.2 refl refl (λ n. refl) (λ b usable is. tt) opened rel
+  by_op i s c returns op.MulHigh e built inner h opened rel =
+      two_form i s c op.MulHigh W64 W64 W64 NoImmediate e tt refl h.2 refl refl (λ n. refl) (λ b usable is. tt) opened rel
+  by_op i s c returns op.UMulHigh e built inner h opened rel =
+      two_form i s c op.UMulHigh W64 W64 W64 NoImmediate e tt refl h.2 refl refl (λ n. refl) (λ b usable is. tt) opened rel
   by_op i s c returns (op.SetIf t) e built inner h opened rel = set_form i s c t h.0 h.1 e h.2 opened rel
   by_op i s c returns (op.SelectIf t) e built inner h opened rel = select_form i s c t h.0 h.1 e h.2 opened rel
   by_op i s c returns (op.BranchIf t) e built inner h opened rel = absurd cc
@@ -463,6 +504,7 @@ module _ (z : Setting) (set : IsSet z) (serves : IsFrameOf z.procedure z.frame) 
   by_op i s c returns op.Oops e built inner h opened rel = absurd cc
   by_op i s c returns o e built inner h opened rel = absurd cc
 
-  pub inst_runs : (i : AirInst) (s : State) (c : Machine) (returns : Returns) → is_built i.op ≡ true → target_count i.op ≡ None → HasOperands returns i.op i.operands
+  pub inst_runs : (i : AirInst) (s : State) (c : Machine) (returns : Returns) → is_built i.op ≡ true → target_count i.op ≡ None
+      → HasOperands returns i.op i.operands
       → AreOpen z i.operands → IsRelated z s c → InstRuns z i s c
   inst_runs i s c returns built inner h opened rel = by_op i s c returns i.op refl built inner h opened rel

@@ -93,7 +93,8 @@ last_is : (width : Width) (hw : ℕ) → hw < half_count width → hw ≤ last_h
 last_is W32 hw lt = omega arith
 last_is W64 hw lt = omega arith
 
-move_well : (width : Width) (inverted started : Bool) (reg half hw : ℕ) → reg ≤ 31 → half < 2 ^ 16 → hw ≤ last_half width → IsWellFormed (half_move width inverted started reg half hw)
+move_well : (width : Width) (inverted started : Bool) (reg half hw : ℕ) → reg ≤ 31 → half < 2 ^ 16 → hw ≤ last_half width
+    → IsWellFormed (half_move width inverted started reg half hw)
 move_well width inverted true reg half hw le small last = (le, small, last)
 move_well width true false reg half hw le small last = (le, omega arith, last)
 move_well width false false reg half hw le small last = (le, small, last)
@@ -110,7 +111,8 @@ moves_well : (width : Width) (inverted : Bool) (reg word : ℕ) (started : Bool)
     → AllWell (half_moves width inverted reg word started n hw)
 unfolding half_moves
 moves_well width inverted reg word true zero hw le count = tt
-moves_well width inverted reg word false zero hw le count = (move_well width inverted false reg (filling inverted) 0 le (fill_small inverted) (last_is width 0 (count_pos width)), tt)
+moves_well width inverted reg word false zero hw le count =
+    (move_well width inverted false reg (filling inverted) 0 le (fill_small inverted) (last_is width 0 (count_pos width)), tt)
 moves_well width inverted reg word started (suc n) hw le count =
     elim (nat_eq (half_word word hw) (filling inverted)) as (λ b. AllWell (if b then half_moves width inverted reg word started n (hw + 1) else
     half_move width inverted started reg (half_word word hw) hw ∷ half_moves width inverted reg word true n (hw + 1))) [
@@ -163,7 +165,8 @@ module _ (f : Frame) (limit : f.bytes < 2 ^ 21) where
   fetch_well scratch (FrameSlot n) le = tt
 
   below_well : (n : ℕ) (os : List Operand) (k scratch : ℕ) → scratch ≤ 31 → AllWell (fetch_below n f os k scratch)
-  below_well n os k scratch le = elim (nat_lt k n) as (λ b. AllWell (if b then fetch f scratch (arg_at os k) else [])) [ true ↦ fetch_well scratch (arg_at os k) le | false ↦ tt ]
+  below_well n os k scratch le = elim (nat_lt k n) as (λ b. AllWell (if b then fetch f scratch (arg_at os k) else [])) [ true ↦
+      fetch_well scratch (arg_at os k) le | false ↦ tt ]
 
   put_well : (reg : ℕ) (arg : Arg) → reg ≤ 31 → AllWell (put_result f reg arg)
   unfolding put_result
@@ -178,7 +181,8 @@ module _ (f : Frame) (limit : f.bytes < 2 ^ 21) where
   bring_well : (width : Width) (reg : ℕ) (arg : Arg) → reg ≤ 31 → IsSmallArg arg → AllWell (bring f width reg arg)
   unfolding bring
   bring_well width reg (At (Reg from)) le small =
-      elim (nat_eq reg from.0) as (λ b. AllWell (if b then [] else move_reg width reg from.0 ∷ [])) [ true ↦ tt | false ↦ ((move_plain width reg from.0 le (omega arith)).fields, tt) ]
+      elim (nat_eq reg from.0) as (λ b. AllWell (if b then [] else move_reg width reg from.0 ∷ [])) [ true ↦ tt | false ↦
+          ((move_plain width reg from.0 le (omega arith)).fields, tt) ]
   bring_well width reg (At (Spill n)) le small = load_well reg (above_sp f (spill_offset f n)) le (omega arith)
   bring_well width reg (At (Tmp n)) le small = tt
   bring_well width reg (Imm word) le small = constant_well width reg word le
@@ -211,11 +215,14 @@ module _ (f : Frame) (limit : f.bytes < 2 ^ 21) where
       (well_append (fetch_below n f os 0 15 ++ fetch_below n f os 1 16) (fetch_below n f os 2 17)
       (well_append (fetch_below n f os 0 15) (fetch_below n f os 1 16) (below_well n os 0 15 (omega arith)) (below_well n os 1 16 (omega arith)))
       (below_well n os 2 17 (omega arith)))
-      ((computing_plain o (width_at os 0) rd (source_at os 0 15) (source_at os 1 16) (source_at os 2 17) le_rd (source_small 15 (arg_at os 0) (omega arith) (small 0))
-      (source_small 16 (arg_at os 1) (omega arith) (small 1)) (source_small 17 (arg_at os 2) (omega arith) (small 2)) fits).fields, put_well rd (result_at os) le_rd)
+      ((computing_plain o (width_at os 0) rd (source_at os 0 15) (source_at os 1 16) (source_at os 2 17) le_rd
+      (source_small 15 (arg_at os 0) (omega arith) (small 0))
+      (source_small 16 (arg_at os 1) (omega arith) (small 1)) (source_small 17 (arg_at os 2) (omega arith) (small 2)) fits).fields, put_well rd
+      (result_at os) le_rd)
 
   pub tested_well : (t : Test) (os : List Operand) → AllWell (fetch_tested f t os)
-  tested_well t os = well_append (fetch f 15 (arg_at os 0)) (fetch_below (test_count t) f os 1 16) (fetch_well 15 (arg_at os 0) (omega arith)) (below_well (test_count t) os 1 16 (omega arith))
+  tested_well t os = well_append (fetch f 15 (arg_at os 0)) (fetch_below (test_count t) f os 1 16) (fetch_well 15 (arg_at os 0) (omega arith))
+      (below_well (test_count t) os 1 16 (omega arith))
 
   test_well : (t : Test) (os : List Operand) → AreSmall os → IsTested t (width_at os 0) (source_at os 1 16) → IsWellFormed (test_at t os)
   test_well t os small fits =
@@ -232,10 +239,12 @@ module _ (f : Frame) (limit : f.bytes < 2 ^ 21) where
   code_well op.Move os small fits =
       let reg : ℕ = copy_reg (arg_at os 0) (arg_at os 1) in
       let le = copy_small (arg_at os 0) (arg_at os 1) (small 0) (small 1) in
-      well_append (bring f (width_at os 0) reg (arg_at os 0)) (put_result f reg (arg_at os 1)) (bring_well (width_at os 0) reg (arg_at os 0) le (small 0)) (put_well reg (arg_at os 1) le)
+      well_append (bring f (width_at os 0) reg (arg_at os 0)) (put_result f reg (arg_at os 1))
+          (bring_well (width_at os 0) reg (arg_at os 0) le (small 0)) (put_well reg (arg_at os 1) le)
   code_well (op.SetIf t) os small fits =
       let le = result_small (result_at os) (small (length os - 1)) in
-      well_append (fetch_tested f t os) _ (tested_well t os) (test_well t os small fits, ((le, omega arith, omega arith), put_well (result_reg (result_at os)) (result_at os) le))
+      well_append (fetch_tested f t os) _ (tested_well t os)
+          (test_well t os small fits, ((le, omega arith, omega arith), put_well (result_reg (result_at os)) (result_at os) le))
   code_well (op.SelectIf t) os small fits =
       let n : ℕ = test_count t in
       let le = result_small (result_at os) (small (length os - 1)) in
@@ -245,7 +254,8 @@ module _ (f : Frame) (limit : f.bytes < 2 ^ 21) where
       (well_append (fetch_tested f t os ++ test_at t os ∷ first) second
       (well_append (fetch_tested f t os) (test_at t os ∷ first) (tested_well t os) (test_well t os small fits, fetch_well 15 (arg_at os n) (omega arith)))
       (fetch_well 16 (arg_at os (n + 1)) (omega arith)))
-      ((le, source_small 15 (arg_at os n) (omega arith) (small n), source_small 16 (arg_at os (n + 1)) (omega arith) (small (n + 1))), put_well (result_reg (result_at os)) (result_at os) le)
+      ((le, source_small 15 (arg_at os n) (omega arith) (small n), source_small 16 (arg_at os (n + 1)) (omega arith) (small (n + 1))), put_well
+      (result_reg (result_at os)) (result_at os) le)
   code_well (op.BranchIf t) os small fits = compute_well (op.BranchIf t) os small tt
   code_well o os small fits = compute_well o os small fits
 
@@ -273,7 +283,8 @@ module _ (f : Frame) (limit : f.bytes < 2 ^ 21) where
   lower_well : (bytes : ℕ) → bytes < 2 ^ 21 → AllWell (lower_sp bytes)
   unfolding lower_sp
   lower_well bytes small =
-      well_append (unless_zero (bytes / 4096) (AddSubImm W64 true false 31 31 (bytes / 4096) true ∷ [])) (unless_zero (bytes % 4096) (AddSubImm W64 true false 31 31 (bytes % 4096) false ∷ []))
+      well_append (unless_zero (bytes / 4096) (AddSubImm W64 true false 31 31 (bytes / 4096) true ∷ []))
+          (unless_zero (bytes % 4096) (AddSubImm W64 true false 31 31 (bytes % 4096) false ∷ []))
       (unless_well (bytes / 4096) (AddSubImm W64 true false 31 31 (bytes / 4096) true ∷ []) ((omega arith, omega arith, omega arith), tt))
       (unless_well (bytes % 4096) (AddSubImm W64 true false 31 31 (bytes % 4096) false ∷ []) ((omega arith, omega arith, omega arith), tt))
 
@@ -312,26 +323,32 @@ bits_most : (width : Width) → bits width ≤ 64
 bits_most W32 = omega arith
 bits_most W64 = omega arith
 
-branch_fair : (n : ℕ) (t : Test) (passes : Bool) (width : Width) (b : Source) (reg label : ℕ) → IsTested t width b → reg ≤ 31 → label < n → IsFair n (branch_item t passes width reg label)
+branch_fair : (n : ℕ) (t : Test) (passes : Bool) (width : Width) (b : Source) (reg label : ℕ) → IsTested t width b → reg ≤ 31 → label < n
+    → IsFair n (branch_item t passes width reg label)
 branch_fair n (Compare cond) passes width b reg label fits le lt = lt
 branch_fair n NonZero passes width b reg label fits le lt = (le, lt)
 branch_fair n (Bit bit) passes width b reg label fits le lt = let most = bits_most width in (le, omega (arith, fits), lt)
 
-branches_fair : (n : ℕ) (t : Test) (width : Width) (b : Source) (reg next then_label else_label : ℕ) → IsTested t width b → reg ≤ 31 → then_label < n → else_label < n
+branches_fair : (n : ℕ) (t : Test) (width : Width) (b : Source) (reg next then_label else_label : ℕ) → IsTested t width b → reg ≤ 31 → then_label < n
+    → else_label < n
     → Each (IsFair n) (branches t width reg next then_label else_label)
 branches_fair n t width b reg next then_label else_label fits le lt_then lt_else =
-    elim (nat_eq then_label next) as (λ c. Each (IsFair n) (if c then branch_item t false width reg else_label ∷ [] else branch_item t true width reg then_label ∷ jump_to next else_label)) [
+    elim (nat_eq then_label next) as (λ c. Each (IsFair n)
+        (if c then branch_item t false width reg else_label ∷ [] else branch_item t true width reg then_label ∷ jump_to next else_label)) [
       | true ↦ (branch_fair n t false width b reg else_label fits le lt_else, tt)
       | false ↦ (branch_fair n t true width b reg then_label fits le lt_then, jump_fair n next else_label lt_else)
     ]
 
 word_well : (width : Width) (reg word : ℕ) → reg ≤ 31 → AllWell (constant width 16 word ++ AddSubReg width true true 31 reg 16 0 0 ∷ [])
-word_well W32 reg word le = well_append (constant W32 16 word) _ (constant_well W32 16 word (omega arith)) ((omega arith, le, omega arith, omega arith, omega arith), tt)
-word_well W64 reg word le = well_append (constant W64 16 word) _ (constant_well W64 16 word (omega arith)) ((omega arith, le, omega arith, omega arith, omega arith), tt)
+word_well W32 reg word le = well_append (constant W32 16 word) _ (constant_well W32 16 word (omega arith))
+    ((omega arith, le, omega arith, omega arith, omega arith), tt)
+word_well W64 reg word le = well_append (constant W64 16 word) _ (constant_well W64 16 word (omega arith))
+    ((omega arith, le, omega arith, omega arith, omega arith), tt)
 
 case_well : (width : Width) (reg case : ℕ) → reg ≤ 31 → AllWell (compare_case width reg case)
 case_well width reg case le =
-    elim (is_sum_word width (low width case)) as (λ b. is_sum_word width (low width case) ≡ b → AllWell (if b then sum_with width true true 31 reg (low width case) ∷ [] else
+    elim (is_sum_word width (low width case)) as (λ b. is_sum_word width (low width case) ≡ b
+        → AllWell (if b then sum_with width true true 31 reg (low width case) ∷ [] else
     constant width 16 (low width case) ++ AddSubReg width true true 31 reg 16 0 0 ∷ [])) [
       | true ↦ λ e. ((sum_plain width true true 31 reg (Constant (low width case)) (omega arith) le (omega arith) (in_width-lt width case, e)).fields, tt)
       | false ↦ λ e. word_well width reg (low width case) le
@@ -365,20 +382,24 @@ pub record IsFairInst (n : ℕ) (targets : List ℕ) (o : AirOp) (os : List Oper
   pub below : (j : ℕ) → j < length targets → get_or targets j 0 < n
 
 module _ (f : Frame) (limit : f.bytes < 2 ^ 21) (goods : All (IsGoodSaved f.bytes) f.saved) (n : ℕ) (some : 0 < n) where
-  pub inst_fair : (next label : ℕ) (targets : List ℕ) (o : AirOp) (os : List Operand) → IsFairInst n targets o os → Each (IsFair n) (inst_items f next label targets o os)
+  pub inst_fair : (next label : ℕ) (targets : List ℕ) (o : AirOp) (os : List Operand) → IsFairInst n targets o os
+      → Each (IsFair n) (inst_items f next label targets o os)
   unfolding inst_items
   inst_fair next label targets (op.BranchIf t) os h =
       let reg : ℕ = reg_of (source_at os 0 15) in
       let le = source_small 15 (arg_at os 0) (omega arith) (h.small 0) in
       each_append (IsFair n) (plains (fetch_tested f t os ++ compared t os)) (branches t (width_at os 0) reg next (get_or targets 0 0) (get_or targets 1 0))
-      (plains_fair n (fetch_tested f t os ++ compared t os) (well_append (fetch_tested f t os) (compared t os) (tested_well f limit t os) (compared_well f limit t os h.small h.fits)))
-      (branches_fair n t (width_at os 0) (source_at os 1 16) reg next (get_or targets 0 0) (get_or targets 1 0) h.fits le (target_below n targets 0 some h.below) (target_below n targets 1 some h.below))
+      (plains_fair n (fetch_tested f t os ++ compared t os) (well_append (fetch_tested f t os) (compared t os) (tested_well f limit t os)
+      (compared_well f limit t os h.small h.fits)))
+      (branches_fair n t (width_at os 0) (source_at os 1 16) reg next (get_or targets 0 0) (get_or targets 1 0) h.fits le
+      (target_below n targets 0 some h.below) (target_below n targets 1 some h.below))
   inst_fair next label targets op.Jump os h = jump_fair n next (get_or targets 0 0) (target_below n targets 0 some h.below)
   inst_fair next label targets (op.Switch cases) os h =
       let reg : ℕ = reg_of (source_at os 0 15) in
       let le = source_small 15 (arg_at os 0) (omega arith) (h.small 0) in
       each_append (IsFair n) (plains (fetch f 15 (arg_at os 0))) (switch_items (width_at os 0) reg next label cases targets)
-      (plains_fair n (fetch f 15 (arg_at os 0)) (fetch_well f limit 15 (arg_at os 0) (omega arith))) (switch_fair n (width_at os 0) reg next label cases targets le h.below)
+      (plains_fair n (fetch f 15 (arg_at os 0)) (fetch_well f limit 15 (arg_at os 0) (omega arith)))
+      (switch_fair n (width_at os 0) reg next label cases targets le h.below)
   inst_fair next label targets op.Return os h = plains_fair n (epilogue f) (epilogue_well f limit goods)
   inst_fair next label targets op.Oops os h = (omega arith, tt)
   inst_fair next label targets o os h = plains_fair n (inst_code f o os) (code_well f limit o os h.small h.fits)
@@ -410,7 +431,8 @@ names_small p os named k =
     (cases_lt k (length os))
 
 module _ (p : AirProc) (f : Frame) (well : IsGoodProc p) (limit : f.bytes < 2 ^ 21) (goods : All (IsGoodSaved f.bytes) f.saved) where
-  insts_fair : (next label : ℕ) (targets : List ℕ) (insts : List AirInst) → All (IsGoodInst p) insts → ((j : ℕ) → j < length targets → get_or targets j 0 < length p.blocks)
+  insts_fair : (next label : ℕ) (targets : List ℕ) (insts : List AirInst) → All (IsGoodInst p) insts
+      → ((j : ℕ) → j < length targets → get_or targets j 0 < length p.blocks)
       → Each (IsFair (length p.blocks)) (insts_items f next label targets insts)
   unfolding insts_items
   insts_fair next label targets [] good below = tt
@@ -427,7 +449,8 @@ module _ (p : AirProc) (f : Frame) (well : IsGoodProc p) (limit : f.bytes < 2 ^ 
   blocks_fair first label [] good le = tt
   blocks_fair first label (block ∷ blocks) good le =
       let here = All-head (IsGoodBlock p) block blocks good in
-      (omega arith, each_append (IsFair (length p.blocks)) (insts_items f (first + 1) label block.targets block.insts) (blocks_items f (first + 1) (label + block_labels block) blocks)
+      (omega arith, each_append (IsFair (length p.blocks)) (insts_items f (first + 1) label block.targets block.insts)
+      (blocks_items f (first + 1) (label + block_labels block) blocks)
       (insts_fair (first + 1) label block.targets block.insts here.insts (λ j lt. (here.targets j 0 lt).1))
       (blocks_fair (first + 1) (label + block_labels block) blocks (All-tail (IsGoodBlock p) block blocks good) (omega arith)))
 

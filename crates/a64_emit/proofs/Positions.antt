@@ -91,7 +91,8 @@ switch_inner width reg next label [] [] = tt
 switch_inner width reg next label [] (target ∷ targets) = jump_inner next target
 switch_inner width reg next label (case ∷ cases) [] = tt
 switch_inner width reg next label (case ∷ cases) (target ∷ targets) =
-    each_append IsInner (plains (compare_case width reg case)) (_ ∷ switch_items width reg next label cases targets) (plains_inner (compare_case width reg case))
+    each_append IsInner (plains (compare_case width reg case)) (_ ∷ switch_items width reg next label cases targets)
+        (plains_inner (compare_case width reg case))
     (refl, switch_inner width reg next label cases targets)
 
 pub inst_inner : (f : Frame) (next label : ℕ) (targets : List ℕ) (o : AirOp) (os : List Operand) → Each IsInner (inst_items f next label targets o os)
@@ -138,10 +139,12 @@ none_is label (item ∷ items) inner = (is_not label item inner.0, none_is label
 first_is : (label : ℕ) (rest : List Item) → position_or_len (is_label label) (Label label ∷ rest) ≡ 0
 first_is label rest = ap (λ b. cond (not b) (1 + position_or_len (is_label label) rest) 0) (eq-eqb label label refl)
 
-first_not : (label : ℕ) (item : Item) (rest : List Item) → IsNot label item → position_or_len (is_label label) (item ∷ rest) ≡ 1 + position_or_len (is_label label) rest
+first_not : (label : ℕ) (item : Item) (rest : List Item) → IsNot label item
+    → position_or_len (is_label label) (item ∷ rest) ≡ 1 + position_or_len (is_label label) rest
 first_not label item rest none = ap (λ b. cond (not b) (1 + position_or_len (is_label label) rest) 0) none
 
-position_after : (label : ℕ) (before rest : List Item) → Each (IsNot label) before → position_or_len (is_label label) (before ++ Label label ∷ rest) ≡ length before
+position_after : (label : ℕ) (before rest : List Item) → Each (IsNot label) before
+    → position_or_len (is_label label) (before ++ Label label ∷ rest) ≡ length before
 position_after label [] rest none = first_is label rest
 position_after label (item ∷ before) rest none =
     let more = position_after label before rest none.1 in
@@ -165,7 +168,8 @@ pub record BlockAmong (f : Frame) (items : List Item) (first : ℕ) (blocks : Li
   pub none : i ≡ 0 → before ≡ []
   pub after : (label : ℕ) → label ≤ first + i → Each (IsNot label) rest
 
-blocks_rest : (f : Frame) (first label : ℕ) (blocks : List AirBlock) → 0 < length blocks → (behind : List Item) × (blocks_items f first label blocks ≡ Label first ∷ behind)
+blocks_rest : (f : Frame) (first label : ℕ) (blocks : List AirBlock) → 0 < length blocks
+    → (behind : List Item) × (blocks_items f first label blocks ≡ Label first ∷ behind)
 unfolding blocks_items
 blocks_rest f first label [] some = absurd (omega arith)
 blocks_rest f first label (block ∷ blocks) some = (_, refl)
@@ -186,7 +190,8 @@ blocks_clear : (f : Frame) (first label : ℕ) (blocks : List AirBlock) (other :
 unfolding blocks_items
 blocks_clear f first label [] other lt = tt
 blocks_clear f first label (block ∷ blocks) other lt =
-    (above_label first other lt, each_append (IsNot other) (insts_items f (first + 1) label block.targets block.insts) (blocks_items f (first + 1) (label + block_labels block) blocks)
+    (above_label first other lt, each_append (IsNot other) (insts_items f (first + 1) label block.targets block.insts)
+    (blocks_items f (first + 1) (label + block_labels block) blocks)
     (none_is other (insts_items f (first + 1) label block.targets block.insts) (insts_inner f (first + 1) label block.targets block.insts))
     (blocks_clear f (first + 1) (label + block_labels block) blocks other (omega arith)))
 
@@ -201,7 +206,8 @@ block_among f first label (b ∷ bs) zero block there =
       before = [];
       rest = blocks_items f (first + 1) (label + block_labels b) bs;
       own = label;
-      split = ap (λ (x : AirBlock). Label first ∷ (insts_items f (first + 1) label x.targets x.insts ++ blocks_items f (first + 1) (label + block_labels b) bs)) same
+      split = ap (λ (x : AirBlock). Label first ∷ (insts_items f (first + 1) label x.targets x.insts ++ blocks_items f (first + 1)
+          (label + block_labels b) bs)) same
           ∙ ap (λ n. Label n ∷ (insts_items f (n + 1) label block.targets block.insts ++ blocks_items f (first + 1) (label + block_labels b) bs)) e;
       clear = λ other le. tt;
       more = λ lt. let rest = blocks_rest f (first + 1) (label + block_labels b) bs (omega arith) in (rest.0, rest.1 ∙ ap (λ n. Label (n + 1) ∷ rest.0) e);
@@ -235,7 +241,8 @@ pub record BlockStands (p : AirProc) (f : Frame) (b : ℕ) (block : AirBlock) : 
   pub own : ℕ
   pub label : slice_get (emitted p f) (position_of (emitted p f) b) ≡ Some (Label b)
   pub items : Among (emitted p f) (position_of (emitted p f) b + 1) (insts_items f (b + 1) own block.targets block.insts)
-  pub next : b + 1 < length p.blocks → position_of (emitted p f) (b + 1) ≡ position_of (emitted p f) b + 1 + length (insts_items f (b + 1) own block.targets block.insts)
+  pub next : b + 1 < length p.blocks → position_of (emitted p f) (b + 1) ≡ position_of (emitted p f) b + 1 + length
+      (insts_items f (b + 1) own block.targets block.insts)
   pub last : b + 1 ≡ length p.blocks → length (emitted p f) ≡ position_of (emitted p f) b + 1 + length (insts_items f (b + 1) own block.targets block.insts)
   pub first : b ≡ 0 → position_of (emitted p f) b ≡ length (prologue f)
   pub only : (k : ℕ) → slice_get (emitted p f) k ≡ Some (Label b) → k ≡ position_of (emitted p f) b
@@ -297,7 +304,8 @@ module _ (p : AirProc) (f : Frame) (b : ℕ) (block : AirBlock) (there : slice_g
   clear : (label : ℕ) → b ≤ label → Each (IsNot label) front
   unfolding front
   clear label le =
-      each_append (IsNot label) (plains (prologue f)) among.before (none_is label (plains (prologue f)) (plains_inner (prologue f))) (among.clear label (omega arith))
+      each_append (IsNot label) (plains (prologue f)) among.before (none_is label (plains (prologue f)) (plains_inner (prologue f)))
+          (among.clear label (omega arith))
 
   at : position_of (emitted p f) b ≡ length front
   at = ap (λ xs. position_of xs b) split ∙ position_behind b front (inside ++ among.rest) (clear b (omega arith))
@@ -345,7 +353,8 @@ module _ (p : AirProc) (f : Frame) (b : ℕ) (block : AirBlock) (there : slice_g
   unfolding front
   first_at is =
       let count = length_plains (prologue f) in
-      at ∙ ap (λ (xs : List Item). length (plains (prologue f) ++ xs)) (among.none is) ∙ ap (λ (xs : List Item). length xs) (append-nil (plains (prologue f))) ∙ count
+      at ∙ ap (λ (xs : List Item). length (plains (prologue f) ++ xs)) (among.none is)
+          ∙ ap (λ (xs : List Item). length xs) (append-nil (plains (prologue f))) ∙ count
 
   only_at : (k : ℕ) → slice_get (emitted p f) k ≡ Some (Label b) → k ≡ position_of (emitted p f) b
   unfolding inside

@@ -74,7 +74,8 @@ bits_most : (width : Width) (n : ℕ) → n % bits width < bits width
 bits_most W32 n = omega arith
 bits_most W64 n = omega arith
 
-pub sum_plain : (width : Width) (sub flags : Bool) (rd rn : ℕ) (b : Source) → rd ≤ 31 → rn ≤ 31 → reg_of b ≤ 31 → IsSummed width b → IsPlain (sum_by width sub flags rd rn b)
+pub sum_plain : (width : Width) (sub flags : Bool) (rd rn : ℕ) (b : Source) → rd ≤ 31 → rn ≤ 31 → reg_of b ≤ 31 → IsSummed width b
+    → IsPlain (sum_by width sub flags rd rn b)
 sum_plain width sub flags rd rn (InReg rm) le_rd le_rn le_rm fits = record { fields = (le_rd, le_rn, le_rm, omega arith, bits_pos width); touches = λ r. refl }
 sum_plain width sub flags rd rn (Constant k) le_rd le_rn le_rm fits = with_plain width sub flags rd rn k le_rd le_rn fits.1
 
@@ -92,7 +93,8 @@ logic_plain width o rd rn (Constant k) le_rd le_rn le_rm fits =
     let turn : named.1 % element_bits named.0 named.2 < element_bits named.0 named.2 = mod-lt named.1 (element_bits-pos named.0 named.2) in
     let size : element_bits named.0 named.2 ≤ 64 = element_bits-le named.0 named.2 in
     record {
-      fields = (le_rd, le_rn, subst (λ v. v < 2) (sym n) named.3, subst (λ v. v < 64) (sym immr) (less_most _ _ turn size), subst (λ v. v < 64) (sym imms) named.5,
+      fields = (le_rd, le_rn, subst (λ v. v < 2) (sym n) named.3, subst (λ v. v < 64) (sym immr) (less_most _ _ turn size), subst (λ v. v < 64)
+          (sym imms) named.5,
           some_there _ k (fields_name width k named));
       touches = λ r. refl;
     }
@@ -103,7 +105,8 @@ shift_most Lsrv = omega arith
 shift_most Asrv = omega arith
 shift_most Rorv = omega arith
 
-pub moved_plain : (width : Width) (rd rm shift amount : ℕ) → rd ≤ 31 → rm ≤ 31 → shift ≤ 3 → amount < bits width → IsPlain (move_shifted width rd rm shift amount)
+pub moved_plain : (width : Width) (rd rm shift amount : ℕ) → rd ≤ 31 → rm ≤ 31 → shift ≤ 3 → amount < bits width
+    → IsPlain (move_shifted width rd rm shift amount)
 moved_plain width rd rm shift amount le_rd le_rm le_shift lt = record { fields = (le_rd, omega arith, le_rm, le_shift, lt); touches = λ r. refl }
 
 pub move_plain : (width : Width) (rd rm : ℕ) → rd ≤ 31 → rm ≤ 31 → IsPlain (move_reg width rd rm)
@@ -111,14 +114,16 @@ move_plain width rd rm le_rd le_rm = moved_plain width rd rm 0 0 le_rd le_rm (om
 
 shift_plain : (width : Width) (kind : ShiftKind) (rd rn : ℕ) (b : Source) → rd ≤ 31 → rn ≤ 31 → reg_of b ≤ 31 → IsPlain (shift_by width kind rd rn b)
 shift_plain width kind rd rn (InReg rm) le_rd le_rn le_rm = record { fields = (le_rd, le_rn, le_rm); touches = λ r. refl }
-shift_plain width kind rd rn (Constant k) le_rd le_rn le_rm = moved_plain width rd rn (shift_of kind) (k % bits width) le_rd le_rn (shift_most kind) (bits_most width k)
+shift_plain width kind rd rn (Constant k) le_rd le_rn le_rm =
+    moved_plain width rd rn (shift_of kind) (k % bits width) le_rd le_rn (shift_most kind) (bits_most width k)
 
 pub computing_plain : (o : AirOp) (width : Width) (rd : ℕ) (a b c : Source) → rd ≤ 31 → reg_of a ≤ 31 → reg_of b ≤ 31 → reg_of c ≤ 31 → IsComputed o width b
     → IsPlain (computing o width rd a b c)
 unfolding computing
 computing_plain op.Add width rd a b c le_rd le_a le_b le_c fits = sum_plain width false false rd (reg_of a) b le_rd le_a le_b fits
 computing_plain op.Sub width rd a b c le_rd le_a le_b le_c fits = record { fields = (le_rd, le_a, le_b, omega arith, bits_pos width); touches = λ r. refl }
-computing_plain op.Neg width rd a b c le_rd le_a le_b le_c fits = record { fields = (le_rd, omega arith, le_a, omega arith, bits_pos width); touches = λ r. refl }
+computing_plain op.Neg width rd a b c le_rd le_a le_b le_c fits = record { fields = (le_rd, omega arith, le_a, omega arith, bits_pos width); touches =
+    λ r. refl }
 computing_plain op.Mul width rd a b c le_rd le_a le_b le_c fits = record { fields = (le_rd, le_a, le_b, omega arith); touches = λ r. refl }
 computing_plain op.MulSub width rd a b c le_rd le_a le_b le_c fits = record { fields = (le_rd, le_a, le_b, le_c); touches = λ r. refl }
 computing_plain op.Div width rd a b c le_rd le_a le_b le_c fits = record { fields = (le_rd, le_a, le_b); touches = λ r. refl }

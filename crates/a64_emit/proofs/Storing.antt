@@ -47,7 +47,8 @@ is_among r rs = list_any (λ q. nat_eq q r) rs
 not_saved : (rows : List SavedRow) (r : ℕ) → saved_at rows r ≡ None → is_among r (map (λ (s : SavedRow). s.reg.0) rows) ≡ false
 not_saved [] r none = refl
 not_saved (row ∷ rows) r none =
-    elim (nat_eq row.reg.0 r) as (λ b. (if b then Some row.offset else saved_at rows r) ≡ None → (b || is_among r (map (λ (s : SavedRow). s.reg.0) rows)) ≡ false) [
+    elim (nat_eq row.reg.0 r) as (λ b. (if b then Some row.offset else saved_at rows r) ≡ None
+        → (b || is_among r (map (λ (s : SavedRow). s.reg.0) rows)) ≡ false) [
       | true ↦ λ some. absurd cc
       | false ↦ λ rest. not_saved rows r rest
     ] none
@@ -67,7 +68,8 @@ unfolding callee_saved
 among_saved r least most = grind (arith, nat_tests)
 
 -- a register that is written and that callees save has its place
-pub written_saved : (z : Setting) → IsFrameOf z.procedure z.frame → (r : ℕ) → writes z.procedure r ≡ true → 19 ≤ r → r ≤ 28 → saved_at z.frame.saved r ≡ None → ⊥
+pub written_saved : (z : Setting) → IsFrameOf z.procedure z.frame → (r : ℕ) → writes z.procedure r ≡ true → 19 ≤ r → r ≤ 28
+    → saved_at z.frame.saved r ≡ None → ⊥
 written_saved z serves r written least most none =
     let no = not_saved z.frame.saved r none in
     let yes : is_among r (map (λ (s : SavedRow). s.reg.0) z.frame.saved) ≡ true =
@@ -89,7 +91,8 @@ all_back P (x ∷ xs) ys h = all_back P xs ys (All-tail P x (xs ++ ys) h)
 all_mapped : (P : Span → Type 0) (rows : List SavedRow) → All P (map saved_span rows) → All (λ s. P (saved_span s)) rows
 all_mapped P [] h = All-nil (λ s. P (saved_span s))
 all_mapped P (s ∷ rows) h =
-    All-cons (λ s. P (saved_span s)) s rows (All-head P (saved_span s) (map saved_span rows) h) (all_mapped P rows (All-tail P (saved_span s) (map saved_span rows) h))
+    All-cons (λ s. P (saved_span s)) s rows (All-head P (saved_span s) (map saved_span rows) h)
+        (all_mapped P rows (All-tail P (saved_span s) (map saved_span rows) h))
 
 swapped : (a b : Span) → AreDisjoint a b → AreDisjoint b a
 swapped a b apart = ⊎_elim (λ le. inr le) (λ le. inl le) apart
@@ -122,10 +125,12 @@ pub record PutsWord (z : Setting) (c d : Machine) (offset word : ℕ) : Type 0 w
   pub words : AreWords d.registers
 
 module _ (z : Setting) (set : IsSet z) (serves : IsFrameOf z.procedure z.frame) where
-  reg_frame : (c d : Machine) (reg : Register) (word : ℕ) → IsAllocatable reg → writes z.procedure reg.0 ≡ true → PutsReg c d reg.0 word → HasFrame z c → HasFrame z d
+  reg_frame : (c d : Machine) (reg : Register) (word : ℕ) → IsAllocatable reg → writes z.procedure reg.0 ≡ true → PutsReg c d reg.0 word → HasFrame z c
+      → HasFrame z d
   reg_frame c d reg word may written p f = record {
     sp = p.sp ∙ f.sp;
-    x29 = p.others 29 (inr (omega arith)) (λ e. ⊎_elim (λ (le : reg.0 ≤ 14). absurd (omega arith)) (λ (h : (19 ≤ reg.0) × (reg.0 ≤ 28)). absurd (omega (arith, h.1))) may) ∙ f.x29;
+    x29 = p.others 29 (inr (omega arith)) (λ e. ⊎_elim (λ (le : reg.0 ≤ 14). absurd (omega arith))
+        (λ (h : (19 ≤ reg.0) × (reg.0 ≤ 28)). absurd (omega (arith, h.1))) may) ∙ f.x29;
     words = p.words;
     bytes = subst AreBytes (sym p.memory) f.bytes;
     whole = λ address inside. ap (λ (m : Memory). is_some (m address)) p.memory ∙ f.whole address inside;
@@ -165,7 +170,8 @@ module _ (z : Setting) (set : IsSet z) (serves : IsFrameOf z.procedure z.frame) 
   saved_apart offset s place there =
       let P : Span → Type 0 = AreDisjoint (word_span W64 offset) in
       let mine : AreDisjoint (word_span W64 offset) (saved_span s) =
-      All-contains (λ (t : SavedRow). P (saved_span t)) z.frame.saved s (all_mapped P z.frame.saved (all_back P (map slot_span (row z).slots) (map saved_span z.frame.saved) place.1)) there in
+      All-contains (λ (t : SavedRow). P (saved_span t)) z.frame.saved s
+          (all_mapped P z.frame.saved (all_back P (map slot_span (row z).slots) (map saved_span z.frame.saved) place.1)) there in
       let its = All-contains (IsGoodSaved z.frame.bytes) z.frame.saved s serves.good.saved there in
       words_apart z set serves.good s.offset offset its.place place.0 (swapped (word_span W64 offset) (saved_span s) mine)
 
@@ -195,10 +201,12 @@ module _ (z : Setting) (set : IsSet z) (serves : IsFrameOf z.procedure z.frame) 
       → visible (row z) z.entry (write_word m (frame_pointer_of z.entry - offset) 8 word) ≡ visible (row z) z.entry m
   store_memory m offset word place =
       hidden_store z set m (frame_pointer_of z.entry - offset) word
-      (hidden_word z set serves.good offset place.0 (all_front (AreDisjoint (word_span W64 offset)) (map slot_span (row z).slots) (map saved_span z.frame.saved) place.1))
+      (hidden_word z set serves.good offset place.0 (all_front (AreDisjoint (word_span W64 offset)) (map slot_span (row z).slots)
+      (map saved_span z.frame.saved) place.1))
 
   -- another spill place is apart
-  others_apart : (m n a b : ℕ) → m ≢ n → names z.procedure m ≡ true → names z.procedure n ≡ true → slice_get z.frame.spills m ≡ Some a → slice_get z.frame.spills n ≡ Some b
+  others_apart : (m n a b : ℕ) → m ≢ n → names z.procedure m ≡ true → names z.procedure n ≡ true
+      → slice_get z.frame.spills m ≡ Some a → slice_get z.frame.spills n ≡ Some b
       → IsWordOffset z.frame.bytes a → IsWordOffset z.frame.bytes b → AreApart (frame_pointer_of z.entry - a) 8 (frame_pointer_of z.entry - b) 8
   others_apart m n a b differ named_m named_n there_m there_n place_a place_b =
       ⊎_elim (λ (lt : m < n). words_apart z set serves.good a b place_a place_b (serves.apart m n a b named_m named_n lt there_m there_n))
@@ -210,7 +218,8 @@ module _ (z : Setting) (set : IsSet z) (serves : IsFrameOf z.procedure z.frame) 
   small_word w small = omega arith
 
   pub spill_related : (s : State) (c d : Machine) (n word result : ℕ) (width : Width) → names z.procedure n ≡ true
-      → PutsWord z c d (spill_offset z.frame n) word → low width word ≡ low width result → IsRelated z s c → IsRelated z (with_home s (Spill n) (Holds width result)) d
+      → PutsWord z c d (spill_offset z.frame n) word → low width word ≡ low width result → IsRelated z s c
+      → IsRelated z (with_home s (Spill n) (Holds width result)) d
   spill_related s c d n word result width named p is rel =
       let stands = spill_stands z set serves n named in
       let at : ℕ = frame_pointer_of z.entry - spill_offset z.frame n in
@@ -223,9 +232,11 @@ module _ (z : Setting) (set : IsSet z) (serves : IsFrameOf z.procedure z.frame) 
             ⊎_elim
             (λ (same : Spill m ≡ Spill n).
             let number : m ≡ n = cc in
-            let place : offset ≡ spill_offset z.frame n = some_is offset (spill_offset z.frame n) (sym there ∙ ap (slice_get z.frame.spills) number ∙ stands.0) in
+            let place : offset ≡ spill_offset z.frame n = some_is offset (spill_offset z.frame n) (sym there ∙ ap (slice_get z.frame.spills) number
+                ∙ stands.0) in
             (word,
-            ap (λ (m : Memory). read_word m (frame_pointer_of z.entry - offset) 8) p.memory ∙ ap (λ (o : ℕ). read_word (write_word c.memory at 8 word) (frame_pointer_of z.entry - o) 8) place
+            ap (λ (m : Memory). read_word m (frame_pointer_of z.entry - offset) 8) p.memory
+                ∙ ap (λ (o : ℕ). read_word (write_word c.memory at 8 word) (frame_pointer_of z.entry - o) 8) place
             ∙ read-write_same c.memory at 8 word (omega arith) ∙ ap Some (small_word word p.small),
             subst (λ h. Carries h word) (sym (put-same s.homes (Spill n) (Spill m) (Holds width result) same)) is))
             (λ (differ : Spill m ≢ Spill n).
@@ -235,7 +246,8 @@ module _ (z : Setting) (set : IsSet z) (serves : IsFrameOf z.procedure z.frame) 
             (word_m.0,
             ap (λ (m : Memory). read_word m (frame_pointer_of z.entry - offset) 8) p.memory
             ∙ read-write_apart c.memory (frame_pointer_of z.entry - offset) 8 at 8 word
-            (others_apart m n offset (spill_offset z.frame n) (spill_differs m n differ) named_m named there stands.0 (subst (IsWordOffset z.frame.bytes) place stands_m.1.0) stands.1.0)
+            (others_apart m n offset (spill_offset z.frame n) (spill_differs m n differ) named_m named there stands.0
+            (subst (IsWordOffset z.frame.bytes) place stands_m.1.0) stands.1.0)
             ∙ word_m.1,
             subst (λ h. Carries h word_m.0) (sym (put-other s.homes (Spill n) (Spill m) (Holds width result) differ)) word_m.2))
             (cases_home (Spill m) (Spill n));
