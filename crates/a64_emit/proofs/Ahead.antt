@@ -61,7 +61,8 @@ words_right xs ys h = record {
 }
 
 -- so words stand there in a code
-pub words_ahead : (code : List Item) (long : Set) (k : ℕ) (items : List Item) → Among code k items → HasWords items → place code long k < place code long (length code)
+pub words_ahead : (code : List Item) (long : Set) (k : ℕ) (items : List Item) → Among code k items → HasWords items
+    → place code long k < place code long (length code)
 words_ahead code long k items among h =
     let there = among h.at h.item h.there in
     let within = slice_get_within code (k + h.at) h.item there in
@@ -82,7 +83,8 @@ branch_size (Bit bit) passes width reg label false = omega arith
 
 pub branches_words : (t : Test) (width : Width) (reg next then_label else_label : ℕ) → HasWords (branches t width reg next then_label else_label)
 branches_words t width reg next then_label else_label =
-    elim (nat_eq then_label next) as (λ b. HasWords (if b then branch_item t false width reg else_label ∷ [] else branch_item t true width reg then_label ∷ jump_to next else_label)) [
+    elim (nat_eq then_label next) as (λ b. HasWords
+        (if b then branch_item t false width reg else_label ∷ [] else branch_item t true width reg then_label ∷ jump_to next else_label)) [
       | true ↦ words_first (branch_item t false width reg else_label) [] (branch_size t false width reg else_label)
       | false ↦ words_first (branch_item t true width reg then_label) (jump_to next else_label) (branch_size t true width reg then_label)
     ]
@@ -100,7 +102,8 @@ switch_words width reg next label [] (target ∷ targets) count below = jump_wor
 switch_words width reg next label (case ∷ cases) [] count below = absurd (omega arith)
 switch_words width reg next label (case ∷ cases) (target ∷ targets) count below =
     words_right (plains (compare_case width reg case)) (If Eq target ∷ switch_items width reg next label cases targets)
-    (words_first (If Eq target) (switch_items width reg next label cases targets) (λ long. elim long as (λ b. 1 ≤ size_in b (Some (If Eq target))) [ true ↦ omega arith | false ↦ omega arith ]))
+    (words_first (If Eq target) (switch_items width reg next label cases targets)
+    (λ long. elim long as (λ b. 1 ≤ size_in b (Some (If Eq target))) [ true ↦ omega arith | false ↦ omega arith ]))
 
 plain_words : (insts : List Inst) → 0 < length insts → HasWords (plains insts)
 plain_words [] some = absurd (omega arith)
@@ -115,7 +118,8 @@ pub terminal_words : (f : Frame) (next label : ℕ) (targets : List ℕ) (o : Ai
     → ((j : ℕ) → j < length targets → get_or targets j 0 < next) → HasWords (inst_items f next label targets o os)
 unfolding inst_items
 terminal_words f next label targets (op.BranchIf test) os ends below =
-    words_right (plains (fetch_tested f test os ++ compared test os)) (branches test (width_at os 0) (reg_of (source_at os 0 15)) next (get_or targets 0 0) (get_or targets 1 0))
+    words_right (plains (fetch_tested f test os ++ compared test os))
+        (branches test (width_at os 0) (reg_of (source_at os 0 15)) next (get_or targets 0 0) (get_or targets 1 0))
     (branches_words test (width_at os 0) (reg_of (source_at os 0 15)) next (get_or targets 0 0) (get_or targets 1 0))
 terminal_words f next label targets op.Jump os ends below =
     let one : 1 ≡ length targets = some_same 1 (length targets) ends in

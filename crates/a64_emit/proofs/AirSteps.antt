@@ -18,7 +18,8 @@ use Rattle.a64_emit.proofs.Storing.{with_home}
 
 -- ---- what operands read and write
 
-pub words_use : (homes : Homes) (o : Operand) (os : List Operand) → o.role ≡ Use → words homes (o ∷ os) ≡ and_word o.width (word_of homes o.width o.arg) (words homes os)
+pub words_use : (homes : Homes) (o : Operand) (os : List Operand) → o.role ≡ Use
+    → words homes (o ∷ os) ≡ and_word o.width (word_of homes o.width o.arg) (words homes os)
 unfolding words
 words_use homes o os role = rw role refl
 

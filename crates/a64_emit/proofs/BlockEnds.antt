@@ -41,15 +41,18 @@ pub record AtEnd (z : Setting) (targets_of : List ℕ) (next label k : ℕ) (o :
   pub within : AllWithin z targets_of
   pub items : Among z.code k (inst_items z.frame next label targets_of o os)
   pub at : NextAt z next (k + length (inst_items z.frame next label targets_of o os))
-  pub ahead : next < length z.procedure.blocks → place z.code z.long (k + length (inst_items z.frame next label targets_of o os)) < place z.code z.long (length z.code)
+  pub ahead : next < length z.procedure.blocks
+      → place z.code z.long (k + length (inst_items z.frame next label targets_of o os)) < place z.code z.long (length z.code)
 
 module _ (z : Setting) (set : IsSet z) (serves : IsFrameOf z.procedure z.frame) (unmarked : (k : ℕ) → run.mark_before z.code k ≡ None) where
-  ends_by : (o : AirOp) (i : AirInst) (s : State) (targets_of : List ℕ) (next label k : ℕ) (c : Machine) → i.op ≡ o → AtEnd z targets_of next label k o i.operands
+  ends_by : (o : AirOp) (i : AirInst) (s : State) (targets_of : List ℕ) (next label k : ℕ) (c : Machine) → i.op ≡ o
+      → AtEnd z targets_of next label k o i.operands
       → IsRelated z s c → Ends z targets_of i s k c
   unfolding inst_items
   ends_by (op.BranchIf t) i s targets_of next label k c is e rel =
       let two : 2 ≡ length targets_of = some_same 2 (length targets_of) e.ends in
-      branch_ends z set serves unmarked i s targets_of next k c t e.operands.0 is e.operands.2 e.usable (sym two) (e.within 0 (omega arith)) (e.within 1 (omega arith)) e.items e.at rel
+      branch_ends z set serves unmarked i s targets_of next k c t e.operands.0 is e.operands.2 e.usable (sym two) (e.within 0 (omega arith))
+          (e.within 1 (omega arith)) e.items e.at rel
   ends_by op.Jump i s targets_of next label k c is e rel =
       let one : 1 ≡ length targets_of = some_same 1 (length targets_of) e.ends in
       jump_ends z set serves unmarked i s targets_of next k c is (no_operands i.operands e.operands.2) (omega arith) (e.within 0 (omega arith)) e.items e.at rel
@@ -68,7 +71,8 @@ module _ (z : Setting) (set : IsSet z) (serves : IsFrameOf z.procedure z.frame) 
 -- ---- words behind labels
 
 module _ (f : Frame) (next label : ℕ) (targets_of : List ℕ) where
-  last_words : (body : List AirInst) (last : AirInst) → HasWords (inst_items f next label targets_of last.op last.operands) → HasWords (insts_items f next label targets_of (body ++ last ∷ []))
+  last_words : (body : List AirInst) (last : AirInst) → HasWords (inst_items f next label targets_of last.op last.operands)
+      → HasWords (insts_items f next label targets_of (body ++ last ∷ []))
   unfolding insts_items
   last_words [] last h = words_left (inst_items f next label targets_of last.op last.operands) [] h
   last_words (i ∷ body) last h =
@@ -82,12 +86,14 @@ ahead_of_blocks p f well long b lt =
     let block : AirBlock = get_or p.blocks n none in
     let stands = block_stands p f n block (slice_get-get_or p.blocks n none (omega arith)) in
     let good : IsGoodBlock p block = well.blocks n none (omega arith) in
-    let h : HasWords (insts_items f (n + 1) stands.own block.targets (good.body ++ good.last ∷ [])) = last_words f (n + 1) stands.own block.targets good.body good.last
+    let h : HasWords (insts_items f (n + 1) stands.own block.targets (good.body ++ good.last ∷ [])) =
+        last_words f (n + 1) stands.own block.targets good.body good.last
     (terminal_words f (n + 1) stands.own block.targets good.last.op good.last.operands good.ends
     (λ j within. let one = (good.targets j 0 within).1 in omega arith)) in
     let here : HasWords (insts_items f (n + 1) stands.own block.targets block.insts) =
     subst (λ insts. HasWords (insts_items f (n + 1) stands.own block.targets insts)) (sym good.parts) h in
-    let ahead = words_ahead (emitted p f) long (position_of (emitted p f) n + 1) (insts_items f (n + 1) stands.own block.targets block.insts) stands.items here in
+    let ahead = words_ahead (emitted p f) long (position_of (emitted p f) n + 1) (insts_items f (n + 1) stands.own block.targets block.insts)
+        stands.items here in
     ⊎_elim
     (λ less.
     let rise = positions_rise p f b n less (omega arith) in

@@ -24,7 +24,8 @@ one_more : (k : ℕ) → suc k ≡ k + 1
 one_more k = omega arith
 
 pub insts_next : (f : Frame) (next label : ℕ) (targets : List ℕ) (insts : List AirInst) (k : ℕ) (i : AirInst) (code after whole : List Item)
-    → code ++ insts_items f next label targets (drop k insts) ≡ whole → slice_get insts k ≡ Some i → after ≡ code ++ inst_items f next label targets i.op i.operands
+    → code ++ insts_items f next label targets (drop k insts) ≡ whole → slice_get insts k ≡ Some i
+    → after ≡ code ++ inst_items f next label targets i.op i.operands
     → after ++ insts_items f next label targets (drop (k + 1) insts) ≡ whole
 unfolding insts_items
 insts_next f next label targets insts k i code after whole left there pushed =
@@ -62,4 +63,5 @@ blocks_done f blocks b label code whole left le =
 pub labels_left : (blocks : List AirBlock) (b : ℕ) (block : AirBlock) → slice_get blocks b ≡ Some block
     → sum_by block_labels (drop b blocks) ≡ block_labels block + sum_by block_labels (drop (b + 1) blocks)
 labels_left blocks b block there =
-    ap (sum_by block_labels) (dropped blocks b block there) ∙ sum_by-cons block_labels block (drop (suc b) blocks) ∙ ap (λ n. block_labels block + sum_by block_labels (drop n blocks)) (one_more b)
+    ap (sum_by block_labels) (dropped blocks b block there) ∙ sum_by-cons block_labels block (drop (suc b) blocks)
+        ∙ ap (λ n. block_labels block + sum_by block_labels (drop n blocks)) (one_more b)

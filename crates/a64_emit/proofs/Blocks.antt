@@ -35,7 +35,8 @@ use Rattle.a64_emit.proofs.Positions.{Among, among_first, among_rest, length_pla
 use Rattle.a64_emit.proofs.Straight.{Runs, leads_by, leads_on, runs_more, runs_none, straight_runs}
 
 -- the items of an instruction that doesn't end its block
-inner_items : (f : Frame) (next label : ℕ) (targets : List ℕ) (o : AirOp) (os : List Operand) → target_count o ≡ None → inst_items f next label targets o os ≡ plains (inst_code f o os)
+inner_items : (f : Frame) (next label : ℕ) (targets : List ℕ) (o : AirOp) (os : List Operand) → target_count o ≡ None
+    → inst_items f next label targets o os ≡ plains (inst_code f o os)
 unfolding inst_items
 inner_items f next label targets (op.BranchIf test) os inner = absurd cc
 inner_items f next label targets op.Jump os inner = absurd cc
@@ -94,7 +95,8 @@ module _ (z : Setting) (set : IsSet z) (serves : IsFrameOf z.procedure z.frame) 
   goes_first i rest s t junk e = rw e refl
 
   pub body_ends : (body : List AirInst) (s : State) (k : ℕ) (c : Machine) → ((j : ℕ) (i : AirInst) → slice_get body j ≡ Some i → IsInner z i)
-      → Among z.code k (insts_items z.frame next label targets (body ++ last ∷ [])) → k + length (insts_items z.frame next label targets body) ≡ end → IsRelated z s c
+      → Among z.code k (insts_items z.frame next label targets (body ++ last ∷ [])) → k + length (insts_items z.frame next label targets body) ≡ end
+      → IsRelated z s c
       → BlockEnds z targets (body ++ last ∷ []) s k c
   unfolding insts_items
   body_ends [] s k c inner among at rel =
@@ -120,14 +122,16 @@ module _ (z : Setting) (set : IsSet z) (serves : IsFrameOf z.procedure z.frame) 
       record { next = air.Lost; is = λ junk. lost_first i (body ++ last ∷ []) s junk (lost junk); reaches = tt })
       (λ (done : Carried z i s c).
       let up = place_mono z.code z.long (k + length code) end (omega arith) in
-      let runs = straight_runs z set unmarked k c done.after code done.does (among_plains z.code k code (among_first z.code k (plains code) others here)) (omega arith) in
+      let runs = straight_runs z set unmarked k c done.after code done.does
+          (among_plains z.code k code (among_first z.code k (plains code) others here)) (omega arith) in
       let rel_next = alike_related z done.next done.after runs.last runs.alike (runs.small rel.frame.words.pc) done.related in
       let rest = body_ends body done.next (k + length code) runs.last (λ j other there. inner (suc j) other there)
       (subst (λ n. Among z.code (k + n) others) count (among_rest z.code k (plains code) others here)) after rel_next in
       record {
         next = rest.next;
         is = λ junk. goes_first i (body ++ last ∷ []) s done.next junk (done.steps junk) ∙ rest.is junk;
-        reaches = reaches_after z s.world rest.next k (length code) c done.after runs (subst (λ w. ReachesUnlessLost z w rest.next (k + length code) runs.last) done.world rest.reaches);
+        reaches = reaches_after z s.world rest.next k (length code) c done.after runs
+            (subst (λ w. ReachesUnlessLost z w rest.next (k + length code) runs.last) done.world rest.reaches);
       })
       (inst_runs z set serves i s c z.procedure.returns mine.built mine.inner mine.operands mine.opened rel)
 
@@ -142,7 +146,8 @@ module _ (z : Setting) (set : IsSet z) (serves : IsFrameOf z.procedure z.frame) 
       runs_more z k c c 0 c (label_step k b c there) (item_proper z set serves s k c (Label b) there tt rel) rel.frame.words.pc (runs_none z (k + 1) c c refl)
 
   -- the prologue has instructions, and so has each run with its label
-  entry_leads : (next : air.Config) (from : World) (n : ℕ) (c d : Machine) → 1 ≤ n → (enters : Runs z 0 c n d) → ReachesUnlessLost z from next n enters.last → LeadsUnlessLost z from next 0 c
+  entry_leads : (next : air.Config) (from : World) (n : ℕ) (c d : Machine) → 1 ≤ n → (enters : Runs z 0 c n d)
+      → ReachesUnlessLost z from next n enters.last → LeadsUnlessLost z from next 0 c
   entry_leads next from n c d some enters rest =
       leads_after z from next 0 n c d some enters (subst (λ k. ReachesUnlessLost z from next k enters.last) (omega arith) rest)
 
@@ -151,10 +156,12 @@ module _ (z : Setting) (set : IsSet z) (serves : IsFrameOf z.procedure z.frame) 
       → air.block_step (meaning z.start) z.procedure (air.At b s, rest) ≡ (next, rest)
   unfolding air.block_step
   block_steps b block s next rest there is =
-      ap (λ (x : AirBlock). air.left x.targets (steps (meaning z.start) x.insts s rest)) (get_or_from_slice_get z.procedure.blocks b block (record { insts = []; targets = [] }) there) ∙ is
+      ap (λ (x : AirBlock). air.left x.targets (steps (meaning z.start) x.insts s rest))
+          (get_or_from_slice_get z.procedure.blocks b block (record { insts = []; targets = [] }) there) ∙ is
 
   -- a block from its label on, where its instructions lead on
-  pub block_carries : (b : ℕ) (block : AirBlock) (s : State) (k : ℕ) (c : Machine) → slice_get z.procedure.blocks b ≡ Some block → slice_get z.code k ≡ Some (Label b)
+  pub block_carries : (b : ℕ) (block : AirBlock) (s : State) (k : ℕ) (c : Machine) → slice_get z.procedure.blocks b ≡ Some block
+      → slice_get z.code k ≡ Some (Label b)
       → IsRelated z s c → ((d : Machine) → IsRelated z s d → BlockEnds z block.targets block.insts s (k + 1) d) → CarriesOut z b s k c
   block_carries b block s k c there label rel ends =
       let runs = label_runs s k b c label rel in
@@ -168,7 +175,8 @@ module _ (z : Setting) (set : IsSet z) (serves : IsFrameOf z.procedure z.frame) 
 
   -- the entry: items lead to its label
   pub entry_carries : (block : AirBlock) (s : State) (n : ℕ) (c d : Machine) → slice_get z.procedure.blocks 0 ≡ Some block → slice_get z.code n ≡ Some (Label 0)
-      → 1 ≤ n → c.registers.pc < 2 ^ 64 → Runs z 0 c n d → IsRelated z s d → ((d : Machine) → IsRelated z s d → BlockEnds z block.targets block.insts s (n + 1) d) → CarriesOut z 0 s 0 c
+      → 1 ≤ n → c.registers.pc < 2 ^ 64 → Runs z 0 c n d → IsRelated z s d
+      → ((d : Machine) → IsRelated z s d → BlockEnds z block.targets block.insts s (n + 1) d) → CarriesOut z 0 s 0 c
   entry_carries block s n c d there label some small enters rel ends =
       let here : 0 + n ≡ n = omega arith in
       let rel_last = alike_related z s d enters.last enters.alike (enters.small small) rel in

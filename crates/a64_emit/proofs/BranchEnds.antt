@@ -79,17 +79,21 @@ opposite_holds Lt f = not_not _
 opposite_holds Gt f = refl
 opposite_holds Le f = not_not _
 
-pub compare_goes : (c : Machine) (cond : Cond) (width : Width) (reg : ℕ) (flags : Flags) → c.registers.flags ≡ flags → Goes c (Compare cond) width reg (holds cond flags)
+pub compare_goes : (c : Machine) (cond : Cond) (width : Width) (reg : ℕ) (flags : Flags) → c.registers.flags ≡ flags
+    → Goes c (Compare cond) width reg (holds cond flags)
 compare_goes c cond width reg flags same true = ap (holds cond) same
 compare_goes c cond width reg flags same false = ap (holds (opposite_cond cond)) same ∙ opposite_holds cond flags
 
-pub zero_goes : (c : Machine) (width : Width) (a : Source) (x : ℕ) → IsRegister a → Gives c.registers a width x → Goes c NonZero width (reg_of a) (not (nat_eq x 0))
+pub zero_goes : (c : Machine) (width : Width) (a : Source) (x : ℕ) → IsRegister a → Gives c.registers a width x
+    → Goes c NonZero width (reg_of a) (not (nat_eq x 0))
 zero_goes c width a x is gives true = ap (is_taken true) (low_is c.registers a width x is gives)
 zero_goes c width a x is gives false = ap (is_taken false) (low_is c.registers a width x is gives) ∙ not_not (nat_eq x 0)
 
 low_bit : (width : Width) (v k : ℕ) → k < bits width → bit_at (v % 2 ^ bits width) k ≡ bit_at v k
-low_bit W32 v k lt = let e : v / 2 ^ 32 * 2 ^ 32 + v % 2 ^ 32 ≡ v = omega arith in sym (bit_at_cat_low (v / 2 ^ 32) 32 (v % 2 ^ 32) k lt) ∙ ap (λ n. bit_at n k) e
-low_bit W64 v k lt = let e : v / 2 ^ 64 * 2 ^ 64 + v % 2 ^ 64 ≡ v = omega arith in sym (bit_at_cat_low (v / 2 ^ 64) 64 (v % 2 ^ 64) k lt) ∙ ap (λ n. bit_at n k) e
+low_bit W32 v k lt = let e : v / 2 ^ 32 * 2 ^ 32 + v % 2 ^ 32 ≡ v = omega arith in sym (bit_at_cat_low (v / 2 ^ 32) 32 (v % 2 ^ 32) k lt)
+    ∙ ap (λ n. bit_at n k) e
+low_bit W64 v k lt = let e : v / 2 ^ 64 * 2 ^ 64 + v % 2 ^ 64 ≡ v = omega arith in sym (bit_at_cat_low (v / 2 ^ 64) 64 (v % 2 ^ 64) k lt)
+    ∙ ap (λ n. bit_at n k) e
 
 bit_taken : (b : ℕ) → b < 2 → is_taken true b ≡ nat_eq b 1
 bit_taken b lt = grind (arith, nat_tests)
@@ -124,7 +128,8 @@ pub record Asked (z : Setting) (i : AirInst) (s : State) (c : Machine) (test : T
   pub writes : targets i.operands ≡ []
   pub passes : Bool
   pub leaves : meaning z.start (operation i) rs s.world ≡ Some (record { results = []; world = s.world; exit = Some (To (if passes then 0 else 1)) })
-  pub readied : Readied z s c (fetch_tested z.frame test i.operands ++ compared test i.operands) test (width_at i.operands 0) (reg_of (source_at i.operands 0 15)) passes
+  pub readied : Readied z s c (fetch_tested z.frame test i.operands ++ compared test i.operands) test (width_at i.operands 0)
+      (reg_of (source_at i.operands 0 15)) passes
 
 -- a home is a register once it is fetched
 pub home_register : (z : Setting) (arg : Arg) (scratch : ℕ) → IsUsable z arg → IsHome arg → IsRegister (source_of scratch arg)
@@ -187,25 +192,32 @@ one_read homes i a operands role = of_word (word_of homes a.width a.arg) refl
     of_word : (o : Option ℕ) → word_of homes a.width a.arg ≡ o
         → (words homes i.operands ≡ None) ⊎ ((x : ℕ) × (word_of homes a.width a.arg ≡ Some x) × (words homes i.operands ≡ Some ((a.width, x) ∷ [])))
     of_word None is = inl (read_first homes i a [] operands role ∙ ap (λ o. and_word a.width o (words homes [])) is)
-    of_word (Some x) is = inr (x, is, read_first homes i a [] operands role ∙ ap (λ o. and_word a.width o (words homes [])) is ∙ ap (and_word a.width (Some x)) (none_read homes))
+    of_word (Some x) is = inr (x, is, read_first homes i a [] operands role ∙ ap (λ o. and_word a.width o (words homes [])) is
+        ∙ ap (and_word a.width (Some x)) (none_read homes))
 
 pub one_writes : (i : AirInst) (a : Operand) → i.operands ≡ a ∷ [] → a.role ≡ Use → targets i.operands ≡ []
 one_writes i a operands role = ap targets operands ∙ targets_use a [] role ∙ none_written
 
 two_read : (homes : Homes) (i : AirInst) (a b : Operand) → i.operands ≡ a ∷ b ∷ [] → a.role ≡ Use → b.role ≡ Use
     → (words homes i.operands ≡ None)
-    ⊎ ((x : ℕ) × (y : ℕ) × (word_of homes a.width a.arg ≡ Some x) × (word_of homes b.width b.arg ≡ Some y) × (words homes i.operands ≡ Some ((a.width, x) ∷ (b.width, y) ∷ [])))
+    ⊎ ((x : ℕ) × (y : ℕ) × (word_of homes a.width a.arg ≡ Some x) × (word_of homes b.width b.arg ≡ Some y)
+    × (words homes i.operands ≡ Some ((a.width, x) ∷ (b.width, y) ∷ [])))
 two_read homes i a b operands role_a role_b = of_words (word_of homes a.width a.arg) (word_of homes b.width b.arg) refl refl
   where
     reads : words homes i.operands ≡ and_word a.width (word_of homes a.width a.arg) (and_word b.width (word_of homes b.width b.arg) (Some []))
-    reads = read_first homes i a (b ∷ []) operands role_a ∙ ap (and_word a.width (word_of homes a.width a.arg)) (words_use homes b [] role_b ∙ ap (and_word b.width (word_of homes b.width b.arg)) (none_read homes))
+    reads = read_first homes i a (b ∷ []) operands role_a ∙ ap (and_word a.width (word_of homes a.width a.arg)) (words_use homes b [] role_b
+        ∙ ap (and_word b.width (word_of homes b.width b.arg)) (none_read homes))
 
     of_words : (o p : Option ℕ) → word_of homes a.width a.arg ≡ o → word_of homes b.width b.arg ≡ p
         → (words homes i.operands ≡ None)
-        ⊎ ((x : ℕ) × (y : ℕ) × (word_of homes a.width a.arg ≡ Some x) × (word_of homes b.width b.arg ≡ Some y) × (words homes i.operands ≡ Some ((a.width, x) ∷ (b.width, y) ∷ [])))
+        ⊎ ((x : ℕ) × (y : ℕ) × (word_of homes a.width a.arg ≡ Some x) × (word_of homes b.width b.arg ≡ Some y)
+        × (words homes i.operands ≡ Some ((a.width, x) ∷ (b.width, y) ∷ [])))
     of_words None p is_a is_b = inl (reads ∙ ap (λ o. and_word a.width o (and_word b.width (word_of homes b.width b.arg) (Some []))) is_a)
-    of_words (Some x) None is_a is_b = inl (reads ∙ ap (λ o. and_word a.width (word_of homes a.width a.arg) (and_word b.width o (Some []))) is_b ∙ ap (λ o. and_word a.width o None) is_a)
-    of_words (Some x) (Some y) is_a is_b = inr (x, y, is_a, is_b, reads ∙ ap (λ o. and_word a.width o (and_word b.width (word_of homes b.width b.arg) (Some []))) is_a ∙ ap (λ o. and_word a.width (Some x) (and_word b.width o (Some []))) is_b)
+    of_words (Some x) None is_a is_b = inl (reads ∙ ap (λ o. and_word a.width (word_of homes a.width a.arg) (and_word b.width o (Some []))) is_b
+        ∙ ap (λ o. and_word a.width o None) is_a)
+    of_words (Some x) (Some y) is_a is_b = inr (x, y, is_a, is_b, reads
+        ∙ ap (λ o. and_word a.width o (and_word b.width (word_of homes b.width b.arg) (Some []))) is_a
+        ∙ ap (λ o. and_word a.width (Some x) (and_word b.width o (Some []))) is_b)
 
 -- each operand may be fetched
 abbrev pub AllUsable : Setting → List Operand → Type 0
@@ -219,8 +231,10 @@ branches_to start i s t rs p rest is e = rw (is, e) refl
 
 module _ (z : Setting) (set : IsSet z) (serves : IsFrameOf z.procedure z.frame) where
   compare_readied : (s : State) (c : Machine) (cond : Cond) (a b : Operand) (x y : ℕ) → IsRelated z s c → IsUsable z a.arg → IsUsable z b.arg
-      → IsRegister (source_of 15 a.arg) → IsSummed a.width (source_of 16 b.arg) → word_of s.homes a.width a.arg ≡ Some x → word_of s.homes a.width b.arg ≡ Some y
-      → Readied z s c (fetch_tested z.frame (Compare cond) (a ∷ b ∷ []) ++ compared (Compare cond) (a ∷ b ∷ [])) (Compare cond) a.width (reg_of (source_of 15 a.arg))
+      → IsRegister (source_of 15 a.arg) → IsSummed a.width (source_of 16 b.arg) → word_of s.homes a.width a.arg ≡ Some x
+      → word_of s.homes a.width b.arg ≡ Some y
+      → Readied z s c (fetch_tested z.frame (Compare cond) (a ∷ b ∷ []) ++ compared (Compare cond) (a ∷ b ∷ [])) (Compare cond) a.width
+          (reg_of (source_of 15 a.arg))
       (passes (Compare cond) a.width x y)
   compare_readied s c cond a b x y rel usable_a usable_b is_a fits reads_a reads_b =
       let first = fetch_word z set serves s c 15 a.arg a.width x rel usable_a scratch_15 reads_a in
@@ -231,10 +245,13 @@ module _ (z : Setting) (set : IsSet z) (serves : IsFrameOf z.procedure z.frame) 
       let rel_n = keeps_related z s m n (fetched_keeps z m (fetch z.frame 16 b.arg) 16 scratch_16 second.0) rel_m in
       let inst : Inst = testing (Compare cond) a.width (source_of 15 a.arg) (source_of 16 b.arg) in
       let d : Machine = record { registers = with_flags n.registers (test_flags (Compare cond) a.width x y); memory = n.memory } in
-      let plain = testing_plain (Compare cond) a.width (source_of 15 a.arg) (source_of 16 b.arg) (source_most z 15 a.arg (omega arith) usable_a) (source_most z 16 b.arg (omega arith) usable_b) fits in
+      let plain = testing_plain (Compare cond) a.width (source_of 15 a.arg) (source_of 16 b.arg) (source_most z 15 a.arg (omega arith) usable_a)
+          (source_most z 16 b.arg (omega arith) usable_b) fits in
       let gives_a : Gives n.registers (source_of 15 a.arg) a.width x =
-      gives_same m.registers n.registers (source_of 15 a.arg) a.width x (λ r is. second.0.others r (source_differs z 15 16 a.arg scratch_16 (λ e. omega arith) usable_a r is)) first.1 in
-      let one : DoesOne z n inst d = does_safely z n d inst (whole_of z set serves n rel_n.frame) (touches_nothing n inst (λ pc. plain.touches (moved_to pc n).registers)) refl
+      gives_same m.registers n.registers (source_of 15 a.arg) a.width x
+          (λ r is. second.0.others r (source_differs z 15 16 a.arg scratch_16 (λ e. omega arith) usable_a r is)) first.1 in
+      let one : DoesOne z n inst d = does_safely z n d inst (whole_of z set serves n rel_n.frame)
+          (touches_nothing n inst (λ pc. plain.touches (moved_to pc n).registers)) refl
       (λ pc. testing_is (moved_to pc n).registers n.memory (Compare cond) a.width (source_of 15 a.arg) (source_of 16 b.arg) x y is_a
       (gives_same n.registers (moved_to pc n).registers (source_of 15 a.arg) a.width x (λ r is. refl) gives_a)
       (gives_same n.registers (moved_to pc n).registers (source_of 16 b.arg) a.width y (λ r is. refl) second.1) fits) in
@@ -252,7 +269,8 @@ module _ (z : Setting) (set : IsSet z) (serves : IsFrameOf z.procedure z.frame) 
       }
 
   -- a word that is fetched alone
-  one_readied : (s : State) (c : Machine) (t : Test) (a : Operand) (x : ℕ) (p : Bool) → IsRelated z s c → IsUsable z a.arg → word_of s.homes a.width a.arg ≡ Some x
+  one_readied : (s : State) (c : Machine) (t : Test) (a : Operand) (x : ℕ) (p : Bool) → IsRelated z s c → IsUsable z a.arg
+      → word_of s.homes a.width a.arg ≡ Some x
       → ((m : Machine) → Gives m.registers (source_of 15 a.arg) a.width x → Goes m t a.width (reg_of (source_of 15 a.arg)) p)
       → Readied z s c ((fetch z.frame 15 a.arg ++ []) ++ []) t a.width (reg_of (source_of 15 a.arg)) p
   one_readied s c t a x p rel usable reads goes =
@@ -269,7 +287,8 @@ module _ (z : Setting) (set : IsSet z) (serves : IsFrameOf z.procedure z.frame) 
   abbrev Ready : State → Machine → Test → List Operand → Bool → Type 0
   Ready s c t os p = Readied z s c (fetch_tested z.frame t os ++ compared t os) t (width_at os 0) (reg_of (source_at os 0 15)) p
 
-  pub asked : (i : AirInst) (s : State) (c : Machine) (t : Test) (width : Width) → i.op ≡ op.BranchIf t → AllFit (test_takes t width) i.operands → AllUsable z i.operands
+  pub asked : (i : AirInst) (s : State) (c : Machine) (t : Test) (width : Width) → i.op ≡ op.BranchIf t → AllFit (test_takes t width) i.operands
+      → AllUsable z i.operands
       → IsRelated z s c → (words s.homes i.operands ≡ None) ⊎ Asked z i s c t
   asked i s c (Compare cond) width is fits usable rel =
       let os = two_there cond width i.operands fits in
@@ -279,18 +298,22 @@ module _ (z : Setting) (set : IsSet z) (serves : IsFrameOf z.procedure z.frame) 
       let usable_b : IsUsable z b.arg = usable 1 b (ap (λ (xs : List Operand). slice_get xs 1) os.2) in
       let same : b.width ≡ a.width = os.4.1 ∙ sym os.3.1 in
       let is_a = home_register z a.arg 15 usable_a (word_home width a.arg os.3.2) in
-      let summed : IsSummed a.width (source_of 16 b.arg) = subst (λ w. IsSummed w (source_of 16 b.arg)) (sym os.3.1) (word_summed z width b.arg 16 usable_b os.4.2) in
+      let summed : IsSummed a.width (source_of 16 b.arg) =
+          subst (λ w. IsSummed w (source_of 16 b.arg)) (sym os.3.1) (word_summed z width b.arg 16 usable_b os.4.2) in
       ⊎_elim
       (λ lost. inl lost)
-      (λ (found : (x : ℕ) × (y : ℕ) × (word_of s.homes a.width a.arg ≡ Some x) × (word_of s.homes b.width b.arg ≡ Some y) × (words s.homes i.operands ≡ Some ((a.width, x) ∷ (b.width, y) ∷ []))).
+      (λ (found : (x : ℕ) × (y : ℕ) × (word_of s.homes a.width a.arg ≡ Some x) × (word_of s.homes b.width b.arg ≡ Some y)
+          × (words s.homes i.operands ≡ Some ((a.width, x) ∷ (b.width, y) ∷ []))).
       inr (record {
         rs = (a.width, found.0) ∷ (b.width, found.1) ∷ [];
         reads = found.4;
         writes = ap targets os.2 ∙ targets_use a (b ∷ []) os.3.0 ∙ targets_use b [] os.4.0 ∙ none_written;
         passes = passes (Compare cond) a.width found.0 found.1;
-        leaves = branches_to z.start i s (Compare cond) ((a.width, found.0) ∷ (b.width, found.1) ∷ []) (passes (Compare cond) a.width found.0 found.1) [] is refl;
+        leaves = branches_to z.start i s (Compare cond) ((a.width, found.0) ∷ (b.width, found.1) ∷ []) (passes (Compare cond) a.width found.0 found.1)
+            [] is refl;
         readied = subst (λ xs. Ready s c (Compare cond) xs (passes (Compare cond) a.width found.0 found.1)) (sym os.2)
-            (compare_readied s c cond a b found.0 found.1 rel usable_a usable_b is_a summed found.2 (subst (λ w. word_of s.homes w b.arg ≡ Some found.1) same found.3));
+            (compare_readied s c cond a b found.0 found.1 rel usable_a usable_b is_a summed found.2
+            (subst (λ w. word_of s.homes w b.arg ≡ Some found.1) same found.3));
       }))
       (two_read s.homes i a b os.2 os.3.0 os.4.0)
   asked i s c NonZero width is fits usable rel =
@@ -307,7 +330,8 @@ module _ (z : Setting) (set : IsSet z) (serves : IsFrameOf z.procedure z.frame) 
         passes = not (nat_eq found.0 0);
         leaves = branches_to z.start i s NonZero ((a.width, found.0) ∷ []) (not (nat_eq found.0 0)) [] is refl;
         readied = subst (λ xs. Ready s c NonZero xs (not (nat_eq found.0 0))) (sym os.1)
-            (one_readied s c NonZero a found.0 (not (nat_eq found.0 0)) rel usable_a found.1 (λ m gives. zero_goes m a.width (source_of 15 a.arg) found.0 is_a gives));
+            (one_readied s c NonZero a found.0 (not (nat_eq found.0 0)) rel usable_a found.1
+            (λ m gives. zero_goes m a.width (source_of 15 a.arg) found.0 is_a gives));
       }))
       (one_read s.homes i a os.1 os.2.0)
   asked i s c (Bit k) width is fits usable rel =
@@ -325,7 +349,8 @@ module _ (z : Setting) (set : IsSet z) (serves : IsFrameOf z.procedure z.frame) 
         passes = nat_eq (bit_at found.0 k) 1;
         leaves = branches_to z.start i s (Bit k) ((a.width, found.0) ∷ []) (nat_eq (bit_at found.0 k) 1) [] is refl;
         readied = subst (λ xs. Ready s c (Bit k) xs (nat_eq (bit_at found.0 k) 1)) (sym os.1)
-            (one_readied s c (Bit k) a found.0 (nat_eq (bit_at found.0 k) 1) rel usable_a found.1 (λ m gives. bit_goes m a.width (source_of 15 a.arg) k found.0 within is_a gives));
+            (one_readied s c (Bit k) a found.0 (nat_eq (bit_at found.0 k) 1) rel usable_a found.1
+            (λ m gives. bit_goes m a.width (source_of 15 a.arg) k found.0 within is_a gives));
       }))
       (one_read s.homes i a os.1 os.2.0)
 
@@ -340,16 +365,21 @@ branch_size true (Bit bit) passes width reg label = omega arith
 branch_size false (Bit bit) passes width reg label = omega arith
 
 -- words stand where branches do
-branches_words : (z : Setting) (t : Test) (width : Width) (reg k next then_label else_label : ℕ) → Among z.code k (branches t width reg next then_label else_label)
+branches_words : (z : Setting) (t : Test) (width : Width) (reg k next then_label else_label : ℕ)
+    → Among z.code k (branches t width reg next then_label else_label)
     → place z.code z.long k < place z.code z.long (length z.code)
 branches_words z t width reg k next then_label else_label among =
-    elim (nat_eq then_label next) as (λ b. Among z.code k (if b then branch_item t false width reg else_label ∷ [] else branch_item t true width reg then_label ∷ jump_to next else_label)
+    elim (nat_eq then_label next) as (λ b. Among z.code k
+        (if b then branch_item t false width reg else_label ∷ [] else branch_item t true width reg then_label ∷ jump_to next else_label)
     → place z.code z.long k < place z.code z.long (length z.code)) [
-      | true ↦ λ items. of_item (branch_item t false width reg else_label) (items 0 (branch_item t false width reg else_label) refl) (branch_size (z.long k) t false width reg else_label)
-      | false ↦ λ items. of_item (branch_item t true width reg then_label) (items 0 (branch_item t true width reg then_label) refl) (branch_size (z.long k) t true width reg then_label)
+      | true ↦ λ items. of_item (branch_item t false width reg else_label) (items 0 (branch_item t false width reg else_label) refl)
+          (branch_size (z.long k) t false width reg else_label)
+      | false ↦ λ items. of_item (branch_item t true width reg then_label) (items 0 (branch_item t true width reg then_label) refl)
+          (branch_size (z.long k) t true width reg then_label)
     ] among
   where
-    of_item : (item : Item) → slice_get z.code (k + 0) ≡ Some item → 1 ≤ size_in (z.long k) (Some item) → place z.code z.long k < place z.code z.long (length z.code)
+    of_item : (item : Item) → slice_get z.code (k + 0) ≡ Some item → 1 ≤ size_in (z.long k) (Some item)
+        → place z.code z.long k < place z.code z.long (length z.code)
     of_item item there size =
         let here : slice_get z.code k ≡ Some item = ap (slice_get z.code) (omega arith) ∙ there in
         words_there z k item here (slice_get_within z.code k item here) size
@@ -381,13 +411,16 @@ module _ (z : Setting) (set : IsSet z) (serves : IsFrameOf z.procedure z.frame) 
       (λ lost. record { next = air.Lost; is = λ junk. ap (air.left targets_of) (step_lost z.start i s lost junk); reaches = tt })
       (λ (q : Asked z i s c t).
       let runs : Runs z k c (length insts) q.readied.after = straight_runs z set unmarked k c q.readied.after insts q.readied.does
-      (among_plains z.code k insts (among_first z.code k (plains insts) items among)) (branches_words z t (width_at i.operands 0) reg (k + length insts) next first second behind) in
+      (among_plains z.code k insts (among_first z.code k (plains insts) items among))
+      (branches_words z t (width_at i.operands 0) reg (k + length insts) next first second behind) in
       let small = runs.small rel.frame.words.pc in
       record {
         next = air.At (if q.passes then first else second) s;
-        is = leaves_to z set serves unmarked i s targets_of q.rs (if q.passes then 0 else 1) (if q.passes then first else second) q.reads q.writes q.leaves (chosen_target targets_of q.passes two);
+        is = leaves_to z set serves unmarked i s targets_of q.rs (if q.passes then 0 else 1) (if q.passes then first else second) q.reads q.writes
+            q.leaves (chosen_target targets_of q.passes two);
         reaches = leads_on z s.world (air.At (if q.passes then first else second) s) k (length insts) c q.readied.after runs
-            (branches_reach z set serves s.world s t (width_at i.operands 0) reg (k + length insts) next first second runs.last q.passes within_then within_else behind next_at
+            (branches_reach z set serves s.world s t (width_at i.operands 0) reg (k + length insts) next first second runs.last q.passes within_then
+                within_else behind next_at
             (alike_goes q.readied.after runs.last t (width_at i.operands 0) reg q.passes runs.alike q.readied.goes) (refl, refl)
             (alike_related z s q.readied.after runs.last runs.alike small q.readied.related));
       })

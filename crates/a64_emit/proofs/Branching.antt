@@ -62,7 +62,8 @@ branch_test (Bit bit) passes width reg = on.Bit passes reg bit
 abbrev pub Goes : Machine → Test → Width → ℕ → Bool → Type 0
 Goes c test width reg passes = (taken : Bool) → test_holds (branch_test test taken width reg) c ≡ (if taken then passes else not passes)
 
-pub alike_goes : (c d : Machine) (test : Test) (width : Width) (reg : ℕ) (passes : Bool) → AreAlike d c → Goes c test width reg passes → Goes d test width reg passes
+pub alike_goes : (c d : Machine) (test : Test) (width : Width) (reg : ℕ) (passes : Bool) → AreAlike d c → Goes c test width reg passes
+    → Goes d test width reg passes
 alike_goes c d test width reg passes same goes taken = holds_alike test ∙ goes taken
   where
     holds_alike : (t : Test) → test_holds (branch_test t taken width reg) d ≡ test_holds (branch_test t taken width reg) c
@@ -70,7 +71,8 @@ alike_goes c d test width reg passes same goes taken = holds_alike test ∙ goes
     holds_alike NonZero = ap (λ (m : Machine). test_holds (branch_test NonZero taken width reg) m) same
     holds_alike (Bit bit) = ap (λ (m : Machine). test_holds (branch_test (Bit bit) taken width reg) m) same
 
-branch_safe : (z : Setting) (c : Machine) (test : Test) (passes : Bool) (width : Width) (reg label : ℕ) → IsSafeItem z c (Some (branch_item test passes width reg label))
+branch_safe : (z : Setting) (c : Machine) (test : Test) (passes : Bool) (width : Width) (reg label : ℕ)
+    → IsSafeItem z c (Some (branch_item test passes width reg label))
 branch_safe z c (Compare cond) passes width reg label = tt
 branch_safe z c NonZero passes width reg label = tt
 branch_safe z c (Bit bit) passes width reg label = tt
@@ -104,7 +106,8 @@ module _ (z : Setting) (set : IsSet z) (serves : IsFrameOf z.procedure z.frame) 
       (1, omega arith, c, iterate-one (item_step (meaning_of z) z.code) (At k c) ∙ step, since.0, since.1, rel)
 
   -- the label stands there
-  pub reaches_label : (from : World) (s : State) (k label : ℕ) (c : Machine) → NextAt z label k → label < length z.procedure.blocks → Since from s → IsRelated z s c
+  pub reaches_label : (from : World) (s : State) (k label : ℕ) (c : Machine) → NextAt z label k → label < length z.procedure.blocks → Since from s
+      → IsRelated z s c
       → Reaches z from (air.At label s) k c
   reaches_label from s k label c next within since rel =
       let there = next within in
@@ -129,14 +132,16 @@ module _ (z : Setting) (set : IsSet z) (serves : IsFrameOf z.procedure z.frame) 
             reaches_step from s k label c (item_proper s k c (Jump label) here tt rel) (jump_step k label c here) since rel
       ] refl among there
 
-  branch_step : (test : Test) (passes : Bool) (width : Width) (reg k label : ℕ) (c : Machine) → slice_get z.code k ≡ Some (branch_item test passes width reg label)
+  branch_step : (test : Test) (passes : Bool) (width : Width) (reg k label : ℕ) (c : Machine)
+      → slice_get z.code k ≡ Some (branch_item test passes width reg label)
       → item_step (meaning_of z) z.code (At k c) ≡ At (if test_holds (branch_test test passes width reg) c then position_of z.code label else k + 1) c
   unfolding item_step
   branch_step (Compare cond) passes width reg k label c there = rw there refl
   branch_step NonZero passes width reg k label c there = rw there refl
   branch_step (Bit bit) passes width reg k label c there = rw there refl
 
-  pub branch_goes : (test : Test) (taken : Bool) (width : Width) (reg k label : ℕ) (c : Machine) (b : Bool) → test_holds (branch_test test taken width reg) c ≡ b
+  pub branch_goes : (test : Test) (taken : Bool) (width : Width) (reg k label : ℕ) (c : Machine) (b : Bool)
+      → test_holds (branch_test test taken width reg) c ≡ b
       → slice_get z.code k ≡ Some (branch_item test taken width reg label)
       → item_step (meaning_of z) z.code (At k c) ≡ At (if b then position_of z.code label else k + 1) c
   branch_goes test taken width reg k label c b holds there =
@@ -156,18 +161,21 @@ module _ (z : Setting) (set : IsSet z) (serves : IsFrameOf z.procedure z.frame) 
   branches_reach from s test width reg k next then_label else_label c passes within_then within_else among there goes since rel =
       elim (nat_eq then_label next) as (λ b. nat_eq then_label next ≡ b
       → Among z.code k (if b then branch_item test false width reg else_label ∷ [] else branch_item test true width reg then_label ∷ jump_to next else_label)
-      → NextAt z next (k + length (if b then branch_item test false width reg else_label ∷ [] else branch_item test true width reg then_label ∷ jump_to next else_label))
+      → NextAt z next (k + length (if b then branch_item test false width reg else_label ∷ [] else branch_item test true width reg then_label ∷ jump_to
+          next else_label))
       → Reaches z from (air.At (if passes then then_label else else_label) s) k c) [
         | true ↦ λ e items at.
             let same : then_label ≡ next = grind (arith, nat_tests) in
             let here : slice_get z.code k ≡ Some (branch_item test false width reg else_label) =
             ap (slice_get z.code) (omega arith) ∙ items 0 (branch_item test false width reg else_label) refl in
-            let proper = item_proper s k c (branch_item test false width reg else_label) here (branch_safe z (moved_to (address_of z k) c) test false width reg else_label) rel in
+            let proper = item_proper s k c (branch_item test false width reg else_label) here
+                (branch_safe z (moved_to (address_of z k) c) test false width reg else_label) rel in
             fall passes then_label else_label (subst (λ n. NextAt z n (k + 1)) (sym same) at) (goes false) here proper within_then
         | false ↦ λ e items at.
             let here : slice_get z.code k ≡ Some (branch_item test true width reg then_label) =
             ap (slice_get z.code) (omega arith) ∙ items 0 (branch_item test true width reg then_label) refl in
-            let proper = item_proper s k c (branch_item test true width reg then_label) here (branch_safe z (moved_to (address_of z k) c) test true width reg then_label) rel in
+            let proper = item_proper s k c (branch_item test true width reg then_label) here
+                (branch_safe z (moved_to (address_of z k) c) test true width reg then_label) rel in
             let more : Among z.code (k + 1) (jump_to next else_label) =
             among_rest z.code k (branch_item test true width reg then_label ∷ []) (jump_to next else_label) items in
             let e : k + suc (length (jump_to next else_label)) ≡ k + 1 + length (jump_to next else_label) = omega arith in
@@ -179,14 +187,18 @@ module _ (z : Setting) (set : IsSet z) (serves : IsFrameOf z.procedure z.frame) 
           → Reaches z from (air.At (if p then to else other) s) k c
       fall true to other at holds here proper within =
           reaches_step from s k to c proper (branch_goes test false width reg k other c false holds here ∙ ap (λ j. At j c) (sym (at within).0)) since rel
-      fall false to other at holds here proper within = reaches_step from s k other c proper (branch_goes test false width reg k other c true holds here) since rel
+      fall false to other at holds here proper within =
+          reaches_step from s k other c proper (branch_goes test false width reg k other c true holds here) since rel
 
       jumps : (p : Bool) → test_holds (branch_test test true width reg) c ≡ p → slice_get z.code k ≡ Some (branch_item test true width reg then_label)
           → IsProperAt z k c → Among z.code (k + 1) (jump_to next else_label) → NextAt z next (k + 1 + length (jump_to next else_label))
           → Reaches z from (air.At (if p then then_label else else_label) s) k c
-      jumps true holds here proper items at = reaches_step from s k then_label c proper (branch_goes test true width reg k then_label c true holds here) since rel
+      jumps true holds here proper items at = reaches_step from s k then_label c proper (branch_goes test true width reg k then_label c true holds here)
+          since rel
       jumps false holds here proper items at =
-          let runs = one_runs s k c (branch_item test true width reg then_label) here (branch_safe z (moved_to (address_of z k) c) test true width reg then_label)
+          let runs = one_runs s k c (branch_item test true width reg then_label) here
+              (branch_safe z (moved_to (address_of z k) c) test true width reg then_label)
           (branch_goes test true width reg k then_label c false holds here) rel in
           leads_on z from (air.At else_label s) k 1 c c runs
-          (jump_reaches from s (k + 1) next else_label runs.last within_else items at since (alike_related z s c runs.last runs.alike (runs.small rel.frame.words.pc) rel))
+          (jump_reaches from s (k + 1) next else_label runs.last within_else items at since
+          (alike_related z s c runs.last runs.alike (runs.small rel.frame.words.pc) rel))

@@ -51,16 +51,19 @@ unfolding insts_items
 insts_both f next label targets [] last = refl
 insts_both f next label targets (i ∷ body) last =
     ap (λ (xs : List Item). inst_items f next label targets i.op i.operands ++ xs) (insts_both f next label targets body last)
-    ∙ sym (append_assoc (inst_items f next label targets i.op i.operands) (insts_items f next label targets body) (insts_items f next label targets (last ∷ [])))
+    ∙ sym (append_assoc (inst_items f next label targets i.op i.operands) (insts_items f next label targets body)
+        (insts_items f next label targets (last ∷ [])))
 
-insts_one : (f : Frame) (next label : ℕ) (targets : List ℕ) (last : AirInst) → insts_items f next label targets (last ∷ []) ≡ inst_items f next label targets last.op last.operands
+insts_one : (f : Frame) (next label : ℕ) (targets : List ℕ) (last : AirInst)
+    → insts_items f next label targets (last ∷ []) ≡ inst_items f next label targets last.op last.operands
 unfolding insts_items
 insts_one f next label targets last = append-nil (inst_items f next label targets last.op last.operands)
 
 -- the prologue stands first
 front_among : (p : AirProc) (f : Frame) → Among (emitted p f) 0 (plains (prologue f))
 unfolding emitted
-front_among p f = among_first (plains (prologue f) ++ blocks_items f 0 (length p.blocks) p.blocks) 0 (plains (prologue f)) (blocks_items f 0 (length p.blocks) p.blocks)
+front_among p f = among_first (plains (prologue f) ++ blocks_items f 0 (length p.blocks) p.blocks) 0 (plains (prologue f))
+    (blocks_items f 0 (length p.blocks) p.blocks)
     (λ j item there. ap (slice_get (plains (prologue f) ++ blocks_items f 0 (length p.blocks) p.blocks)) (omega arith) ∙ there)
 
 prologue_some : (f : Frame) → 1 ≤ length (prologue f)
@@ -69,7 +72,8 @@ prologue_some f = omega arith
 
 -- ---- blocks
 
-module _ (z : Setting) (set : IsSet z) (serves : IsFrameOf z.procedure z.frame) (well : IsWellFormed z.procedure) (no_tmps : z.procedure.tmps ≡ 0) (built : IsBuilt z.procedure)
+module _ (z : Setting) (set : IsSet z) (serves : IsFrameOf z.procedure z.frame) (well : IsWellFormed z.procedure) (no_tmps : z.procedure.tmps ≡ 0)
+    (built : IsBuilt z.procedure)
     (is_code : z.code ≡ emitted z.procedure z.frame) (unmarked : (k : ℕ) → run.mark_before z.code k ≡ None)
     (b : ℕ) (block : AirBlock) (there : slice_get z.procedure.blocks b ≡ Some block) where
   good : IsGoodBlock z.procedure block
@@ -141,7 +145,8 @@ module _ (z : Setting) (set : IsSet z) (serves : IsFrameOf z.procedure z.frame) 
       omega arith
 
   -- the next label stands behind the block
-  next_at : b + 1 < length z.procedure.blocks → (position_of z.code (b + 1) ≡ end + length last_items) × (slice_get z.code (end + length last_items) ≡ Some (Label (b + 1)))
+  next_at : b + 1 < length z.procedure.blocks
+      → (position_of z.code (b + 1) ≡ end + length last_items) × (slice_get z.code (end + length last_items) ≡ Some (Label (b + 1)))
   unfolding start items_of
   next_at lt =
       let none : AirBlock = record { insts = []; targets = [] } in
@@ -155,7 +160,8 @@ module _ (z : Setting) (set : IsSet z) (serves : IsFrameOf z.procedure z.frame) 
 
   behind : (c : ℕ) → c < length z.procedure.blocks → place z.code z.long (position_of z.code c) < place z.code z.long (length z.code)
   behind c lt =
-      subst (λ code. place code z.long (position_of code c) < place code z.long (length code)) (sym is_code) (ahead_of_blocks z.procedure z.frame well z.long c lt)
+      subst (λ code. place code z.long (position_of code c) < place code z.long (length code)) (sym is_code)
+          (ahead_of_blocks z.procedure z.frame well z.long c lt)
 
   at_end : AtEnd z block.targets (b + 1) stands.own end good.last.op good.last.operands
   unfolding last_items
@@ -211,7 +217,8 @@ module _ (z : Setting) (set : IsSet z) (serves : IsFrameOf z.procedure z.frame) 
       let zero_at : position_of z.code 0 ≡ n = ap (position_of z.code) (sym is) ∙ at in
       let room : place z.code z.long (0 + n) < place z.code z.long (length z.code) =
       subst (λ k. place z.code z.long k < place z.code z.long (length z.code)) (at ∙ omega arith) (behind b within) in
-      let front : Among z.code 0 (plains (prologue z.frame)) = subst (λ code. Among code 0 (plains (prologue z.frame))) (sym is_code) (front_among z.procedure z.frame) in
+      let front : Among z.code 0 (plains (prologue z.frame)) =
+          subst (λ code. Among code 0 (plains (prologue z.frame))) (sym is_code) (front_among z.procedure z.frame) in
       let runs = straight_runs z set unmarked 0 c entered.after (prologue z.frame) entered.does (among_plains z.code 0 (prologue z.frame) front) room in
       entry_carries z set serves block (first_state z answers) n c entered.after (ap (slice_get z.procedure.blocks) (sym is) ∙ there)
       (ap (slice_get z.code) (sym zero_at) ∙ subst (λ k. slice_get z.code (position_of z.code k) ≡ Some (Label k)) is label_there)

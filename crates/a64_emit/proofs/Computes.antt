@@ -75,7 +75,8 @@ pub result_small : (z : Setting) (m : Machine) (inst : Inst) (reg w : ℕ) → H
 result_small z m inst reg w f plain does =
     let pc : ℕ = m.registers.pc in
     let left = step_of-LeavesWords inst (moved_to pc m).registers m.memory plain.fields f.words f.bytes in
-    let there : (step_of inst (moved_to pc m).registers m.memory).registers.x reg ≡ w = ap (λ (t : Stepped). t.registers.x reg) (does pc) ∙ put_same (moved_to pc m) reg w in
+    let there : (step_of inst (moved_to pc m).registers m.memory).registers.x reg ≡ w = ap (λ (t : Stepped). t.registers.x reg) (does pc)
+        ∙ put_same (moved_to pc m) reg w in
     subst (λ v. v < 2 ^ 64) there (left.words.x reg)
 
 -- no instructions more
@@ -92,7 +93,8 @@ module _ (z : Setting) (set : IsSet z) (serves : IsFrameOf z.procedure z.frame) 
       → Finished z set serves s m (inst ∷ put_result z.frame (result_reg (At home)) (At home)) home (Holds width result)
   ends_by s m inst home width result rel may plain does =
       finish z set serves s m inst home width result rel may
-      (puts_one z m inst (result_reg (At home)) result (whole_of z set serves m rel.frame) (result_most z set serves home may).1 (λ pc. plain.touches (moved_to pc m).registers) does)
+      (puts_one z m inst (result_reg (At home)) result (whole_of z set serves m rel.frame) (result_most z set serves home may).1
+      (λ pc. plain.touches (moved_to pc m).registers) does)
       (result_small z m inst (result_reg (At home)) result rel.frame plain does)
 
   -- ---- one source
@@ -107,13 +109,16 @@ module _ (z : Setting) (set : IsSet z) (serves : IsFrameOf z.procedure z.frame) 
       let first = fetch_word z set serves s c 15 a.arg a.width x rel usable scratch_15 reads in
       let m : Machine = first.0.after in
       let rel_m = keeps_related z s c m (fetched_keeps z c (fetch z.frame 15 a.arg) 15 scratch_15 first.0) rel in
-      let Code : Arg → List Inst = λ arg. fetch z.frame 15 a.arg ++ [] ++ [] ++ computing i.op a.width (result_reg arg) (source_of 15 a.arg) (source_of 16 arg) (Constant 0) ∷ put_result z.frame (result_reg arg) arg in
+      let Code : Arg → List Inst = λ arg. fetch z.frame 15 a.arg ++ [] ++ [] ++ computing i.op a.width (result_reg arg) (source_of 15 a.arg)
+          (source_of 16 arg) (Constant 0) ∷ put_result z.frame (result_reg arg) arg in
       let fits_home : IsComputed i.op a.width (source_of 16 (At home)) = subst (λ arg. IsComputed i.op a.width (source_of 16 arg)) is.arg fits in
       let rd : ℕ = result_reg (At home) in
       let last = ends_by s m (computing i.op a.width rd (source_of 15 a.arg) (source_of 16 (At home)) (Constant 0)) home d.width w rel_m may
-      (computing_plain i.op a.width rd (source_of 15 a.arg) (source_of 16 (At home)) (Constant 0) (le_more rd (result_most z set serves home may).0) (source_most z 15 a.arg (omega arith) usable)
+      (computing_plain i.op a.width rd (source_of 15 a.arg) (source_of 16 (At home)) (Constant 0) (le_more rd (result_most z set serves home may).0)
+      (source_most z 15 a.arg (omega arith) usable)
       (source_most z 16 (At home) (omega arith) (place_usable z home may)) (omega arith) fits_home)
-      (λ pc. one_computed (moved_to pc m).registers m.memory rd (result_most z set serves home may).0 rel_m.frame.words.x i.op a.width (source_of 15 a.arg) (source_of 16 (At home)) (Constant 0) x w at is_a first.1 gives) in
+      (λ pc. one_computed (moved_to pc m).registers m.memory rd (result_most z set serves home may).0 rel_m.frame.words.x i.op a.width
+      (source_of 15 a.arg) (source_of 16 (At home)) (Constant 0) x w at is_a first.1 gives) in
       record {
         next = with_home s home (Holds d.width w);
         after = last.after;
@@ -121,7 +126,8 @@ module _ (z : Setting) (set : IsSet z) (serves : IsFrameOf z.procedure z.frame) 
         does = subst (λ os. Does z c (inst_code z.frame i.op os) last.after) (sym operands)
             (subst (λ insts. Does z c insts last.after) (sym code)
             (subst (λ arg. Does z c (Code arg) last.after) (sym is.arg)
-            (does_both z c m last.after ((fetch z.frame 15 a.arg ++ []) ++ []) _ (does_more z c m ((fetch z.frame 15 a.arg ++ [])) (does_more z c m (fetch z.frame 15 a.arg) first.0.does)) last.does)));
+            (does_both z c m last.after ((fetch z.frame 15 a.arg ++ []) ++ []) _
+            (does_more z c m ((fetch z.frame 15 a.arg ++ [])) (does_more z c m (fetch z.frame 15 a.arg) first.0.does)) last.does)));
         related = last.related;
         world = refl;
       }
@@ -133,7 +139,8 @@ module _ (z : Setting) (set : IsSet z) (serves : IsFrameOf z.procedure z.frame) 
       → IsComputed i.op a.width (source_of 16 d.arg) → InstRuns z i s c
   one_runs i s c a d home operands code kind role is rel usable may at is_a fits =
       let reads : words s.homes i.operands ≡ and_word a.width (word_of s.homes a.width a.arg) (Some []) =
-      ap (words s.homes) operands ∙ words_use s.homes a (d ∷ []) role ∙ ap (and_word a.width (word_of s.homes a.width a.arg)) (words_result s.homes d home is) in
+      ap (words s.homes) operands ∙ words_use s.homes a (d ∷ []) role
+          ∙ ap (and_word a.width (word_of s.homes a.width a.arg)) (words_result s.homes d home is) in
       let writes = ap targets operands ∙ targets_use a (d ∷ []) role ∙ targets_result d home is in
       elim (word_of s.homes a.width a.arg) as (λ o. word_of s.homes a.width a.arg ≡ o → InstRuns z i s c) [
         | None ↦ λ e. inl (step_lost z.start i s (reads ∙ ap (λ o. and_word a.width o (Some [])) e))
@@ -180,7 +187,8 @@ module _ (z : Setting) (set : IsSet z) (serves : IsFrameOf z.procedure z.frame) 
 
   two_end : (i : AirInst) (s : State) (c : Machine) (a b d : Operand) (home : Home) (x y w : ℕ) → i.operands ≡ a ∷ b ∷ d ∷ []
       → inst_code z.frame i.op (a ∷ b ∷ d ∷ []) ≡ compute_code z.frame i.op (a ∷ b ∷ d ∷ [])
-      → IsWritten d home → IsRelated z s c → IsUsable z a.arg → IsUsable z b.arg → IsPlaceFor z home → IsWidthOf i.op a.width → b.width ≡ second_width i.op a.width
+      → IsWritten d home → IsRelated z s c → IsUsable z a.arg → IsUsable z b.arg → IsPlaceFor z home → IsWidthOf i.op a.width
+      → b.width ≡ second_width i.op a.width
       → IsRegister (source_of 15 a.arg) → (takes_constant i.op ≡ false → IsRegister (source_of 16 b.arg)) → IsComputed i.op a.width (source_of 16 b.arg)
       → word_of s.homes a.width a.arg ≡ Some x → word_of s.homes b.width b.arg ≡ Some y → computed i.op a.width (x ∷ y ∷ []) ≡ Some w
       → ((junk : List ℕ) → step (meaning z.start) i s junk ≡ (Goes None (with_home s home (Holds d.width w)), junk)) → Carried z i s c
@@ -191,9 +199,11 @@ module _ (z : Setting) (set : IsSet z) (serves : IsFrameOf z.procedure z.frame) 
       computing i.op a.width (result_reg arg) (source_of 15 a.arg) (source_of 16 b.arg) (source_of 17 arg) ∷ put_result z.frame (result_reg arg) arg in
       let rd : ℕ = result_reg (At home) in
       let last = ends_by s m (computing i.op a.width rd (source_of 15 a.arg) (source_of 16 b.arg) (source_of 17 (At home))) home d.width w two.related may
-      (computing_plain i.op a.width rd (source_of 15 a.arg) (source_of 16 b.arg) (source_of 17 (At home)) (le_more rd (result_most z set serves home may).0) (source_most z 15 a.arg (omega arith) usable_a)
+      (computing_plain i.op a.width rd (source_of 15 a.arg) (source_of 16 b.arg) (source_of 17 (At home))
+      (le_more rd (result_most z set serves home may).0) (source_most z 15 a.arg (omega arith) usable_a)
       (source_most z 16 b.arg (omega arith) usable_b) (source_most z 17 (At home) (omega arith) (place_usable z home may)) fits)
-      (λ pc. two_computed (moved_to pc m).registers m.memory rd (result_most z set serves home may).0 two.related.frame.words.x i.op a.width (source_of 15 a.arg) (source_of 16 b.arg) (source_of 17 (At home))
+      (λ pc. two_computed (moved_to pc m).registers m.memory rd (result_most z set serves home may).0 two.related.frame.words.x i.op a.width
+      (source_of 15 a.arg) (source_of 16 b.arg) (source_of 17 (At home))
       x y w at is_a is_b fits two.gives_a (subst (λ v. Gives m.registers (source_of 16 b.arg) v y) width_b two.gives_b) gives) in
       record {
         next = with_home s home (Holds d.width w);
@@ -203,7 +213,8 @@ module _ (z : Setting) (set : IsSet z) (serves : IsFrameOf z.procedure z.frame) 
             (subst (λ insts. Does z c insts last.after) (sym code)
             (subst (λ arg. Does z c (Code arg) last.after) (sym is.arg)
             (does_both z c m last.after ((fetch z.frame 15 a.arg ++ fetch z.frame 16 b.arg) ++ []) _
-            (does_more z c m (fetch z.frame 15 a.arg ++ fetch z.frame 16 b.arg) (does_both z c two.between m (fetch z.frame 15 a.arg) (fetch z.frame 16 b.arg) two.first two.second))
+            (does_more z c m (fetch z.frame 15 a.arg ++ fetch z.frame 16 b.arg)
+            (does_both z c two.between m (fetch z.frame 15 a.arg) (fetch z.frame 16 b.arg) two.first two.second))
             last.does)));
         related = last.related;
         world = refl;
@@ -212,8 +223,10 @@ module _ (z : Setting) (set : IsSet z) (serves : IsFrameOf z.procedure z.frame) 
   pub two_runs : (i : AirInst) (s : State) (c : Machine) (a b d : Operand) (home : Home) → i.operands ≡ a ∷ b ∷ d ∷ []
       → inst_code z.frame i.op (a ∷ b ∷ d ∷ []) ≡ compute_code z.frame i.op (a ∷ b ∷ d ∷ [])
       → kind_of i.op ≡ Computes → a.role ≡ Use → b.role ≡ Use
-      → IsWritten d home → IsRelated z s c → IsUsable z a.arg → IsUsable z b.arg → IsPlaceFor z home → IsWidthOf i.op a.width → b.width ≡ second_width i.op a.width
-      → IsRegister (source_of 15 a.arg) → (takes_constant i.op ≡ false → IsRegister (source_of 16 b.arg)) → IsComputed i.op a.width (source_of 16 b.arg) → InstRuns z i s c
+      → IsWritten d home → IsRelated z s c → IsUsable z a.arg → IsUsable z b.arg → IsPlaceFor z home → IsWidthOf i.op a.width
+      → b.width ≡ second_width i.op a.width
+      → IsRegister (source_of 15 a.arg) → (takes_constant i.op ≡ false → IsRegister (source_of 16 b.arg)) → IsComputed i.op a.width (source_of 16 b.arg)
+      → InstRuns z i s c
   two_runs i s c a b d home operands code kind role_a role_b is rel usable_a usable_b may at width_b is_a is_b fits =
       let A : Option ℕ = word_of s.homes a.width a.arg in
       let B : Option ℕ = word_of s.homes b.width b.arg in
@@ -225,13 +238,17 @@ module _ (z : Setting) (set : IsSet z) (serves : IsFrameOf z.procedure z.frame) 
         | None ↦ λ e. inl (step_lost z.start i s (reads ∙ ap (λ o. and_word a.width o (and_word b.width B (Some []))) e))
         | Some x ↦ λ e.
             elim (word_of s.homes b.width b.arg) as (λ o. word_of s.homes b.width b.arg ≡ o → InstRuns z i s c) [
-              | None ↦ λ f. inl (step_lost z.start i s (reads ∙ ap (λ o. and_word a.width o (and_word b.width B (Some []))) e ∙ ap (λ o. and_word a.width (Some x) (and_word b.width o (Some []))) f))
+              | None ↦ λ f. inl (step_lost z.start i s (reads ∙ ap (λ o. and_word a.width o (and_word b.width B (Some []))) e
+                  ∙ ap (λ o. and_word a.width (Some x) (and_word b.width o (Some []))) f))
               | Some y ↦ λ f.
-                  let read = reads ∙ ap (λ o. and_word a.width o (and_word b.width B (Some []))) e ∙ ap (λ o. and_word a.width (Some x) (and_word b.width o (Some []))) f in
+                  let read = reads ∙ ap (λ o. and_word a.width o (and_word b.width B (Some []))) e
+                      ∙ ap (λ o. and_word a.width (Some x) (and_word b.width o (Some []))) f in
                   elim (computed i.op a.width (x ∷ y ∷ [])) as (λ o. computed i.op a.width (x ∷ y ∷ []) ≡ o → InstRuns z i s c) [
-                    | None ↦ λ n. inl (step_without z.start i s ((a.width, x) ∷ (b.width, y) ∷ []) read (computes_none z.start i s ((a.width, x) ∷ (b.width, y) ∷ []) kind n))
+                    | None ↦ λ n. inl (step_without z.start i s ((a.width, x) ∷ (b.width, y) ∷ []) read
+                        (computes_none z.start i s ((a.width, x) ∷ (b.width, y) ∷ []) kind n))
                     | Some w ↦ λ g. inr (two_end i s c a b d home x y w operands code is rel usable_a usable_b may at width_b is_a is_b fits e f g
-                        (step_gives z.start i s ((a.width, x) ∷ (b.width, y) ∷ []) home d.width w read writes (computes_word z.start i s ((a.width, x) ∷ (b.width, y) ∷ []) w kind g)))
+                        (step_gives z.start i s ((a.width, x) ∷ (b.width, y) ∷ []) home d.width w read writes
+                        (computes_word z.start i s ((a.width, x) ∷ (b.width, y) ∷ []) w kind g)))
                   ] refl
             ] refl
       ] refl
@@ -243,9 +260,11 @@ module _ (z : Setting) (set : IsSet z) (serves : IsFrameOf z.procedure z.frame) 
       → IsWritten d home → IsRelated z s c → IsUsable z a.arg → IsUsable z b.arg → IsUsable z e.arg → IsPlaceFor z home → IsWidthOf i.op a.width
       → b.width ≡ a.width → e.width ≡ a.width
       → IsRegister (source_of 15 a.arg) → IsRegister (source_of 16 b.arg) → IsRegister (source_of 17 e.arg) → IsComputed i.op a.width (source_of 16 b.arg)
-      → word_of s.homes a.width a.arg ≡ Some x → word_of s.homes b.width b.arg ≡ Some y → word_of s.homes e.width e.arg ≡ Some v → computed i.op a.width (x ∷ y ∷ v ∷ []) ≡ Some w
+      → word_of s.homes a.width a.arg ≡ Some x → word_of s.homes b.width b.arg ≡ Some y → word_of s.homes e.width e.arg ≡ Some v
+      → computed i.op a.width (x ∷ y ∷ v ∷ []) ≡ Some w
       → ((junk : List ℕ) → step (meaning z.start) i s junk ≡ (Goes None (with_home s home (Holds d.width w)), junk)) → Carried z i s c
-  three_end i s c a b e d home x y v w operands code is rel usable_a usable_b usable_e may at width_b width_e is_a is_b is_e fits reads_a reads_b reads_e gives steps =
+  three_end i s c a b e d home x y v w operands code is rel usable_a usable_b usable_e may at width_b width_e is_a is_b is_e fits reads_a reads_b
+      reads_e gives steps =
       let two = fetch_two s c a.arg b.arg a.width b.width x y rel usable_a usable_b reads_a reads_b in
       let third = fetch_word z set serves s two.after 17 e.arg e.width v two.related usable_e scratch_17 reads_e in
       let m : Machine = third.0.after in
@@ -258,10 +277,13 @@ module _ (z : Setting) (set : IsSet z) (serves : IsFrameOf z.procedure z.frame) 
       computing i.op a.width (result_reg arg) (source_of 15 a.arg) (source_of 16 b.arg) (source_of 17 e.arg) ∷ put_result z.frame (result_reg arg) arg in
       let rd : ℕ = result_reg (At home) in
       let last = ends_by s m (computing i.op a.width rd (source_of 15 a.arg) (source_of 16 b.arg) (source_of 17 e.arg)) home d.width w rel_m may
-      (computing_plain i.op a.width rd (source_of 15 a.arg) (source_of 16 b.arg) (source_of 17 e.arg) (le_more rd (result_most z set serves home may).0) (source_most z 15 a.arg (omega arith) usable_a)
+      (computing_plain i.op a.width rd (source_of 15 a.arg) (source_of 16 b.arg) (source_of 17 e.arg) (le_more rd (result_most z set serves home may).0)
+      (source_most z 15 a.arg (omega arith) usable_a)
       (source_most z 16 b.arg (omega arith) usable_b) (source_most z 17 e.arg (omega arith) usable_e) fits)
-      (λ pc. three_computed (moved_to pc m).registers m.memory rd (result_most z set serves home may).0 rel_m.frame.words.x i.op a.width (source_of 15 a.arg) (source_of 16 b.arg) (source_of 17 e.arg)
-      x y v w at is_a is_b is_e gives_a (subst (λ u. Gives m.registers (source_of 16 b.arg) u y) width_b gives_b) (subst (λ u. Gives m.registers (source_of 17 e.arg) u v) width_e third.1) gives) in
+      (λ pc. three_computed (moved_to pc m).registers m.memory rd (result_most z set serves home may).0 rel_m.frame.words.x i.op a.width
+      (source_of 15 a.arg) (source_of 16 b.arg) (source_of 17 e.arg)
+      x y v w at is_a is_b is_e gives_a (subst (λ u. Gives m.registers (source_of 16 b.arg) u y) width_b gives_b)
+          (subst (λ u. Gives m.registers (source_of 17 e.arg) u v) width_e third.1) gives) in
       record {
         next = with_home s home (Holds d.width w);
         after = last.after;
@@ -282,7 +304,8 @@ module _ (z : Setting) (set : IsSet z) (serves : IsFrameOf z.procedure z.frame) 
       → kind_of i.op ≡ Computes → a.role ≡ Use → b.role ≡ Use → e.role ≡ Use
       → IsWritten d home → IsRelated z s c → IsUsable z a.arg → IsUsable z b.arg → IsUsable z e.arg → IsPlaceFor z home → IsWidthOf i.op a.width
       → b.width ≡ a.width → e.width ≡ a.width
-      → IsRegister (source_of 15 a.arg) → IsRegister (source_of 16 b.arg) → IsRegister (source_of 17 e.arg) → IsComputed i.op a.width (source_of 16 b.arg) → InstRuns z i s c
+      → IsRegister (source_of 15 a.arg) → IsRegister (source_of 16 b.arg) → IsRegister (source_of 17 e.arg)
+      → IsComputed i.op a.width (source_of 16 b.arg) → InstRuns z i s c
   three_runs i s c a b e d home operands code kind role_a role_b role_e is rel usable_a usable_b usable_e may at width_b width_e is_a is_b is_e fits =
       let All : Option ℕ → Option ℕ → Option ℕ → Option (List Read) = λ A B E. and_word a.width A (and_word b.width B (and_word e.width E (Some []))) in
       let A : Option ℕ = word_of s.homes a.width a.arg in
@@ -290,8 +313,10 @@ module _ (z : Setting) (set : IsSet z) (serves : IsFrameOf z.procedure z.frame) 
       let E : Option ℕ = word_of s.homes e.width e.arg in
       let reads : words s.homes i.operands ≡ All A B E =
       ap (words s.homes) operands ∙ words_use s.homes a (b ∷ e ∷ d ∷ []) role_a
-      ∙ ap (and_word a.width A) (words_use s.homes b (e ∷ d ∷ []) role_b ∙ ap (and_word b.width B) (words_use s.homes e (d ∷ []) role_e ∙ ap (and_word e.width E) (words_result s.homes d home is))) in
-      let writes = ap targets operands ∙ targets_use a (b ∷ e ∷ d ∷ []) role_a ∙ targets_use b (e ∷ d ∷ []) role_b ∙ targets_use e (d ∷ []) role_e ∙ targets_result d home is in
+      ∙ ap (and_word a.width A) (words_use s.homes b (e ∷ d ∷ []) role_b
+      ∙ ap (and_word b.width B) (words_use s.homes e (d ∷ []) role_e ∙ ap (and_word e.width E) (words_result s.homes d home is))) in
+      let writes = ap targets operands ∙ targets_use a (b ∷ e ∷ d ∷ []) role_a ∙ targets_use b (e ∷ d ∷ []) role_b ∙ targets_use e (d ∷ []) role_e
+          ∙ targets_result d home is in
       elim (word_of s.homes a.width a.arg) as (λ o. word_of s.homes a.width a.arg ≡ o → InstRuns z i s c) [
         | None ↦ λ p. inl (step_lost z.start i s (reads ∙ ap (λ o. All o B E) p))
         | Some x ↦ λ p.
@@ -299,13 +324,15 @@ module _ (z : Setting) (set : IsSet z) (serves : IsFrameOf z.procedure z.frame) 
               | None ↦ λ q. inl (step_lost z.start i s (reads ∙ ap (λ o. All o B E) p ∙ ap (λ o. All (Some x) o E) q))
               | Some y ↦ λ q.
                   elim (word_of s.homes e.width e.arg) as (λ o. word_of s.homes e.width e.arg ≡ o → InstRuns z i s c) [
-                    | None ↦ λ r. inl (step_lost z.start i s (reads ∙ ap (λ o. All o B E) p ∙ ap (λ o. All (Some x) o E) q ∙ ap (λ o. All (Some x) (Some y) o) r))
+                    | None ↦ λ r. inl (step_lost z.start i s (reads ∙ ap (λ o. All o B E) p ∙ ap (λ o. All (Some x) o E) q
+                        ∙ ap (λ o. All (Some x) (Some y) o) r))
                     | Some v ↦ λ r.
                         let read = reads ∙ ap (λ o. All o B E) p ∙ ap (λ o. All (Some x) o E) q ∙ ap (λ o. All (Some x) (Some y) o) r in
                         let rs : List Read = (a.width, x) ∷ (b.width, y) ∷ (e.width, v) ∷ [] in
                         elim (computed i.op a.width (x ∷ y ∷ v ∷ [])) as (λ o. computed i.op a.width (x ∷ y ∷ v ∷ []) ≡ o → InstRuns z i s c) [
                           | None ↦ λ n. inl (step_without z.start i s rs read (computes_none z.start i s rs kind n))
-                          | Some w ↦ λ g. inr (three_end i s c a b e d home x y v w operands code is rel usable_a usable_b usable_e may at width_b width_e is_a is_b is_e fits p q r g
+                          | Some w ↦ λ g. inr (three_end i s c a b e d home x y v w operands code is rel usable_a usable_b usable_e may at width_b
+                              width_e is_a is_b is_e fits p q r g
                               (step_gives z.start i s rs home d.width w read writes (computes_word z.start i s rs w kind g)))
                         ] refl
                   ] refl

@@ -55,7 +55,8 @@ module _ (z : Setting) (set : IsSet z) (serves : IsFrameOf z.procedure z.frame) 
     pub puts : Puts z c insts reg word
     pub is : low width word ≡ x
 
-  brings : (s : State) (c : Machine) (width : Width) (reg : ℕ) (from : Arg) (x : ℕ) → IsRelated z s c → IsUsable z from → IsConstantOf width from → reg ≤ 30 → reg ≢ 18
+  brings : (s : State) (c : Machine) (width : Width) (reg : ℕ) (from : Arg) (x : ℕ) → IsRelated z s c → IsUsable z from → IsConstantOf width from
+      → reg ≤ 30 → reg ≢ 18
       → word_of s.homes width from ≡ Some x → Brings c (bring z.frame width reg from) reg width x
   unfolding bring word_of
   brings s c width reg (At (Reg q)) x rel usable fits le other e =
@@ -100,7 +101,8 @@ module _ (z : Setting) (set : IsSet z) (serves : IsFrameOf z.procedure z.frame) 
   brings s c width reg (FrameSlot n) x rel usable fits le other e = absurd usable
 
   -- into a register
-  to_reg : (s : State) (c : Machine) (width : Width) (from : Arg) (r : Register) (x : ℕ) → IsRelated z s c → IsUsable z from → IsConstantOf width from → IsPlaceFor z (Reg r)
+  to_reg : (s : State) (c : Machine) (width : Width) (from : Arg) (r : Register) (x : ℕ) → IsRelated z s c → IsUsable z from → IsConstantOf width from
+      → IsPlaceFor z (Reg r)
       → word_of s.homes width from ≡ Some x → Finished z set serves s c (bring z.frame width r.0 from ++ []) (Reg r) (Holds width x)
   to_reg s c width from r x rel usable fits may e =
       let most = result_most z set serves (Reg r) may in
@@ -119,7 +121,8 @@ module _ (z : Setting) (set : IsSet z) (serves : IsFrameOf z.procedure z.frame) 
       }
 
   -- into a spill place, through x17
-  to_spill : (s : State) (c : Machine) (width : Width) (from : Arg) (n x : ℕ) → IsRelated z s c → IsUsable z from → IsConstantOf width from → IsPlaceFor z (Spill n)
+  to_spill : (s : State) (c : Machine) (width : Width) (from : Arg) (n x : ℕ) → IsRelated z s c → IsUsable z from → IsConstantOf width from
+      → IsPlaceFor z (Spill n)
       → word_of s.homes width from ≡ Some x
       → Finished z set serves s c (bring z.frame width 17 from ++ store_at 17 (above_sp z.frame (spill_offset z.frame n))) (Spill n) (Holds width x)
   to_spill s c width from n x rel usable fits may e =
@@ -142,7 +145,8 @@ module _ (z : Setting) (set : IsSet z) (serves : IsFrameOf z.procedure z.frame) 
   reg_to_spill s c width q n x rel usable may e =
       let carried = reads_carried width (s.homes (Reg q)) (c.registers.x q.0) x (rel.registers q usable) e in
       let f = spill_stores z set serves s c c q.0 n (c.registers.x q.0) x width rel
-      (record { sp = refl; memory = refl; x = λ r kept. refl; words = rel.frame.words }) may (allocatable_most q usable) (allocatable_other q 15 usable (omega arith, omega arith)) refl
+      (record { sp = refl; memory = refl; x = λ r kept. refl; words = rel.frame.words }) may (allocatable_most q usable)
+      (allocatable_other q 15 usable (omega arith, omega arith)) refl
       (rel.frame.words.x q.0) (same_low width (c.registers.x q.0) x carried) in
       record {
         after = f.after;
@@ -150,7 +154,8 @@ module _ (z : Setting) (set : IsSet z) (serves : IsFrameOf z.procedure z.frame) 
         related = f.related;
       }
 
-  copied : (s : State) (c : Machine) (width : Width) (from : Arg) (home : Home) (x : ℕ) → IsRelated z s c → IsUsable z from → IsConstantOf width from → IsPlaceFor z home
+  copied : (s : State) (c : Machine) (width : Width) (from : Arg) (home : Home) (x : ℕ) → IsRelated z s c → IsUsable z from → IsConstantOf width from
+      → IsPlaceFor z home
       → word_of s.homes width from ≡ Some x → Finished z set serves s c (copy_code z.frame width from (At home)) home (Holds width x)
   unfolding put_result
   copied s c width from (Tmp n) x rel usable fits may e = absurd may
@@ -174,7 +179,8 @@ module _ (z : Setting) (set : IsSet z) (serves : IsFrameOf z.procedure z.frame) 
       → IsWritten d home → IsRelated z s c → IsUsable z a.arg → IsConstantOf a.width a.arg → IsPlaceFor z home → InstRuns z i s c
   copy_runs i s c a d home operands code kind role width is rel usable fits may =
       let reads : words s.homes i.operands ≡ and_word a.width (word_of s.homes a.width a.arg) (Some []) =
-      ap (words s.homes) operands ∙ words_use s.homes a (d ∷ []) role ∙ ap (and_word a.width (word_of s.homes a.width a.arg)) (words_result s.homes d home is) in
+      ap (words s.homes) operands ∙ words_use s.homes a (d ∷ []) role
+          ∙ ap (and_word a.width (word_of s.homes a.width a.arg)) (words_result s.homes d home is) in
       let writes = ap targets operands ∙ targets_use a (d ∷ []) role ∙ targets_result d home is in
       elim (word_of s.homes a.width a.arg) as (λ o. word_of s.homes a.width a.arg ≡ o → InstRuns z i s c) [
         | None ↦ λ e. inl (step_lost z.start i s (reads ∙ ap (λ o. and_word a.width o (Some [])) e))
@@ -183,9 +189,11 @@ module _ (z : Setting) (set : IsSet z) (serves : IsFrameOf z.procedure z.frame) 
             inr (record {
               next = with_home s home (Holds d.width x);
               after = f.after;
-              steps = step_gives z.start i s ((a.width, x) ∷ []) home d.width x (reads ∙ ap (λ o. and_word a.width o (Some [])) e) writes (copies_word z.start i s (a.width, x) kind);
+              steps = step_gives z.start i s ((a.width, x) ∷ []) home d.width x (reads ∙ ap (λ o. and_word a.width o (Some [])) e) writes
+                  (copies_word z.start i s (a.width, x) kind);
               does = subst (λ os. Does z c (inst_code z.frame i.op os) f.after) (sym operands)
-                  (subst (λ insts. Does z c insts f.after) (sym code) (subst (λ arg. Does z c (copy_code z.frame a.width a.arg arg) f.after) (sym is.arg) f.does));
+                  (subst (λ insts. Does z c insts f.after) (sym code)
+                  (subst (λ arg. Does z c (copy_code z.frame a.width a.arg arg) f.after) (sym is.arg) f.does));
               related = subst (λ w. IsRelated z (with_home s home (Holds w x)) f.after) (sym width) f.related;
               world = refl;
             })

@@ -90,14 +90,16 @@ pub record ReturnsWord (start : Start) (r : Returned_type) (i : AirInst) (s : St
   pub leaves : meaning start (operation i) rs s.world ≡ Some (record { results = []; world = s.world; exit = Some (Over (Returned word)) })
   pub is : (registers : Registers) → registers.x 0 ≡ x0 → returned_word r registers ≡ word
 
-module _ (start : Start) (i : AirInst) (s : State) (kind : kind_of i.op ≡ Returns) (x0 : ℕ) (small : x0 < 2 ^ 64) (carries : Carries (s.homes (Reg (record { 0 = 0 }))) x0) where
+module _ (start : Start) (i : AirInst) (s : State) (kind : kind_of i.op ≡ Returns) (x0 : ℕ) (small : x0 < 2 ^ 64)
+    (carries : Carries (s.homes (Reg (record { 0 = 0 }))) x0) where
   reads_word : (width : Width) (o : Option ℕ) → word_of s.homes width (At (Reg (record { 0 = 0 }))) ≡ o → i.operands ≡ operand_in Use width 0 ∷ []
       → (words s.homes i.operands ≡ None) ⊎ ((w : ℕ) × (words s.homes i.operands ≡ Some ((width, w) ∷ [])) × (low width x0 ≡ w))
   unfolding words word_of
   reads_word width None is os = inl (ap (words s.homes) os ∙ rw is refl)
   reads_word width (Some w) is os = inr (w, ap (words s.homes) os ∙ rw is refl, reads_carried width (s.homes (Reg (record { 0 = 0 }))) x0 w carries is)
 
-  leaves_word : (width : Width) (w : ℕ) → meaning start (operation i) ((width, w) ∷ []) s.world ≡ Some (record { results = []; world = s.world; exit = Some (Over (Returned (Some w))) })
+  leaves_word : (width : Width) (w : ℕ) → meaning start (operation i) ((width, w) ∷ []) s.world ≡ Some (record { results = []; world = s.world; exit =
+      Some (Over (Returned (Some w))) })
   unfolding meaning
   leaves_word width w = rw kind refl
 
@@ -154,7 +156,8 @@ module _ (z : Setting) (set : IsSet z) (serves : IsFrameOf z.procedure z.frame) 
 
   epilogue_is : epilogue z.frame ≡ before_ret ++ BranchReg Ret 30 ∷ []
   unfolding epilogue before_ret
-  epilogue_is = sym (append_assoc (restores z.frame z.frame.saved) (AddSubImm W64 false false 31 29 0 false ∷ PairSp true 29 30 (pos 2) ∷ []) (BranchReg Ret 30 ∷ []))
+  epilogue_is = sym (append_assoc (restores z.frame z.frame.saved) (AddSubImm W64 false false 31 29 0 false ∷ PairSp true 29 30 (pos 2) ∷ [])
+      (BranchReg Ret 30 ∷ []))
 
   stands_before : (k : ℕ) → Among z.code k (plains (epilogue z.frame)) → Among z.code k (plains before_ret)
   stands_before k among = among_first z.code k (plains before_ret) (plains (BranchReg Ret 30 ∷ []))
@@ -200,12 +203,15 @@ module _ (z : Setting) (set : IsSet z) (serves : IsFrameOf z.procedure z.frame) 
   return_reaches s k c word rel among is =
       let l = leaving z set serves c rel.frame in
       let ret = stands_ret k among in
-      let room = words_there z (k + length before_ret) (Plain (BranchReg Ret 30)) ret (slice_get_within z.code (k + length before_ret) (Plain (BranchReg Ret 30)) ret) (omega arith) in
-      let runs : Runs z k c (length before_ret) l.after = straight_runs z set unmarked k c l.after before_ret l.does (among_plains z.code k before_ret (stands_before k among)) room in
+      let room = words_there z (k + length before_ret) (Plain (BranchReg Ret 30)) ret
+          (slice_get_within z.code (k + length before_ret) (Plain (BranchReg Ret 30)) ret) (omega arith) in
+      let runs : Runs z k c (length before_ret) l.after =
+          straight_runs z set unmarked k c l.after before_ret l.does (among_plains z.code k before_ret (stands_before k among)) room in
       leads_on z s.world (air.Stopped (air.seen_as s.world (Returned word))) k (length before_ret) c l.after runs
       (reaches_here z s.world (air.Stopped (air.seen_as s.world (Returned word))) (k + length before_ret) runs.last
       (ret_proper (k + length before_ret) runs.last ret (whole_alike z runs.last l.after runs.alike l.whole))
-      (s.world, word, refl, refl, has_returned s.world word (k + length before_ret) c l.after runs.last l runs.alike (runs.small rel.frame.words.pc) ret rel.memory is))
+      (s.world, word, refl, refl, has_returned s.world word (k + length before_ret) c l.after runs.last l runs.alike
+      (runs.small rel.frame.words.pc) ret rel.memory is))
 
   pub return_ends : (i : AirInst) (s : State) (targets : List ℕ) (k : ℕ) (c : Machine) → i.op ≡ op.Return → i.operands ≡ returned z.procedure.returns
       → Among z.code k (plains (epilogue z.frame)) → IsRelated z s c → Ends z targets i s k c
@@ -217,7 +223,8 @@ module _ (z : Setting) (set : IsSet z) (serves : IsFrameOf z.procedure z.frame) 
         is = λ junk. ap (air.left targets) (step_leaves z.start i s r.rs (Over (Returned r.word)) r.reads r.writes r.leaves junk);
         reaches = return_reaches s k c r.word rel among r.is;
       })
-      (returns_word z.start i s (ap kind_of is) (c.registers.x 0) (rel.frame.words.x 0) (rel.registers (record { 0 = 0 }) (inl (omega arith))) z.procedure.returns os)
+      (returns_word z.start i s (ap kind_of is) (c.registers.x 0) (rel.frame.words.x 0) (rel.registers (record { 0 = 0 }) (inl (omega arith)))
+          z.procedure.returns os)
 
   -- ---- Jump and Oops
 
@@ -227,7 +234,8 @@ module _ (z : Setting) (set : IsSet z) (serves : IsFrameOf z.procedure z.frame) 
   leaves_to i s targets_of rs n target reads writes leaves there junk =
       ap (air.left targets_of) (step_leaves z.start i s rs (To n) reads writes leaves junk) ∙ ap (λ o. (air.entered o s, junk)) there
 
-  jumps_to : (i : AirInst) (s : State) → i.op ≡ op.Jump → meaning z.start (operation i) [] s.world ≡ Some (record { results = []; world = s.world; exit = Some (To 0) })
+  jumps_to : (i : AirInst) (s : State) → i.op ≡ op.Jump
+      → meaning z.start (operation i) [] s.world ≡ Some (record { results = []; world = s.world; exit = Some (To 0) })
   unfolding meaning
   jumps_to i s is = rw is refl
 
@@ -255,6 +263,7 @@ module _ (z : Setting) (set : IsSet z) (serves : IsFrameOf z.procedure z.frame) 
       → NextAt z next (k + length (jump_to next (get_or targets_of 0 0))) → IsRelated z s c → Ends z targets_of i s k c
   jump_ends i s targets_of next k c is os some within among at rel = record {
     next = air.At (get_or targets_of 0 0) s;
-    is = leaves_to i s targets_of [] 0 (get_or targets_of 0 0) (reads_none i s os) (writes_nothing i os) (jumps_to i s is) (slice_get-get_or targets_of 0 0 some);
+    is = leaves_to i s targets_of [] 0 (get_or targets_of 0 0) (reads_none i s os) (writes_nothing i os) (jumps_to i s is)
+        (slice_get-get_or targets_of 0 0 some);
     reaches = jump_reaches z set serves s.world s k next (get_or targets_of 0 0) c within among at (refl, refl) rel;
   }

@@ -42,17 +42,20 @@ lowers : (r : Registers) (m : Memory) (part n : ℕ) (high : Bool) → (if high 
 unfolding step_of add_sub_imm
 lowers r m part n high is small le = rw is (ap (λ (a : ℕ). goes_on (record r { sp = a }) m) (difference r.sp n small le))
 
-lower_one : (z : Setting) (c : Machine) (part n : ℕ) (high : Bool) → IsWhole z c → (if high then part * 4096 else part) ≡ n → c.registers.sp < 2 ^ 64 → n ≤ c.registers.sp
+lower_one : (z : Setting) (c : Machine) (part n : ℕ) (high : Bool) → IsWhole z c → (if high then part * 4096 else part) ≡ n → c.registers.sp < 2 ^ 64
+    → n ≤ c.registers.sp
     → DoesOne z c (AddSubImm W64 true false 31 31 part high) (with_sp c (c.registers.sp - n))
 lower_one z c part n high whole is small le =
     does_safely z c (with_sp c (c.registers.sp - n)) (AddSubImm W64 true false 31 31 part high) whole
     (touches_nothing c (AddSubImm W64 true false 31 31 part high) (λ pc. refl)) refl
     (λ pc. lowers (moved_to pc c).registers c.memory part n high is small le)
 
-lower_part : (z : Setting) (c : Machine) (part n : ℕ) (high : Bool) → IsWhole z c → (if high then part * 4096 else part) ≡ n → c.registers.sp < 2 ^ 64 → n ≤ c.registers.sp
+lower_part : (z : Setting) (c : Machine) (part n : ℕ) (high : Bool) → IsWhole z c → (if high then part * 4096 else part) ≡ n → c.registers.sp < 2 ^ 64
+    → n ≤ c.registers.sp
     → (part ≡ 0 → n ≡ 0) → Does z c (unless_zero part (AddSubImm W64 true false 31 31 part high ∷ [])) (with_sp c (c.registers.sp - n))
 lower_part z c part n high whole is small le none =
-    elim (nat_eq part 0) as (λ b. nat_eq part 0 ≡ b → Does z c (if b then [] else AddSubImm W64 true false 31 31 part high ∷ []) (with_sp c (c.registers.sp - n))) [
+    elim (nat_eq part 0) as (λ b. nat_eq part 0 ≡ b
+        → Does z c (if b then [] else AddSubImm W64 true false 31 31 part high ∷ []) (with_sp c (c.registers.sp - n))) [
       | true ↦ λ e.
           let zero_is : part ≡ 0 = grind (arith, nat_tests) in
           let nothing = none zero_is in
@@ -73,7 +76,8 @@ lower_sp_does z c bytes whole small le even =
     let high : ℕ = bytes / 4096 * 4096 in
     let d : Machine = with_sp c (c.registers.sp - high) in
     let first = lower_part z c (bytes / 4096) high true whole refl small (omega arith) (λ e. omega arith) in
-    let second = lower_part z d (bytes % 4096) (bytes % 4096) false (with_sp_whole z c (c.registers.sp - high) (omega arith) whole) refl (omega arith) (omega arith) (λ e. e) in
+    let second = lower_part z d (bytes % 4096) (bytes % 4096) false (with_sp_whole z c (c.registers.sp - high) (omega arith) whole) refl (omega arith)
+        (omega arith) (λ e. e) in
     let same : c.registers.sp - high - bytes % 4096 ≡ c.registers.sp - bytes = omega arith in
     does_both z c d (with_sp c (c.registers.sp - bytes)) (unless_zero (bytes / 4096) (AddSubImm W64 true false 31 31 (bytes / 4096) true ∷ []))
     (unless_zero (bytes % 4096) (AddSubImm W64 true false 31 31 (bytes % 4096) false ∷ [])) first
@@ -109,7 +113,8 @@ pub record Saves (z : Setting) (c : Machine) (rows : List SavedRow) : Type 0 whe
   pub other : (at : ℕ) → OtherThan z at rows → read_word after.memory at 8 ≡ read_word c.memory at 8
   pub saved : AreSaved z after c.registers.x rows
 
-same_saved : (z : Setting) (c : Machine) (x y : ℕ → ℕ) (rows : List SavedRow) → ((r : ℕ) → 19 ≤ r → x r ≡ y r) → AreRows z rows → AreSaved z c x rows → AreSaved z c y rows
+same_saved : (z : Setting) (c : Machine) (x y : ℕ → ℕ) (rows : List SavedRow) → ((r : ℕ) → 19 ≤ r → x r ≡ y r) → AreRows z rows → AreSaved z c x rows
+    → AreSaved z c y rows
 same_saved z c x y [] same are saved = tt
 same_saved z c x y (s ∷ rows) same are saved = (saved.0 ∙ ap Some (same s.reg.0 are.0.low), same_saved z c x y rows same are.3 saved.1)
 
@@ -204,10 +209,12 @@ copies : (r : Registers) (m : Memory) → r.sp < 2 ^ 64 → step_of (AddSubImm W
 unfolding step_of add_sub_imm
 copies r m small = let e : (r.sp % 2 ^ 64 + 0 + 0) % 2 ^ 64 ≡ r.sp = omega arith in ap (λ (a : ℕ). goes_on (put r 29 a) m) e
 
-pair_bytes : (sp bytes i : ℕ) → sp < 2 ^ 64 → 16 ≤ bytes → bytes ≤ sp → i < 16 → (nat_le (sp - bytes) (byte_address (sp - 16) i) && nat_lt (byte_address (sp - 16) i) (sp - bytes + bytes)) ≡ true
+pair_bytes : (sp bytes i : ℕ) → sp < 2 ^ 64 → 16 ≤ bytes → bytes ≤ sp → i < 16
+    → (nat_le (sp - bytes) (byte_address (sp - 16) i) && nat_lt (byte_address (sp - 16) i) (sp - bytes + bytes)) ≡ true
 pair_bytes sp bytes i small some room lt = grind (arith, nat_tests)
 
-top_bytes : (sp bytes i : ℕ) → sp < 2 ^ 64 → 16 ≤ bytes → bytes ≤ sp → i < 8 → (nat_le (sp - bytes) (byte_address (sp - 16 + 8) i) && nat_lt (byte_address (sp - 16 + 8) i) (sp - bytes + bytes)) ≡ true
+top_bytes : (sp bytes i : ℕ) → sp < 2 ^ 64 → 16 ≤ bytes → bytes ≤ sp → i < 8
+    → (nat_le (sp - bytes) (byte_address (sp - 16 + 8) i) && nat_lt (byte_address (sp - 16 + 8) i) (sp - bytes + bytes)) ≡ true
 top_bytes sp bytes i small some room lt = grind (arith, nat_tests)
 
 pub low_byte : (sp i : ℕ) → 16 ≤ sp → sp < 2 ^ 64 → i < 16 → sp - 16 ≤ byte_address (sp - 16) i
@@ -222,10 +229,12 @@ same_pair a b e = cc
 min_right : (a b q : ℕ) → b ≤ q → min a b ≤ q
 min_right a b q le = omega arith
 
-caller_apart : (sp bytes offset i j : ℕ) → sp < 2 ^ 64 → bytes ≤ sp → 8 ≤ offset → offset + 16 ≤ bytes → i < 8 → j < 8 → byte_address (sp - 16 - 0) i ≢ byte_address (sp - 16 - offset) j
+caller_apart : (sp bytes offset i j : ℕ) → sp < 2 ^ 64 → bytes ≤ sp → 8 ≤ offset → offset + 16 ≤ bytes → i < 8 → j < 8
+    → byte_address (sp - 16 - 0) i ≢ byte_address (sp - 16 - offset) j
 caller_apart sp bytes offset i j small room ends begins lt_i lt_j e = omega arith
 
-link_apart : (sp bytes offset i j : ℕ) → sp < 2 ^ 64 → bytes ≤ sp → 8 ≤ offset → offset + 16 ≤ bytes → i < 8 → j < 8 → byte_address (sp - 16 + 8) i ≢ byte_address (sp - 16 - offset) j
+link_apart : (sp bytes offset i j : ℕ) → sp < 2 ^ 64 → bytes ≤ sp → 8 ≤ offset → offset + 16 ≤ bytes → i < 8 → j < 8
+    → byte_address (sp - 16 + 8) i ≢ byte_address (sp - 16 - offset) j
 link_apart sp bytes offset i j small room ends begins lt_i lt_j e = omega arith
 
 two_apart : (sp : ℕ) → 16 ≤ sp → sp < 2 ^ 64 → AreApart (sp - 16) 8 (sp - 16 + 8) 8
@@ -243,10 +252,12 @@ module _ (z : Setting) (set : IsSet z) (good : IsGoodFrame (row z)) where
   other_rows s (r ∷ rows) place goods apart = (
     words_apart z set good s.offset r.offset place (All-head (IsGoodSaved z.frame.bytes) r rows goods).place
         (All-head (AreDisjoint (saved_span s)) (saved_span r) (map saved_span rows) apart),
-    other_rows s rows place (All-tail (IsGoodSaved z.frame.bytes) r rows goods) (All-tail (AreDisjoint (saved_span s)) (saved_span r) (map saved_span rows) apart),
+    other_rows s rows place (All-tail (IsGoodSaved z.frame.bytes) r rows goods)
+        (All-tail (AreDisjoint (saved_span s)) (saved_span r) (map saved_span rows) apart),
   )
 
-  rows_are : (rows : List SavedRow) → All (IsGoodSaved z.frame.bytes) rows → AllPairs AreDisjoint (map slot_span (row z).slots ++ map saved_span rows) → AreRows z rows
+  rows_are : (rows : List SavedRow) → All (IsGoodSaved z.frame.bytes) rows → AllPairs AreDisjoint (map slot_span (row z).slots ++ map saved_span rows)
+      → AreRows z rows
   rows_are [] goods apart = tt
   rows_are (s ∷ rows) goods apart =
       let is_good = All-head (IsGoodSaved z.frame.bytes) s rows goods in
@@ -276,13 +287,15 @@ module _ (z : Setting) (set : IsSet z) (good : IsGoodFrame (row z)) where
       )
 
 -- the word of a row among those that are saved
-saved_place : (z : Setting) (c : Machine) (x : ℕ → ℕ) (rows : List SavedRow) (k : ℕ) (s : SavedRow) → AreSaved z c x rows → k < length rows → get_or rows k s ≡ s
+saved_place : (z : Setting) (c : Machine) (x : ℕ → ℕ) (rows : List SavedRow) (k : ℕ) (s : SavedRow) → AreSaved z c x rows → k < length rows
+    → get_or rows k s ≡ s
     → word_below z c s.offset ≡ Some (x s.reg.0)
 saved_place z c x [] k s saved lt e = absurd (omega arith)
 saved_place z c x (first ∷ rows) zero s saved lt e = subst (λ (r : SavedRow). word_below z c r.offset ≡ Some (x r.reg.0)) e saved.0
 saved_place z c x (first ∷ rows) (suc k) s saved lt e = saved_place z c x rows k s saved.1 (omega arith) e
 
-pub saved_word : (z : Setting) (c : Machine) (x : ℕ → ℕ) (rows : List SavedRow) → AreSaved z c x rows → (s : SavedRow) → Contains rows s → word_below z c s.offset ≡ Some (x s.reg.0)
+pub saved_word : (z : Setting) (c : Machine) (x : ℕ → ℕ) (rows : List SavedRow) → AreSaved z c x rows → (s : SavedRow) → Contains rows s
+    → word_below z c s.offset ≡ Some (x s.reg.0)
 saved_word z c x rows saved s there = saved_place z c x rows there.0 s saved there.1 there.2
 
 pub good_row : (bytes : ℕ) (rows : List SavedRow) → All (IsGoodSaved bytes) rows → (s : SavedRow) → Contains rows s → IsGoodSaved bytes s
@@ -409,7 +422,8 @@ module _ (z : Setting) (set : IsSet z) (good : IsGoodFrame (row z)) (c : Machine
 
   first_seen : visible (row z) z.entry (pushed z c.memory) ≡ visible (row z) z.entry c.memory
   first_seen =
-      hidden_store z set (write_word c.memory (frame_pointer_of z.entry) 8 (z.entry.registers 29)) (frame_pointer_of z.entry + 8) (z.entry.registers 30) link_hidden
+      hidden_store z set (write_word c.memory (frame_pointer_of z.entry) 8 (z.entry.registers 29)) (frame_pointer_of z.entry + 8)
+          (z.entry.registers 30) link_hidden
       ∙ hidden_store z set c.memory (frame_pointer_of z.entry) (z.entry.registers 29) caller_hidden
 
   first_caller : read_word (pushed z c.memory) (frame_pointer_of z.entry - 0) 8 ≡ Some (z.entry.registers 29)
@@ -418,11 +432,13 @@ module _ (z : Setting) (set : IsSet z) (good : IsGoodFrame (row z)) (c : Machine
       ap (λ a. read_word (pushed z c.memory) a 8) same
       ∙ read-write_apart (write_word c.memory (frame_pointer_of z.entry) 8 (z.entry.registers 29)) (frame_pointer_of z.entry) 8 (frame_pointer_of z.entry + 8) 8
       (z.entry.registers 30) (two_apart z.entry.sp some_room set.ranged.sp)
-      ∙ read-write_same c.memory (frame_pointer_of z.entry) 8 (z.entry.registers 29) (omega arith) ∙ ap Some (small_word (z.entry.registers 29) (set.ranged.registers 29))
+      ∙ read-write_same c.memory (frame_pointer_of z.entry) 8 (z.entry.registers 29) (omega arith)
+      ∙ ap Some (small_word (z.entry.registers 29) (set.ranged.registers 29))
 
   first_link : read_word (pushed z c.memory) (frame_pointer_of z.entry + 8) 8 ≡ Some (z.entry.registers 30)
   first_link =
-      read-write_same (write_word c.memory (frame_pointer_of z.entry) 8 (z.entry.registers 29)) (frame_pointer_of z.entry + 8) 8 (z.entry.registers 30) (omega arith)
+      read-write_same (write_word c.memory (frame_pointer_of z.entry) 8 (z.entry.registers 29)) (frame_pointer_of z.entry + 8) 8 (z.entry.registers 30)
+          (omega arith)
       ∙ ap Some (small_word (z.entry.registers 30) (set.ranged.registers 30))
 
   -- ---- mov x29, sp, and SP falls
@@ -469,8 +485,10 @@ module _ (z : Setting) (set : IsSet z) (good : IsGoodFrame (row z)) (c : Machine
       let last = saves_does z set good third z.frame.saved low rows in
       record {
         after = last.after;
-        does = does_first z c first last.after (PairSp false 29 30 (negsuc 1)) (AddSubImm W64 false false 29 31 0 false ∷ (lower_sp (z.frame.bytes - 16) ++ saves z.frame z.frame.saved)) first_one
-            (does_first z first second last.after (AddSubImm W64 false false 29 31 0 false) (lower_sp (z.frame.bytes - 16) ++ saves z.frame z.frame.saved) second_one
+        does = does_first z c first last.after (PairSp false 29 30 (negsuc 1))
+            (AddSubImm W64 false false 29 31 0 false ∷ (lower_sp (z.frame.bytes - 16) ++ saves z.frame z.frame.saved)) first_one
+            (does_first z first second last.after (AddSubImm W64 false false 29 31 0 false)
+            (lower_sp (z.frame.bytes - 16) ++ saves z.frame z.frame.saved) second_one
             (does_both z second third last.after (lower_sp (z.frame.bytes - 16)) (saves z.frame z.frame.saved) third_does last.does));
         frame = record {
           sp = last.sp ∙ low.sp;
@@ -481,7 +499,8 @@ module _ (z : Setting) (set : IsSet z) (good : IsGoodFrame (row z)) (c : Machine
           mapped = λ address is. last.keeps address (first_keeps address (rw begins.memory (mapped_too address is)));
           caller = last.other (frame_pointer_of z.entry - 0) (caller_other z set good z.frame.saved good.saved) ∙ first_caller;
           link = last.other (frame_pointer_of z.entry + 8) (link_other z set good z.frame.saved good.saved) ∙ first_link;
-          saved = λ s there. saved_word z last.after third.registers.x z.frame.saved last.saved s there ∙ ap Some (third_others s.reg.0 (λ e. let row = good_row z.frame.bytes z.frame.saved good.saved s there in let high = row.high in omega arith));
+          saved = λ s there. saved_word z last.after third.registers.x z.frame.saved last.saved s there
+              ∙ ap Some (third_others s.reg.0 (λ e. let row = good_row z.frame.bytes z.frame.saved good.saved s there in let high = row.high in omega arith));
           unsaved = λ r ge le none. last.others r (λ e. omega arith) ∙ third_others r (λ e. omega arith);
         };
         others = λ r differ other. last.others r differ ∙ third_others r other;
@@ -505,7 +524,8 @@ some_word (Some word) some = (word, refl)
 some_word None some = cc
 
 no_scratch : (r : Register) → IsAllocatable r → (r.0 ≢ 15) × (r.0 ≢ 29)
-no_scratch r is = ⊎_elim (λ (le : r.0 ≤ 14). (λ e. omega arith, λ e. omega arith)) (λ (between : (19 ≤ r.0) × (r.0 ≤ 28)). let lo = between.0 in let hi = between.1 in (λ e. omega arith, λ e. omega arith)) is
+no_scratch r is = ⊎_elim (λ (le : r.0 ≤ 14). (λ e. omega arith, λ e. omega arith)) (λ (between : (19 ≤ r.0) × (r.0 ≤ 28)). let lo = between.0 in
+    let hi = between.1 in (λ e. omega arith, λ e. omega arith)) is
 
 pub entered_related : (z : Setting) (set : IsSet z) (serves : IsFrameOf z.procedure z.frame) (answers : List Answer) (c : Machine) → (entered : Entered z c)
     → IsRelated z (first_state z answers) entered.after
@@ -518,7 +538,8 @@ entered_related z set serves answers c entered = record {
       let placed = serves.spilled n named in
       let is_word : IsWordOffset z.frame.bytes offset = (subst (λ o. IsSomeAnd o (λ offset. IsGoodRep (row z) W64 (Slot offset))) there placed).0 in
       let some : is_some (word_below z entered.after offset) ≡ true =
-      is_some-read_word entered.after.memory (frame_pointer_of z.entry - offset) 8 ∙ word_mapped z set serves.good entered.after offset is_word entered.frame.whole in
+      is_some-read_word entered.after.memory (frame_pointer_of z.entry - offset) 8
+          ∙ word_mapped z set serves.good entered.after offset is_word entered.frame.whole in
       let word = some_word (word_below z entered.after offset) some in
       (word.0, word.1, tt);
   memory = set.memory ∙ sym entered.seen;

@@ -82,7 +82,8 @@ gives_same s t (InReg r) width w same gives = (gives.0, ap (low width) (same r r
 gives_same s t (Constant k) width w same gives = gives
 
 -- the register of a source that is fetched with another scratch register stays
-pub source_differs : (z : Setting) (scratch other : ℕ) (arg : Arg) → IsScratch other → scratch ≢ other → IsUsable z arg → (r : ℕ) → source_of scratch arg ≡ InReg r → r ≢ other
+pub source_differs : (z : Setting) (scratch other : ℕ) (arg : Arg) → IsScratch other → scratch ≢ other → IsUsable z arg → (r : ℕ)
+    → source_of scratch arg ≡ InReg r → r ≢ other
 source_differs z scratch other (At (Reg q)) is differ usable r e = let same : q.0 ≡ r = cc in λ f. allocatable_other q other usable is (same ∙ f)
 source_differs z scratch other (At (Spill n)) is differ usable r e = let same : scratch ≡ r = cc in λ f. differ (same ∙ f)
 source_differs z scratch other (At (Tmp n)) is differ usable r e = absurd usable
@@ -123,7 +124,8 @@ module _ (z : Setting) (set : IsSet z) (serves : IsFrameOf z.procedure z.frame) 
       → (f : Fetched z c (fetch z.frame scratch arg) scratch) × Gives f.after.registers (source_of scratch arg) width w
   unfolding fetch word_of none_fetched
   fetch_word s c scratch (At (Reg r)) width w rel usable is e =
-      (none_fetched c scratch rel.frame.words, (allocatable_most r usable, reads_carried width (s.homes (Reg r)) (c.registers.x r.0) w (rel.registers r usable) e))
+      (none_fetched c scratch rel.frame.words, (allocatable_most r usable, reads_carried width (s.homes (Reg r)) (c.registers.x r.0) w
+      (rel.registers r usable) e))
   fetch_word s c scratch (At (Spill n)) width w rel usable is e =
       let load = spill_loads s c scratch n w width rel usable (omega (arith, is.1)) (λ f. omega (arith, is.1)) e in (
         record {
@@ -152,19 +154,22 @@ module _ (z : Setting) (set : IsSet z) (serves : IsFrameOf z.procedure z.frame) 
     pub related : IsRelated z (with_home s home held) after
 
   pub result_most : (home : Home) → IsPlaceFor z home → (result_reg (At home) ≤ 30) × (result_reg (At home) ≢ 18)
-  result_most (Reg r) may = (allocatable_most r may.0, λ e. ⊎_elim (λ (le : r.0 ≤ 14). absurd (omega arith)) (λ (h : (19 ≤ r.0) × (r.0 ≤ 28)). absurd (omega (arith, h.0))) may.0)
+  result_most (Reg r) may = (allocatable_most r may.0, λ e. ⊎_elim (λ (le : r.0 ≤ 14). absurd (omega arith))
+      (λ (h : (19 ≤ r.0) × (r.0 ≤ 28)). absurd (omega (arith, h.0))) may.0)
   result_most (Spill n) may = (omega arith, λ e. absurd (omega arith))
   result_most (Tmp n) may = absurd may
 
   -- a word is stored in its spill place
-  pub spill_stores : (s : State) (c m : Machine) (reg n word result : ℕ) (width : Width) → IsRelated z s c → KeepsAll c m → names z.procedure n ≡ true → reg ≤ 30 → reg ≢ 15
+  pub spill_stores : (s : State) (c m : Machine) (reg n word result : ℕ) (width : Width) → IsRelated z s c → KeepsAll c m → names z.procedure n ≡ true
+      → reg ≤ 30 → reg ≢ 15
       → m.registers.x reg ≡ word → word < 2 ^ 64 → low width word ≡ low width result
       → Finished s m (store_at reg (above_sp z.frame (spill_offset z.frame n))) (Spill n) (Holds width result)
   spill_stores s c m reg n word result width rel keeps named le other is small same =
       let stands = spill_stands z set serves n named in
       let mine = keeps_related z s c m keeps rel in
       let f = store_puts z m reg (spill_offset z.frame n) (whole_of z set serves m mine.frame) mine.frame.words le other
-      (placed z set serves m (spill_offset z.frame n) mine.frame stands.1.0) (word_mapped z set serves.good m (spill_offset z.frame n) stands.1.0 mine.frame.whole) in
+      (placed z set serves m (spill_offset z.frame n) mine.frame stands.1.0)
+      (word_mapped z set serves.good m (spill_offset z.frame n) stands.1.0 mine.frame.whole) in
       record {
         after = f.after;
         does = f.does;

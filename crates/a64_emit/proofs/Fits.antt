@@ -19,7 +19,8 @@ use Rattle.air_ir.specs.WellFormed.{IsGoodInst, IsWellFormed}
 use Rattle.a64_emit.specs.Code.{source_at, source_of, width_at}
 use Rattle.a64_emit.specs.Fitting.{FitsSource, IsFitting, IsFittingBlock, IsTested}
 
-word_fits : (immediates : Immediates) (width : Width) (arg : Arg) (scratch : ℕ) → IsWord immediates width arg → FitsSource immediates width (source_of scratch arg)
+word_fits : (immediates : Immediates) (width : Width) (arg : Arg) (scratch : ℕ) → IsWord immediates width arg
+    → FitsSource immediates width (source_of scratch arg)
 word_fits immediates width (At (Reg r)) scratch is = tt
 word_fits immediates width (At (Spill n)) scratch is = tt
 word_fits immediates width (At (Tmp n)) scratch is = tt
@@ -41,7 +42,8 @@ unfolding AllFit
 bit_fits width k ts [] fits = absurd fits
 bit_fits width k ts (a ∷ os) fits = subst (λ w. k < bits w) (sym fits.0.1) fits.0.3
 
-test_fits : (t : Test) (width : Width) (ts : List Takes) (os : List Operand) → AllFit (test_takes t width ++ ts) os → IsTested t (width_at os 0) (source_at os 1 16)
+test_fits : (t : Test) (width : Width) (ts : List Takes) (os : List Operand) → AllFit (test_takes t width ++ ts) os
+    → IsTested t (width_at os 0) (source_at os 1 16)
 test_fits (Compare cond) width ts os fits = second_fits OfSum width ts os fits
 test_fits NonZero width ts os fits = tt
 test_fits (Bit k) width ts os fits = bit_fits width k ts os fits

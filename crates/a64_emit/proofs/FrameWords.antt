@@ -20,7 +20,8 @@ use Rattle.a64_emit.specs.Setting.{IsSet, Setting, row}
 
 -- ---- numbers
 
-byte_within : (sp bytes offset i : ℕ) → sp < 2 ^ 64 → bytes ≤ sp → 8 ≤ offset → offset + 16 ≤ bytes → i < 8 → is_within (sp - bytes) bytes (byte_address (sp - 16 - offset) i) ≡ true
+byte_within : (sp bytes offset i : ℕ) → sp < 2 ^ 64 → bytes ≤ sp → 8 ≤ offset → offset + 16 ≤ bytes → i < 8
+    → is_within (sp - bytes) bytes (byte_address (sp - 16 - offset) i) ≡ true
 byte_within sp bytes offset i small room ends begins lt = grind (arith, nat_tests)
 
 bytes_apart : (sp bytes a b i j : ℕ) → sp < 2 ^ 64 → bytes ≤ sp → 8 ≤ a → a + 16 ≤ bytes → 8 ≤ b → b + 16 ≤ bytes → (b + 8 ≤ a) ⊎ (a + 8 ≤ b) → i < 8 → j < 8
@@ -28,7 +29,8 @@ bytes_apart : (sp bytes a b i j : ℕ) → sp < 2 ^ 64 → bytes ≤ sp → 8 �
 bytes_apart sp bytes a b i j small room ends_a begins_a ends_b begins_b apart lt_i lt_j e =
     elim apart as (λ s. ⊥) [ inl le ↦ omega arith | inr le ↦ omega arith ]
 
-byte_in_no_slot : (sp bytes offset size a i : ℕ) → sp < 2 ^ 64 → bytes ≤ sp → size ≤ offset → offset + 16 ≤ bytes → 8 ≤ a → a + 16 ≤ bytes → (offset + 8 ≤ a) ⊎ (a + size ≤ offset) → i < 8
+byte_in_no_slot : (sp bytes offset size a i : ℕ) → sp < 2 ^ 64 → bytes ≤ sp → size ≤ offset → offset + 16 ≤ bytes → 8 ≤ a → a + 16 ≤ bytes
+    → (offset + 8 ≤ a) ⊎ (a + size ≤ offset) → i < 8
     → is_within (sp - 16 - offset) size (byte_address (sp - 16 - a) i) ≡ false
 byte_in_no_slot sp bytes offset size a i small room ends begins ends_a begins_a apart lt =
     ⊎_elim (λ (le : offset + 8 ≤ a). grind (arith, nat_tests)) (λ (le : a + size ≤ offset). grind (arith, nat_tests)) apart
@@ -49,7 +51,8 @@ not_some z set q inside =
     ] refl
 
 -- a byte that is seen is none of these
-seen_other : (row : FrameRow) (m : MachineStart) (memory : Memory) (at w q : ℕ) → ((i : ℕ) → i < 8 → (is_some (m.memory (byte_address at i)) || in_slot row m (byte_address at i)) ≡ false)
+seen_other : (row : FrameRow) (m : MachineStart) (memory : Memory) (at w q : ℕ)
+    → ((i : ℕ) → i < 8 → (is_some (m.memory (byte_address at i)) || in_slot row m (byte_address at i)) ≡ false)
     → (is_some (m.memory q) || in_slot row m q) ≡ true → write_word memory at 8 w q ≡ memory q
 seen_other row m memory at w q hidden seen =
     write_word_other memory at 8 w q (λ i lt same.
@@ -58,7 +61,8 @@ seen_other row m memory at w q hidden seen =
     cc)
 
 -- a store to bytes that aren't seen isn't seen
-hidden_at : (row : FrameRow) (m : MachineStart) (memory : Memory) (at w : ℕ) → ((i : ℕ) → i < 8 → (is_some (m.memory (byte_address at i)) || in_slot row m (byte_address at i)) ≡ false)
+hidden_at : (row : FrameRow) (m : MachineStart) (memory : Memory) (at w : ℕ)
+    → ((i : ℕ) → i < 8 → (is_some (m.memory (byte_address at i)) || in_slot row m (byte_address at i)) ≡ false)
     → (q : ℕ) → visible row m (write_word memory at 8 w) q ≡ visible row m memory q
 hidden_at row m memory at w hidden q =
     elim (is_some (m.memory q) || in_slot row m q) as (λ b. (is_some (m.memory q) || in_slot row m q) ≡ b
@@ -71,10 +75,12 @@ hidden_at row m memory at w hidden q =
 abbrev pub IsHiddenWord : Setting → ℕ → Type 0
 IsHiddenWord z at = (i : ℕ) → i < 8 → (in_frame (row z) z.entry (byte_address at i) ≡ true) × (in_slot (row z) z.entry (byte_address at i) ≡ false)
 
-pub hidden_store : (z : Setting) → IsSet z → (memory : Memory) (at w : ℕ) → IsHiddenWord z at → visible (row z) z.entry (write_word memory at 8 w) ≡ visible (row z) z.entry memory
+pub hidden_store : (z : Setting) → IsSet z → (memory : Memory) (at w : ℕ) → IsHiddenWord z at
+    → visible (row z) z.entry (write_word memory at 8 w) ≡ visible (row z) z.entry memory
 hidden_store z set memory at w hidden =
     fun_ext (hidden_at (row z) z.entry memory at w (λ i lt.
-    or_false (is_some (z.entry.memory (byte_address at i))) (in_slot (row z) z.entry (byte_address at i)) (not_some z set (byte_address at i) (hidden i lt).0) (hidden i lt).1))
+    or_false (is_some (z.entry.memory (byte_address at i))) (in_slot (row z) z.entry (byte_address at i))
+        (not_some z set (byte_address at i) (hidden i lt).0) (hidden i lt).1))
 
 -- ---- words that are apart
 
@@ -96,7 +102,8 @@ pub pairs_behind : (slots : List SlotRow) (spans : List Span) → AllPairs AreDi
 pairs_behind [] spans h = h
 pairs_behind (slot ∷ slots) spans h = pairs_behind slots spans (pairs_tail (slot_span slot) (map slot_span slots ++ spans) h)
 
-pub apart_from_slots : (slots : List SlotRow) (spans : List Span) (span : Span) → AllPairs AreDisjoint (map slot_span slots ++ spans) → Contains spans span → All (AreDisjoint span) (map slot_span slots)
+pub apart_from_slots : (slots : List SlotRow) (spans : List Span) (span : Span) → AllPairs AreDisjoint (map slot_span slots ++ spans)
+    → Contains spans span → All (AreDisjoint span) (map slot_span slots)
 apart_from_slots [] spans span h there = All-nil (AreDisjoint span)
 apart_from_slots (slot ∷ slots) spans span h there =
     let rest : List Span = map slot_span slots ++ spans in
@@ -106,7 +113,8 @@ apart_from_slots (slot ∷ slots) spans span h there =
     (apart_from_slots slots spans span (pairs_tail (slot_span slot) rest h) there)
 
 -- a span behind the slots left out
-pub pairs_without : (slots : List SlotRow) (span : Span) (spans : List Span) → AllPairs AreDisjoint (map slot_span slots ++ span ∷ spans) → AllPairs AreDisjoint (map slot_span slots ++ spans)
+pub pairs_without : (slots : List SlotRow) (span : Span) (spans : List Span) → AllPairs AreDisjoint (map slot_span slots ++ span ∷ spans)
+    → AllPairs AreDisjoint (map slot_span slots ++ spans)
 pairs_without [] span spans h = pairs_tail span spans h
 pairs_without (slot ∷ slots) span spans h =
     AllPairs-cons AreDisjoint (slot_span slot) (map slot_span slots ++ spans)
@@ -118,7 +126,8 @@ all_front P [] ys h = All-nil P
 all_front P (x ∷ xs) ys h = All-cons P x xs (All-head P x (xs ++ ys) h) (all_front P xs ys (All-tail P x (xs ++ ys) h))
 
 module _ (z : Setting) (set : IsSet z) (good : IsGoodFrame (row z)) where
-  pub word_in_frame : (offset i : ℕ) → IsWordOffset z.frame.bytes offset → i < 8 → in_frame (row z) z.entry (byte_address (frame_pointer_of z.entry - offset) i) ≡ true
+  pub word_in_frame : (offset i : ℕ) → IsWordOffset z.frame.bytes offset → i < 8
+      → in_frame (row z) z.entry (byte_address (frame_pointer_of z.entry - offset) i) ≡ true
   word_in_frame offset i word lt = byte_within z.entry.sp z.frame.bytes offset i set.ranged.sp set.room word.ends word.begins lt
 
   -- the words at two offsets share no byte
@@ -136,7 +145,8 @@ module _ (z : Setting) (set : IsSet z) (good : IsGoodFrame (row z)) where
       let apart = All-head (AreDisjoint (word_span W64 offset)) (slot_span slot) (map slot_span slots) aparts in
       or_false (is_within (slot_address z.entry slot) slot.size (byte_address (frame_pointer_of z.entry - offset) i))
       (list_any (λ slot. is_within (slot_address z.entry slot) slot.size (byte_address (frame_pointer_of z.entry - offset) i)) slots)
-      (byte_in_no_slot z.entry.sp z.frame.bytes slot.offset slot.size offset i set.ranged.sp set.room is_good.ends is_good.begins word.ends word.begins apart lt)
+      (byte_in_no_slot z.entry.sp z.frame.bytes slot.offset slot.size offset i set.ranged.sp set.room is_good.ends is_good.begins word.ends word.begins
+          apart lt)
       (in_no_slot slots offset i (All-tail (IsGoodSlot z.frame.bytes) slot slots goods)
       (All-tail (AreDisjoint (word_span W64 offset)) (slot_span slot) (map slot_span slots) aparts) word lt)
 
@@ -148,7 +158,8 @@ module _ (z : Setting) (set : IsSet z) (good : IsGoodFrame (row z)) where
       let room = set.room in
       let begins = is_good.begins in
       or_false (is_within (slot_address z.entry slot) slot.size q) (list_any (λ slot. is_within (slot_address z.entry slot) slot.size q) slots)
-      (byte_above z.entry.sp slot.offset slot.size q is_good.ends (omega arith) above) (above_slots slots q (All-tail (IsGoodSlot z.frame.bytes) slot slots goods) above)
+      (byte_above z.entry.sp slot.offset slot.size q is_good.ends (omega arith) above)
+      (above_slots slots q (All-tail (IsGoodSlot z.frame.bytes) slot slots goods) above)
 
   -- what stands from x29 on is in no slot
   pub not_in_slot : (q : ℕ) → frame_pointer_of z.entry ≤ q → in_slot (row z) z.entry q ≡ false
@@ -161,6 +172,8 @@ module _ (z : Setting) (set : IsSet z) (good : IsGoodFrame (row z)) where
 
   -- the bytes of a word of the frame are there where the frame is
   pub word_mapped : (c : Machine) (offset : ℕ) → IsWordOffset z.frame.bytes offset
-      → ((address : ℕ) → in_frame (row z) z.entry address ≡ true → is_some (c.memory address) ≡ true) → is_mapped c.memory (frame_pointer_of z.entry - offset) 8 ≡ true
+      → ((address : ℕ) → in_frame (row z) z.entry address ≡ true → is_some (c.memory address) ≡ true)
+      → is_mapped c.memory (frame_pointer_of z.entry - offset) 8 ≡ true
   word_mapped c offset word whole =
-      is_mapped_all c.memory (frame_pointer_of z.entry - offset) 8 (λ i lt. whole (byte_address (frame_pointer_of z.entry - offset) i) (word_in_frame offset i word lt))
+      is_mapped_all c.memory (frame_pointer_of z.entry - offset) 8
+          (λ i lt. whole (byte_address (frame_pointer_of z.entry - offset) i) (word_in_frame offset i word lt))

@@ -116,7 +116,8 @@ module _ (z : Setting) (set : IsSet z) (serves : IsFrameOf z.procedure z.frame) 
   }
 
   -- where a spill place that is named stands
-  there_is : (o : Option ℕ) → IsSomeAnd o (λ offset. IsGoodRep (row z) W64 (Slot offset)) → (offset : ℕ) × (o ≡ Some offset) × IsGoodRep (row z) W64 (Slot offset)
+  there_is : (o : Option ℕ) → IsSomeAnd o (λ offset. IsGoodRep (row z) W64 (Slot offset))
+      → (offset : ℕ) × (o ≡ Some offset) × IsGoodRep (row z) W64 (Slot offset)
   there_is None h = absurd h
   there_is (Some offset) h = (offset, refl, h)
 

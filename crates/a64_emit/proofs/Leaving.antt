@@ -100,7 +100,8 @@ module _ (z : Setting) (set : IsSet z) (serves : IsFrameOf z.procedure z.frame) 
 
 -- ---- the frame is left
 
-sp_from_fp : (r : Registers) (m : Memory) (sp : ℕ) → (r.x 29 % 2 ^ 64 + 0 + 0) % 2 ^ 64 ≡ sp → step_of (AddSubImm W64 false false 31 29 0 false) r m ≡ goes_on (record r { sp = sp }) m
+sp_from_fp : (r : Registers) (m : Memory) (sp : ℕ) → (r.x 29 % 2 ^ 64 + 0 + 0) % 2 ^ 64 ≡ sp
+    → step_of (AddSubImm W64 false false 31 29 0 false) r m ≡ goes_on (record r { sp = sp }) m
 unfolding step_of add_sub_imm
 sp_from_fp r m sp at = rw at refl
 
@@ -144,7 +145,8 @@ module _ (z : Setting) (set : IsSet z) (serves : IsFrameOf z.procedure z.frame) 
   second_one : DoesOne z first.after (AddSubImm W64 false false 31 29 0 false) second
   unfolding second
   second_one =
-      let back : (first.after.registers.x 29 % 2 ^ 64 + 0 + 0) % 2 ^ 64 ≡ frame_pointer_of z.entry = let at = x29_is in let small = set.ranged.sp in omega arith in
+      let back : (first.after.registers.x 29 % 2 ^ 64 + 0 + 0) % 2 ^ 64 ≡ frame_pointer_of z.entry = let at = x29_is in let small = set.ranged.sp in
+          omega arith in
       does_safely z first.after second (AddSubImm W64 false false 31 29 0 false) first_whole
       (touches_nothing first.after (AddSubImm W64 false false 31 29 0 false) (λ pc. refl)) refl
       (λ pc. sp_from_fp (moved_to pc first.after).registers first.after.memory (frame_pointer_of z.entry) back)
@@ -203,7 +205,8 @@ module _ (z : Setting) (set : IsSet z) (serves : IsFrameOf z.procedure z.frame) 
   unfolding second third
   leaving = record {
     after = third;
-    does = does_both z c first.after third (restores z.frame z.frame.saved) (AddSubImm W64 false false 31 29 0 false ∷ PairSp true 29 30 (pos 2) ∷ []) first.does
+    does = does_both z c first.after third (restores z.frame z.frame.saved) (AddSubImm W64 false false 31 29 0 false ∷ PairSp true 29 30 (pos 2) ∷ [])
+        first.does
         (does_first z first.after second third (AddSubImm W64 false false 31 29 0 false) (PairSp true 29 30 (pos 2) ∷ []) second_one
         (does_one z second third (PairSp true 29 30 (pos 2)) third_one));
     sp = refl;
@@ -215,7 +218,8 @@ module _ (z : Setting) (set : IsSet z) (serves : IsFrameOf z.procedure z.frame) 
         (put_words second 29 (z.entry.registers 29) second_words (set.ranged.registers 29)) (set.ranged.registers 30) in
         record { x = words.x; sp = small; pc = words.pc };
     kept = third_kept;
-    x0 = put_other (with_reg second 29 (z.entry.registers 29)) 30 (z.entry.registers 30) 0 (λ e. omega arith) ∙ put_other second 29 (z.entry.registers 29) 0 (λ e. omega arith)
+    x0 = put_other (with_reg second 29 (z.entry.registers 29)) 30 (z.entry.registers 30) 0 (λ e. omega arith)
+        ∙ put_other second 29 (z.entry.registers 29) 0 (λ e. omega arith)
         ∙ first.others 0 (inl (omega arith));
     whole = record { aligned = set.aligned; whole = first_whole.whole };
   }

@@ -87,14 +87,17 @@ module _ (f : Frame) (few : length f.saved ≤ 10) where
   words_least : (i : AirInst) → words_by i.op i.operands ≤ inst_weight i
   words_least i = omega arith
 
-  insts_light : (p : AirProc) (next label : ℕ) (targets : List ℕ) (insts : List AirInst) → All (IsGoodInst p) insts → All (λ (i : AirInst). is_built i.op ≡ true) insts
+  insts_light : (p : AirProc) (next label : ℕ) (targets : List ℕ) (insts : List AirInst) → All (IsGoodInst p) insts
+      → All (λ (i : AirInst). is_built i.op ≡ true) insts
       → words_of (insts_items f next label targets insts) ≤ sum_by inst_weight insts
   unfolding insts_items
   insts_light p next label targets [] good built = omega arith
   insts_light p next label targets (i ∷ insts) good built =
-      let here = inst_light p.returns next label targets i.op i.operands (All-head (IsGoodInst p) i insts good).operands (All-head (λ (i : AirInst). is_built i.op ≡ true) i insts built) in
+      let here = inst_light p.returns next label targets i.op i.operands (All-head (IsGoodInst p) i insts good).operands
+          (All-head (λ (i : AirInst). is_built i.op ≡ true) i insts built) in
       let least = words_least i in
-      let more = insts_light p next label targets insts (All-tail (IsGoodInst p) i insts good) (All-tail (λ (i : AirInst). is_built i.op ≡ true) i insts built) in
+      let more = insts_light p next label targets insts (All-tail (IsGoodInst p) i insts good)
+          (All-tail (λ (i : AirInst). is_built i.op ≡ true) i insts built) in
       let both = sum_by-append (size_of true) (inst_items f next label targets i.op i.operands) (insts_items f next label targets insts) in
       let sum = sum_by-cons inst_weight i insts in
       omega arith
@@ -102,7 +105,8 @@ module _ (f : Frame) (few : length f.saved ≤ 10) where
   abbrev block_weight : AirBlock → ℕ
   block_weight b = sum_by inst_weight b.insts
 
-  blocks_light : (p : AirProc) (first label : ℕ) (blocks : List AirBlock) → All (IsGoodBlock p) blocks → All (λ (b : AirBlock). All (λ (i : AirInst). is_built i.op ≡ true) b.insts) blocks
+  blocks_light : (p : AirProc) (first label : ℕ) (blocks : List AirBlock) → All (IsGoodBlock p) blocks
+      → All (λ (b : AirBlock). All (λ (i : AirInst). is_built i.op ≡ true) b.insts) blocks
       → words_of (blocks_items f first label blocks) ≤ sum_by block_weight blocks
   unfolding blocks_items
   blocks_light p first label [] good built = omega arith

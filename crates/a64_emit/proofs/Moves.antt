@@ -124,7 +124,8 @@ no_words W32 false word = omega arith
 no_words W64 true word = omega arith
 no_words W64 false word = omega arith
 
-started_small : (width : Width) (inverted : Bool) (word hw : ℕ) → hw ≤ half_count width → word < 2 ^ bits width → started_word width inverted word hw < 2 ^ bits width
+started_small : (width : Width) (inverted : Bool) (word hw : ℕ) → hw ≤ half_count width → word < 2 ^ bits width
+    → started_word width inverted word hw < 2 ^ bits width
 started_small W32 true word zero le small = omega arith
 started_small W32 false word zero le small = omega arith
 started_small W32 true word (suc zero) le small = omega arith
@@ -168,7 +169,8 @@ unfolding step_of move_wide
 half_step s m width inverted true reg word hw le lt small at =
     puts_of s m reg _ (started_word width inverted word (hw + 1)) le
     (ap (λ x. with_half (low_bits width x) (16 * hw) (half_word word hw)) (read_is s reg le ∙ at)
-    ∙ ap (λ x. with_half x (16 * hw) (half_word word hw)) (low_same width (started_word width inverted word hw) (started_small width inverted word hw (omega arith) small))
+    ∙ ap (λ x. with_half x (16 * hw) (half_word word hw))
+        (low_same width (started_word width inverted word hw) (started_small width inverted word hw (omega arith) small))
     ∙ next_word width inverted word hw lt)
 half_step s m width true false reg word hw le lt small at =
     puts_of s m reg _ (started_word width true word (hw + 1)) le
@@ -191,7 +193,8 @@ filled_small W32 true = omega arith
 filled_small W64 true = omega arith
 filled_small width false = omega arith
 
-still_at : (width : Width) (inverted started : Bool) (word hw x : ℕ) → hw < half_count width → half_word word hw ≡ filling inverted → IsAt width inverted started word hw x
+still_at : (width : Width) (inverted started : Bool) (word hw x : ℕ) → hw < half_count width → half_word word hw ≡ filling inverted
+    → IsAt width inverted started word hw x
     → IsAt width inverted started word (hw + 1) x
 still_at width inverted true word hw x lt e at = at ∙ sym (same_filling width inverted word hw lt e)
 still_at width inverted false word hw x lt e at = same_filling width inverted word hw lt e ∙ at
@@ -205,7 +208,8 @@ half_touches width true false reg half hw r = refl
 half_touches width false false reg half hw r = refl
 
 -- an instruction that puts a word in a register in front
-puts_then : (z : Setting) (c : Machine) (inst : Inst) (insts : List Inst) (reg v w : ℕ) → DoesOne z c inst (with_reg c reg v) → Puts z (with_reg c reg v) insts reg w
+puts_then : (z : Setting) (c : Machine) (inst : Inst) (insts : List Inst) (reg v w : ℕ) → DoesOne z c inst (with_reg c reg v)
+    → Puts z (with_reg c reg v) insts reg w
     → Puts z c (inst ∷ insts) reg w
 puts_then z c inst insts reg v w one rest = record {
   after = rest.after;
@@ -247,7 +251,8 @@ module _ (z : Setting) (width : Width) (inverted : Bool) (reg word : ℕ) (le : 
       elim (nat_eq (half_word word hw) (filling inverted)) as (λ b. nat_eq (half_word word hw) (filling inverted) ≡ b
       → Puts z c (if b then half_moves width inverted reg word started n (hw + 1) else
       half_move width inverted started reg (half_word word hw) hw ∷ half_moves width inverted reg word true n (hw + 1)) reg word) [
-        | true ↦ λ e. moves_put n (hw + 1) started c (omega arith) whole words (still_at width inverted started word hw (c.registers.x reg) lt (eqb-true _ _ e) at)
+        | true ↦ λ e. moves_put n (hw + 1) started c (omega arith) whole words
+            (still_at width inverted started word hw (c.registers.x reg) lt (eqb-true _ _ e) at)
         | false ↦ λ e.
             let v : ℕ = started_word width inverted word (hw + 1) in
             let v_small = width_small width v (started_small width inverted word (hw + 1) (omega arith) small) in
@@ -255,13 +260,16 @@ module _ (z : Setting) (width : Width) (inverted : Bool) (reg word : ℕ) (le : 
             puts_then z c (half_move width inverted started reg (half_word word hw) hw) (half_moves width inverted reg word true n (hw + 1)) reg v word
             (puts_one z c (half_move width inverted started reg (half_word word hw) hw) reg v whole other
             (λ pc. half_touches width inverted started reg (half_word word hw) hw (moved_to pc c).registers)
-            (λ pc. half_step (moved_to pc c).registers c.memory width inverted started reg word hw le lt small (at_pc width inverted started word hw (c.registers.x reg) at)))
+            (λ pc. half_step (moved_to pc c).registers c.memory width inverted started reg word hw le lt small
+            (at_pc width inverted started word hw (c.registers.x reg) at)))
             (moves_put n (hw + 1) true d (omega arith) (whole_same z c d refl refl whole) (put_words c reg v words v_small) (put_same c reg v))
       ] refl
 
 -- a constant of a width is put in a register
-pub constant_puts : (z : Setting) (c : Machine) (width : Width) (reg word : ℕ) → IsWhole z c → AreWords c.registers → reg ≤ 30 → reg ≢ 18 → word < 2 ^ bits width
+pub constant_puts : (z : Setting) (c : Machine) (width : Width) (reg word : ℕ) → IsWhole z c → AreWords c.registers → reg ≤ 30 → reg ≢ 18
+    → word < 2 ^ bits width
     → Puts z c (constant width reg word) reg word
 unfolding constant
 constant_puts z c width reg word whole words le other small =
-    moves_put z width (is_inverted width word) reg word le other small (half_count width) 0 false c (omega arith) whole words (no_words width (is_inverted width word) word)
+    moves_put z width (is_inverted width word) reg word le other small (half_count width) 0 false c (omega arith) whole words
+        (no_words width (is_inverted width word) word)

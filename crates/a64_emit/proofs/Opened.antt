@@ -54,7 +54,8 @@ usable_arg z (Addr base offset) none own named width immediates is = absurd is
 usable_arg z (Index base index shift) none own named width immediates is = absurd is
 usable_arg z (FrameSlot n) none own named width immediates is = absurd is
 
-place_home : (z : Setting) (home : Home) → z.procedure.tmps ≡ 0 → MayName z.procedure Def home → ((n : ℕ) → arg_names n (At home) ≡ true → names z.procedure n ≡ true)
+place_home : (z : Setting) (home : Home) → z.procedure.tmps ≡ 0 → MayName z.procedure Def home
+    → ((n : ℕ) → arg_names n (At home) ≡ true → names z.procedure n ≡ true)
     → ((r : ℕ) → is_register r home ≡ true → writes z.procedure r ≡ true) → IsPlaceFor z home
 place_home z (Tmp n) none own named written = let lt : n < z.procedure.tmps = own in absurd (omega (arith, none))
 place_home z (Reg r) none own named written = (own, written r.0 (eq-eqb r.0 r.0 refl))
@@ -62,7 +63,8 @@ place_home z (Spill n) none own named written = named n (own_spill n)
 
 more_role : (r : ℕ) (reads : Bool) (width : Width) (arg : Arg) (ts : List Target) → list_any (λ (t : Target). is_register r t.home) ts ≡ true
     → list_any (λ (t : Target). is_register r t.home) (and_target reads width arg ts) ≡ true
-more_role r false width (At home) ts is = elim (is_register r home) as (λ b. (b || list_any (λ (t : Target). is_register r t.home) ts) ≡ true) [ true ↦ refl | false ↦ is ]
+more_role r false width (At home) ts is = elim (is_register r home) as (λ b. (b || list_any (λ (t : Target). is_register r t.home) ts) ≡ true) [ true ↦
+    refl | false ↦ is ]
 more_role r true width (At home) ts is = is
 more_role r false width (Imm word) ts is = is
 more_role r true width (Imm word) ts is = is
@@ -89,7 +91,8 @@ writes_target r (x ∷ os) (suc k) o home there is same_reg =
 
 -- ---- instructions of a procedure
 
-module _ (z : Setting) (b : ℕ) (block : AirBlock) (block_there : slice_get z.procedure.blocks b ≡ Some block) (k : ℕ) (i : AirInst) (there : slice_get block.insts k ≡ Some i) where
+module _ (z : Setting) (b : ℕ) (block : AirBlock) (block_there : slice_get z.procedure.blocks b ≡ Some block) (k : ℕ) (i : AirInst)
+    (there : slice_get block.insts k ≡ Some i) where
   inst_named : (n : ℕ) → inst_names n i ≡ true → names z.procedure n ≡ true
   inst_named n is = any_at (block_names n) z.procedure.blocks b block block_there (any_at (inst_names n) block.insts k i there is)
 
@@ -99,7 +102,8 @@ module _ (z : Setting) (b : ℕ) (block : AirBlock) (block_there : slice_get z.p
   pub operands_open : z.procedure.tmps ≡ 0 → IsGoodInst z.procedure i → AreOpen z i.operands
   operands_open none good j o at =
       let own : NamesOwn z.procedure o.role o.arg = all_at (λ (o : Operand). NamesOwn z.procedure o.role o.arg) i.operands j o at good.names in
-      let named : (n : ℕ) → arg_names n o.arg ≡ true → names z.procedure n ≡ true = λ n is. inst_named n (any_at (λ (o : Operand). arg_names n o.arg) i.operands j o at is) in
+      let named : (n : ℕ) → arg_names n o.arg ≡ true
+          → names z.procedure n ≡ true = λ n is. inst_named n (any_at (λ (o : Operand). arg_names n o.arg) i.operands j o at is) in
       record {
         reads = λ role width immediates is. usable_arg z o.arg none (subst (λ r. NamesOwn z.procedure r o.arg) role own) named width immediates is;
         writes = λ home is. place_home z home none
@@ -125,8 +129,10 @@ reads_usable z (t ∷ ts) [] reads fits opened j o there = absurd fits
 reads_usable z (Word width immediates ∷ ts) (x ∷ os) reads fits opened zero o there =
     let same : x ≡ o = cc in subst (λ (y : Operand). IsUsable z y.arg) same ((opened 0 x refl).reads fits.0.0 width immediates fits.0.2)
 reads_usable z (BitOf width bit ∷ ts) (x ∷ os) reads fits opened zero o there =
-    let same : x ≡ o = cc in subst (λ (y : Operand). IsUsable z y.arg) same ((opened 0 x refl).reads fits.0.0 width NoImmediate (home_word width x.arg fits.0.2))
-reads_usable z (Word width immediates ∷ ts) (x ∷ os) reads fits opened (suc j) o there = reads_usable z ts os reads fits.1 (λ k y at. opened (suc k) y at) j o there
+    let same : x ≡ o = cc in subst (λ (y : Operand). IsUsable z y.arg) same
+        ((opened 0 x refl).reads fits.0.0 width NoImmediate (home_word width x.arg fits.0.2))
+reads_usable z (Word width immediates ∷ ts) (x ∷ os) reads fits opened (suc j) o there =
+    reads_usable z ts os reads fits.1 (λ k y at. opened (suc k) y at) j o there
 reads_usable z (BitOf width bit ∷ ts) (x ∷ os) reads fits opened (suc j) o there = reads_usable z ts os reads fits.1 (λ k y at. opened (suc k) y at) j o there
 reads_usable z (t ∷ ts) (x ∷ os) reads fits opened j o there = absurd reads
 
@@ -138,13 +144,16 @@ tests_read (Bit k) width = tt
 returns_usable : (z : Setting) (r : Returns) → AreOpen z (returned r) → AllUsable z (returned r)
 returns_usable z kind.Nothing opened j o there = absurd cc
 returns_usable z kind.W32 opened zero o there =
-    let same : operand_in Use W32 0 ≡ o = cc in subst (λ (y : Operand). IsUsable z y.arg) same ((opened 0 (operand_in Use W32 0) refl).reads refl W32 NoImmediate tt)
+    let same : operand_in Use W32 0 ≡ o = cc in
+        subst (λ (y : Operand). IsUsable z y.arg) same ((opened 0 (operand_in Use W32 0) refl).reads refl W32 NoImmediate tt)
 returns_usable z kind.W64 opened zero o there =
-    let same : operand_in Use W64 0 ≡ o = cc in subst (λ (y : Operand). IsUsable z y.arg) same ((opened 0 (operand_in Use W64 0) refl).reads refl W64 NoImmediate tt)
+    let same : operand_in Use W64 0 ≡ o = cc in
+        subst (λ (y : Operand). IsUsable z y.arg) same ((opened 0 (operand_in Use W64 0) refl).reads refl W64 NoImmediate tt)
 returns_usable z kind.W32 opened (suc j) o there = absurd cc
 returns_usable z kind.W64 opened (suc j) o there = absurd cc
 
-pub terminal_usable : (z : Setting) (n : ℕ) (o : AirOp) (os : List Operand) → target_count o ≡ Some n → HasOperands z.procedure.returns o os → AreOpen z os → AllUsable z os
+pub terminal_usable : (z : Setting) (n : ℕ) (o : AirOp) (os : List Operand) → target_count o ≡ Some n → HasOperands z.procedure.returns o os
+    → AreOpen z os → AllUsable z os
 terminal_usable z n (op.BranchIf t) os ends h opened = reads_usable z (test_takes t h.0) os (tests_read t h.0) h.2 opened
 terminal_usable z n op.Jump os ends h opened = reads_usable z [] os tt h.2 opened
 terminal_usable z n (op.Switch cases) os ends h opened = reads_usable z (home h.0 ∷ []) os tt h.1 opened

@@ -159,7 +159,8 @@ module _ (s : Registers) (m : Bytes) (rd : ℕ) (le : rd ≤ 30) where
       (low_is s a width x is_a gives_a) (low_is s b width y is_b gives_b)
       (ap (λ u. sum_of width x u 0) (unshifted width y (gives-small s b width y gives_b)) ∙ e))
   adds width true a b x y w is_a is_b gives_a gives_b e =
-      puts_of s m rd _ w le (two_of (λ v u. sum_of width v (operand width true (shifted width 0 u 0)) 1) (read_low width s (reg_of a)) (read_low width s (reg_of b)) x y w
+      puts_of s m rd _ w le (two_of (λ v u. sum_of width v (operand width true (shifted width 0 u 0)) 1) (read_low width s (reg_of a))
+          (read_low width s (reg_of b)) x y w
       (low_is s a width x is_a gives_a) (low_is s b width y is_b gives_b)
       (ap (λ u. sum_of width x (operand width true u) 1) (unshifted width y (gives-small s b width y gives_b)) ∙ e))
 
@@ -176,7 +177,8 @@ module _ (s : Registers) (m : Bytes) (rd : ℕ) (le : rd ≤ 30) where
       → step_of (AddSubReg width true false rd 31 (reg_of a) 0 0) s m ≡ goes_on (put s rd (difference width 0 x)) m
   unfolding step_of add_sub_reg
   neg_is width a x is_a gives_a =
-      puts_of s m rd _ (difference width 0 x) le (two_of (λ v u. sum_of width v (operand width true (shifted width 0 u 0)) 1) (0 % 2 ^ bits width) (read_low width s (reg_of a)) 0 x
+      puts_of s m rd _ (difference width 0 x) le (two_of (λ v u. sum_of width v (operand width true (shifted width 0 u 0)) 1) (0 % 2 ^ bits width)
+          (read_low width s (reg_of a)) 0 x
       (difference width 0 x) (zero_low width) (low_is s a width x is_a gives_a)
       (ap (λ u. sum_of width 0 (operand width true u) 1) (unshifted width x (gives-small s a width x gives_a))
       ∙ difference_is width 0 x (gives-small s a width x gives_a)))
@@ -187,15 +189,18 @@ module _ (s : Registers) (m : Bytes) (rd : ℕ) (le : rd ≤ 30) where
       → step_of (MulAdd width false rd (reg_of a) (reg_of b) 31) s m ≡ goes_on (put s rd (product width x y)) m
   unfolding step_of mul_add
   mul_is width a b x y is_a is_b gives_a gives_b =
-      puts_of s m rd _ (product width x y) le (two_of (λ v u. sum_of width (0 % 2 ^ bits width) (low_bits width (v * u)) 0) (read_low width s (reg_of a)) (read_low width s (reg_of b)) x y
+      puts_of s m rd _ (product width x y) le (two_of (λ v u. sum_of width (0 % 2 ^ bits width) (low_bits width (v * u)) 0)
+          (read_low width s (reg_of a)) (read_low width s (reg_of b)) x y
       (product width x y) (low_is s a width x is_a gives_a) (low_is s b width y is_b gives_b) (product_is width (x * y)))
 
-  pub mul_sub_is : (width : Width) (a b c : Source) (x y w : ℕ) → IsRegister a → IsRegister b → IsRegister c → Gives s a width x → Gives s b width y → Gives s c width w
+  pub mul_sub_is : (width : Width) (a b c : Source) (x y w : ℕ) → IsRegister a → IsRegister b → IsRegister c → Gives s a width x → Gives s b width y
+      → Gives s c width w
       → step_of (MulAdd width true rd (reg_of a) (reg_of b) (reg_of c)) s m ≡ goes_on (put s rd (difference width w (product width x y))) m
   unfolding step_of mul_add
   mul_sub_is width a b c x y w is_a is_b is_c gives_a gives_b gives_c =
       puts_of s m rd _ (difference width w (product width x y)) le
-      (ap (λ v. sum_of width v (operand width true (low_bits width (read_low width s (reg_of a) * read_low width s (reg_of b)))) 1) (low_is s c width w is_c gives_c)
+      (ap (λ v. sum_of width v (operand width true (low_bits width (read_low width s (reg_of a) * read_low width s (reg_of b)))) 1)
+      (low_is s c width w is_c gives_c)
       ∙ two_of (λ v u. sum_of width w (operand width true (low_bits width (v * u))) 1) (read_low width s (reg_of a)) (read_low width s (reg_of b)) x y
       (difference width w (product width x y)) (low_is s a width x is_a gives_a) (low_is s b width y is_b gives_b)
       (difference_is width w (product width x y) (in_width-lt width (x * y))))
@@ -220,7 +225,8 @@ module _ (s : Registers) (m : Bytes) (rd : ℕ) (le : rd ≤ 30) where
 
   -- ---- logical operations
 
-  pub logic_is : (width : Width) (op : LogicOp) (a b : Source) (x y : ℕ) → sets_flags op ≡ false → IsRegister a → IsRegister b → Gives s a width x → Gives s b width y
+  pub logic_is : (width : Width) (op : LogicOp) (a b : Source) (x y : ℕ) → sets_flags op ≡ false → IsRegister a → IsRegister b → Gives s a width x
+      → Gives s b width y
       → step_of (LogicReg width op false rd (reg_of a) (reg_of b) 0 0) s m ≡ goes_on (put s rd (logic op x y)) m
   unfolding step_of logic_reg
   logic_is width And a b x y plain is_a is_b gives_a gives_b =
@@ -238,12 +244,16 @@ module _ (s : Registers) (m : Bytes) (rd : ℕ) (le : rd ≤ 30) where
       → bit_mask width n immr imms ≡ Some y
       → step_of (LogicImm width op rd (reg_of a) n immr imms) s m ≡ goes_on (put s rd (logic op x y)) m
   unfolding step_of logic_imm
-  masked_is width And a n immr imms x y plain is_a gives_a masked = rw (masked, ne_eqb rd 31 (λ e. omega arith)) (ap (λ v. goes_on (put s rd (bit_and v y)) m) (low_is s a width x is_a gives_a))
-  masked_is width Orr a n immr imms x y plain is_a gives_a masked = rw (masked, ne_eqb rd 31 (λ e. omega arith)) (ap (λ v. goes_on (put s rd (bit_or v y)) m) (low_is s a width x is_a gives_a))
-  masked_is width Eor a n immr imms x y plain is_a gives_a masked = rw (masked, ne_eqb rd 31 (λ e. omega arith)) (ap (λ v. goes_on (put s rd (bit_xor v y)) m) (low_is s a width x is_a gives_a))
+  masked_is width And a n immr imms x y plain is_a gives_a masked =
+      rw (masked, ne_eqb rd 31 (λ e. omega arith)) (ap (λ v. goes_on (put s rd (bit_and v y)) m) (low_is s a width x is_a gives_a))
+  masked_is width Orr a n immr imms x y plain is_a gives_a masked =
+      rw (masked, ne_eqb rd 31 (λ e. omega arith)) (ap (λ v. goes_on (put s rd (bit_or v y)) m) (low_is s a width x is_a gives_a))
+  masked_is width Eor a n immr imms x y plain is_a gives_a masked =
+      rw (masked, ne_eqb rd 31 (λ e. omega arith)) (ap (λ v. goes_on (put s rd (bit_xor v y)) m) (low_is s a width x is_a gives_a))
   masked_is width Ands a n immr imms x y plain is_a gives_a masked = absurd cc
 
-  pub logic_by_is : (width : Width) (op : LogicOp) (a b : Source) (x y : ℕ) → sets_flags op ≡ false → IsRegister a → Gives s a width x → Gives s b width y → IsMasked width b
+  pub logic_by_is : (width : Width) (op : LogicOp) (a b : Source) (x y : ℕ) → sets_flags op ≡ false → IsRegister a → Gives s a width x
+      → Gives s b width y → IsMasked width b
       → step_of (logic_by width op rd (reg_of a) b) s m ≡ goes_on (put s rd (logic op x y)) m
   logic_by_is width op a (InReg r) x y plain is_a gives_a gives_b fits = logic_is width op a (InReg r) x y plain is_a tt gives_a gives_b
   logic_by_is width op a (Constant k) x y plain is_a gives_a gives_b fits =
@@ -331,7 +341,8 @@ module _ (s : Registers) (m : Bytes) (rd : ℕ) (le : rd ≤ 30) where
   short_is : (width : Width) (sub : Bool) (a : Source) (k x : ℕ) → is_short k ≡ true → IsRegister a → Gives s a width x
       → step_of (short_sum width sub false rd (reg_of a) k) s m ≡ goes_on (put s rd (sum_of width x (operand width sub k) (if sub then 1 else 0))) m
   short_is width sub (InReg r) k x short is_a gives_a =
-      elim (nat_le k 4095) as (λ b. nat_le k 4095 ≡ b → step_of (if b then AddSubImm width sub false rd r k false else AddSubImm width sub false rd r (k / 4096) true) s m
+      elim (nat_le k 4095) as (λ b. nat_le k 4095 ≡ b
+          → step_of (if b then AddSubImm width sub false rd r k false else AddSubImm width sub false rd r (k / 4096) true) s m
       ≡ goes_on (put s rd (sum_of width x (operand width sub k) (if sub then 1 else 0))) m) [
         | true ↦ λ e. imm_is width sub r k false k x gives_a refl
         | false ↦ λ e. imm_is width sub r (k / 4096) true k x gives_a (short_high k short e)
@@ -344,10 +355,13 @@ module _ (s : Registers) (m : Bytes) (rd : ℕ) (le : rd ≤ 30) where
   sum_by_is width a (Constant k) x y is_a gives_a gives_b fits =
       let same : k ≡ y = sym (low_small width k fits.0) ∙ gives_b in
       let either : (b : Bool) → is_short k ≡ b
-      → step_of (if b then short_sum width false false rd (reg_of a) k else short_sum width true false rd (reg_of a) (2 ^ bits width - k)) s m ≡ goes_on (put s rd (sum width x k)) m =
-      λ b. elim b as (λ b. is_short k ≡ b → step_of (if b then short_sum width false false rd (reg_of a) k else short_sum width true false rd (reg_of a) (2 ^ bits width - k)) s m ≡ goes_on (put s rd (sum width x k)) m) [
+      → step_of (if b then short_sum width false false rd (reg_of a) k else short_sum width true false rd (reg_of a) (2 ^ bits width - k)) s m ≡ goes_on
+          (put s rd (sum width x k)) m =
+      λ b. elim b as (λ b. is_short k ≡ b → step_of (if b then short_sum width false false rd (reg_of a) k else short_sum width true false rd (reg_of a)
+          (2 ^ bits width - k)) s m ≡ goes_on (put s rd (sum width x k)) m) [
         | true ↦ λ e. short_is width false a k x e is_a gives_a ∙ ap (λ v. goes_on (put s rd v) m) (sum_is width x k)
-        | false ↦ λ e. short_is width true a (2 ^ bits width - k) x (turned_short width k e fits.1) is_a gives_a ∙ ap (λ v. goes_on (put s rd v) m) (add_turned width x k fits.0 e)
+        | false ↦ λ e. short_is width true a (2 ^ bits width - k) x (turned_short width k e fits.1) is_a gives_a
+            ∙ ap (λ v. goes_on (put s rd v) m) (add_turned width x k fits.0 e)
       ] in
       either (is_short k) refl ∙ ap (λ v. goes_on (put s rd (sum width x v)) m) same
 
@@ -419,11 +433,16 @@ module _ (s : Registers) (m : Bytes) (rd : ℕ) (le : rd ≤ 30) (words : (r : �
   two_computed op.Add width a b c x y w at is_a is_b fits gives_a gives_b e = into _ _ w (sum_by_is s m rd le width a b x y is_a gives_a gives_b fits) e
   two_computed op.Sub width a b c x y w at is_a is_b fits gives_a gives_b e = into _ _ w (sub_is s m rd le width a b x y is_a (is_b refl) gives_a gives_b) e
   two_computed op.Mul width a b c x y w at is_a is_b fits gives_a gives_b e = into _ _ w (mul_is s m rd le width a b x y is_a (is_b refl) gives_a gives_b) e
-  two_computed op.Div width a b c x y w at is_a is_b fits gives_a gives_b e = into _ _ w (divide_is s m rd le width true a b x y is_a (is_b refl) gives_a gives_b) e
-  two_computed op.UDiv width a b c x y w at is_a is_b fits gives_a gives_b e = into _ _ w (divide_is s m rd le width false a b x y is_a (is_b refl) gives_a gives_b) e
-  two_computed op.And width a b c x y w at is_a is_b fits gives_a gives_b e = into _ _ w (logic_by_is s m rd le width And a b x y refl is_a gives_a gives_b fits) e
-  two_computed op.Or width a b c x y w at is_a is_b fits gives_a gives_b e = into _ _ w (logic_by_is s m rd le width Orr a b x y refl is_a gives_a gives_b fits) e
-  two_computed op.Xor width a b c x y w at is_a is_b fits gives_a gives_b e = into _ _ w (logic_by_is s m rd le width Eor a b x y refl is_a gives_a gives_b fits) e
+  two_computed op.Div width a b c x y w at is_a is_b fits gives_a gives_b e =
+      into _ _ w (divide_is s m rd le width true a b x y is_a (is_b refl) gives_a gives_b) e
+  two_computed op.UDiv width a b c x y w at is_a is_b fits gives_a gives_b e =
+      into _ _ w (divide_is s m rd le width false a b x y is_a (is_b refl) gives_a gives_b) e
+  two_computed op.And width a b c x y w at is_a is_b fits gives_a gives_b e =
+      into _ _ w (logic_by_is s m rd le width And a b x y refl is_a gives_a gives_b fits) e
+  two_computed op.Or width a b c x y w at is_a is_b fits gives_a gives_b e =
+      into _ _ w (logic_by_is s m rd le width Orr a b x y refl is_a gives_a gives_b fits) e
+  two_computed op.Xor width a b c x y w at is_a is_b fits gives_a gives_b e =
+      into _ _ w (logic_by_is s m rd le width Eor a b x y refl is_a gives_a gives_b fits) e
   two_computed op.Lsl width a b c x y w at is_a is_b fits gives_a gives_b e = into _ _ w (shift_by_is s m rd le width Lslv a b x y is_a gives_a gives_b) e
   two_computed op.Lsr width a b c x y w at is_a is_b fits gives_a gives_b e = into _ _ w (shift_by_is s m rd le width Lsrv a b x y is_a gives_a gives_b) e
   two_computed op.Asr width a b c x y w at is_a is_b fits gives_a gives_b e = into _ _ w (shift_by_is s m rd le width Asrv a b x y is_a gives_a gives_b) e

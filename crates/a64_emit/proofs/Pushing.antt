@@ -21,7 +21,8 @@ saves_take f [] i d lt = absurd (omega arith)
 saves_take f (row ∷ rows) zero d lt = append-nil (store_at row.reg.0 (above_sp f row.offset))
 saves_take f (row ∷ rows) (suc i) d lt =
     ap (λ (xs : List Inst). store_at row.reg.0 (above_sp f row.offset) ++ xs) (saves_take f rows i d (omega arith))
-    ∙ sym (append_assoc (store_at row.reg.0 (above_sp f row.offset)) (saves f (take i rows)) (store_at (get_or rows i d).reg.0 (above_sp f (get_or rows i d).offset)))
+    ∙ sym (append_assoc (store_at row.reg.0 (above_sp f row.offset)) (saves f (take i rows))
+        (store_at (get_or rows i d).reg.0 (above_sp f (get_or rows i d).offset)))
 
 restores_take : (f : Frame) (rows : List SavedRow) (i : ℕ) (d : SavedRow) → i < length rows
     → restores f (take (suc i) rows) ≡ restores f (take i rows) ++ load_at (get_or rows i d).reg.0 (above_sp f (get_or rows i d).offset)
@@ -30,7 +31,8 @@ restores_take f [] i d lt = absurd (omega arith)
 restores_take f (row ∷ rows) zero d lt = append-nil (load_at row.reg.0 (above_sp f row.offset))
 restores_take f (row ∷ rows) (suc i) d lt =
     ap (λ (xs : List Inst). load_at row.reg.0 (above_sp f row.offset) ++ xs) (restores_take f rows i d (omega arith))
-    ∙ sym (append_assoc (load_at row.reg.0 (above_sp f row.offset)) (restores f (take i rows)) (load_at (get_or rows i d).reg.0 (above_sp f (get_or rows i d).offset)))
+    ∙ sym (append_assoc (load_at row.reg.0 (above_sp f row.offset)) (restores f (take i rows))
+        (load_at (get_or rows i d).reg.0 (above_sp f (get_or rows i d).offset)))
 
 add_one : (i : ℕ) → suc i ≡ i + 1
 add_one i = omega arith
@@ -40,7 +42,8 @@ pub saves_none : (f : Frame) (rows : List SavedRow) (code : List Item) → code 
 unfolding saves
 saves_none f rows code = sym (append-nil code)
 
-pub saves_more : (f : Frame) (rows : List SavedRow) (i : ℕ) (d : SavedRow) (code now after : List Item) → i < length rows → now ≡ code ++ plains (saves f (take i rows))
+pub saves_more : (f : Frame) (rows : List SavedRow) (i : ℕ) (d : SavedRow) (code now after : List Item) → i < length rows
+    → now ≡ code ++ plains (saves f (take i rows))
     → after ≡ now ++ plains (store_at (get_or rows i d).reg.0 (above_sp f (get_or rows i d).offset)) → after ≡ code ++ plains (saves f (take (i + 1) rows))
 saves_more f rows i d code now after lt before pushed =
     let more : List Inst = store_at (get_or rows i d).reg.0 (above_sp f (get_or rows i d).offset) in
@@ -52,7 +55,8 @@ pub restores_none : (f : Frame) (rows : List SavedRow) (code : List Item) → co
 unfolding restores
 restores_none f rows code = sym (append-nil code)
 
-pub restores_more : (f : Frame) (rows : List SavedRow) (i : ℕ) (d : SavedRow) (code now after : List Item) → i < length rows → now ≡ code ++ plains (restores f (take i rows))
+pub restores_more : (f : Frame) (rows : List SavedRow) (i : ℕ) (d : SavedRow) (code now after : List Item) → i < length rows
+    → now ≡ code ++ plains (restores f (take i rows))
     → after ≡ now ++ plains (load_at (get_or rows i d).reg.0 (above_sp f (get_or rows i d).offset)) → after ≡ code ++ plains (restores f (take (i + 1) rows))
 restores_more f rows i d code now after lt before pushed =
     let more : List Inst = load_at (get_or rows i d).reg.0 (above_sp f (get_or rows i d).offset) in
@@ -60,21 +64,28 @@ restores_more f rows i d code now after lt before pushed =
     ∙ ap (λ (xs : List Item). code ++ xs) (sym (plains_both (restores f (take i rows)) more))
     ∙ ap (λ (xs : List Inst). code ++ plains xs) (sym (restores_take f rows i d lt)) ∙ ap (λ n. code ++ plains (restores f (take n rows))) (add_one i)
 
-pub saves_next : (f : Frame) (items rows : List SavedRow) (i at : ℕ) (d : SavedRow) (code now after : List Item) → items ≡ rows → i < length items → now ≡ code ++ plains (saves f (take i rows))
-    → at ≡ above_sp f (get_or items i d).offset → after ≡ now ++ plains (store_at (get_or items i d).reg.0 at) → after ≡ code ++ plains (saves f (take (i + 1) rows))
+pub saves_next : (f : Frame) (items rows : List SavedRow) (i at : ℕ) (d : SavedRow) (code now after : List Item) → items ≡ rows → i < length items
+    → now ≡ code ++ plains (saves f (take i rows))
+    → at ≡ above_sp f (get_or items i d).offset → after ≡ now ++ plains (store_at (get_or items i d).reg.0 at)
+    → after ≡ code ++ plains (saves f (take (i + 1) rows))
 saves_next f items rows i at d code now after same lt before is pushed =
     saves_more f rows i d code now after (subst (λ (xs : List SavedRow). i < length xs) same lt) before
-    (pushed ∙ ap (λ n. now ++ plains (store_at (get_or items i d).reg.0 n)) is ∙ ap (λ (xs : List SavedRow). now ++ plains (store_at (get_or xs i d).reg.0 (above_sp f (get_or xs i d).offset))) same)
+    (pushed ∙ ap (λ n. now ++ plains (store_at (get_or items i d).reg.0 n)) is
+    ∙ ap (λ (xs : List SavedRow). now ++ plains (store_at (get_or xs i d).reg.0 (above_sp f (get_or xs i d).offset))) same)
 
-pub restores_next : (f : Frame) (items rows : List SavedRow) (i at : ℕ) (d : SavedRow) (code now after : List Item) → items ≡ rows → i < length items → now ≡ code ++ plains (restores f (take i rows))
-    → at ≡ above_sp f (get_or items i d).offset → after ≡ now ++ plains (load_at (get_or items i d).reg.0 at) → after ≡ code ++ plains (restores f (take (i + 1) rows))
+pub restores_next : (f : Frame) (items rows : List SavedRow) (i at : ℕ) (d : SavedRow) (code now after : List Item) → items ≡ rows → i < length items
+    → now ≡ code ++ plains (restores f (take i rows))
+    → at ≡ above_sp f (get_or items i d).offset → after ≡ now ++ plains (load_at (get_or items i d).reg.0 at)
+    → after ≡ code ++ plains (restores f (take (i + 1) rows))
 restores_next f items rows i at d code now after same lt before is pushed =
     restores_more f rows i d code now after (subst (λ (xs : List SavedRow). i < length xs) same lt) before
-    (pushed ∙ ap (λ n. now ++ plains (load_at (get_or items i d).reg.0 n)) is ∙ ap (λ (xs : List SavedRow). now ++ plains (load_at (get_or xs i d).reg.0 (above_sp f (get_or xs i d).offset))) same)
+    (pushed ∙ ap (λ n. now ++ plains (load_at (get_or items i d).reg.0 n)) is
+    ∙ ap (λ (xs : List SavedRow). now ++ plains (load_at (get_or xs i d).reg.0 (above_sp f (get_or xs i d).offset))) same)
 
 -- ---- constants
 
-pub halves_more : (word half hw alike one now : ℕ) → alike ≡ halves_like word half hw → one ≡ (if nat_eq (half_word word hw) half then 1 else 0) → now ≡ alike + one
+pub halves_more : (word half hw alike one now : ℕ) → alike ≡ halves_like word half hw → one ≡ (if nat_eq (half_word word hw) half then 1 else 0)
+    → now ≡ alike + one
     → now ≡ halves_like word half (hw + 1)
 unfolding halves_like
 halves_more word half hw alike one now before is e =
@@ -86,7 +97,8 @@ unfolding halves_like
 halves_none word half = refl
 
 -- a half-word that is the filling is passed over
-pub half_passed : (width : Width) (inverted : Bool) (reg word : ℕ) (started : Bool) (hw : ℕ) (code : List Item) → nat_eq (half_word word hw) (filling inverted) ≡ true → (n : ℕ)
+pub half_passed : (width : Width) (inverted : Bool) (reg word : ℕ) (started : Bool) (hw : ℕ) (code : List Item)
+    → nat_eq (half_word word hw) (filling inverted) ≡ true → (n : ℕ)
     → code ++ plains (half_moves width inverted reg word started (suc n) hw) ≡ code ++ plains (half_moves width inverted reg word started n (hw + 1))
 unfolding half_moves
 half_passed width inverted reg word started hw code e n =
@@ -94,7 +106,8 @@ half_passed width inverted reg word started hw code e n =
     half_move width inverted started reg (half_word word hw) hw ∷ half_moves width inverted reg word true n (hw + 1))) e
 
 -- and another one is put
-pub half_put : (width : Width) (inverted : Bool) (reg word : ℕ) (started : Bool) (hw : ℕ) (code after : List Item) → nat_eq (half_word word hw) (filling inverted) ≡ false
+pub half_put : (width : Width) (inverted : Bool) (reg word : ℕ) (started : Bool) (hw : ℕ) (code after : List Item)
+    → nat_eq (half_word word hw) (filling inverted) ≡ false
     → after ≡ code ++ Plain (half_move width inverted started reg (half_word word hw) hw) ∷ [] → (n : ℕ)
     → code ++ plains (half_moves width inverted reg word started (suc n) hw) ≡ after ++ plains (half_moves width inverted reg word true n (hw + 1))
 unfolding half_moves

@@ -94,9 +94,11 @@ IsBuiltBlock b = All IsBuiltInst b.insts
 pub sample_built : IsBuilt procedure
 sample_built =
     All-cons IsBuiltBlock entry (last ∷ [])
-    (All-cons IsBuiltInst (inst op.Move (used (Imm 7) ∷ made (At (Spill 0)) ∷ [])) (inst op.Jump [] ∷ []) refl (All-cons IsBuiltInst (inst op.Jump []) [] refl (All-nil IsBuiltInst)))
+    (All-cons IsBuiltInst (inst op.Move (used (Imm 7) ∷ made (At (Spill 0)) ∷ [])) (inst op.Jump [] ∷ []) refl
+    (All-cons IsBuiltInst (inst op.Jump []) [] refl (All-nil IsBuiltInst)))
     (All-cons IsBuiltBlock last []
-    (All-cons IsBuiltInst (inst op.Move (used (At (Spill 0)) ∷ made x0 ∷ [])) (inst op.Return (used x0 ∷ []) ∷ []) refl (All-cons IsBuiltInst (inst op.Return (used x0 ∷ [])) [] refl (All-nil IsBuiltInst)))
+    (All-cons IsBuiltInst (inst op.Move (used (At (Spill 0)) ∷ made x0 ∷ [])) (inst op.Return (used x0 ∷ []) ∷ []) refl
+    (All-cons IsBuiltInst (inst op.Return (used x0 ∷ [])) [] refl (All-nil IsBuiltInst)))
     (All-nil IsBuiltBlock))
 
 pub sample_light : weight procedure < 2 ^ 24

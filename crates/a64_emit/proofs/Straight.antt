@@ -100,11 +100,13 @@ pub forward_both : (z : Setting) (m n : ℕ) (a : Config Machine Inst) → GoFor
     → GoForward (meaning_of z) z.code n (iterate (item_step (meaning_of z) z.code) m a) → GoForward (meaning_of z) z.code (m + n) a
 unfolding GoForward
 forward_both z zero n a first rest =
-    subst (λ k. GoForward (meaning_of z) z.code k a) (omega arith) (subst (GoForward (meaning_of z) z.code n) (iterate-zero (item_step (meaning_of z) z.code) a) rest)
+    subst (λ k. GoForward (meaning_of z) z.code k a) (omega arith)
+        (subst (GoForward (meaning_of z) z.code n) (iterate-zero (item_step (meaning_of z) z.code) a) rest)
 forward_both z (suc m) n a first rest =
     let e : suc (m + n) ≡ suc m + n = omega arith in
     subst (λ k. GoForward (meaning_of z) z.code k a) e
-    (first.0, forward_both z m n (item_step (meaning_of z) z.code a) first.1 (subst (GoForward (meaning_of z) z.code n) (iterate-suc (item_step (meaning_of z) z.code) m a) rest))
+    (first.0, forward_both z m n (item_step (meaning_of z) z.code a) first.1
+    (subst (GoForward (meaning_of z) z.code n) (iterate-suc (item_step (meaning_of z) z.code) m a) rest))
 
 pub runs_none : (z : Setting) (k : ℕ) (c d : Machine) → AreAlike c d → Runs z k c 0 d
 runs_none z k c d same = record {
@@ -127,8 +129,10 @@ runs_more z k c e n d step here small rest = record {
   forward = forward_more z n (At k c) (subst (GoesOn (At k c)) (sym step) (omega arith)) (subst (GoForward (meaning_of z) z.code n) (sym step) rest.forward);
   proper = λ j within. moments_joined (item_step (meaning_of z) z.code) (IsProper z) 1 n (At k c)
       (λ i below. let none : i ≡ 0 = omega arith in
-      subst (IsProper z) (sym (ap (λ (j : ℕ). iterate (item_step (meaning_of z) z.code) j (At k c)) none ∙ iterate-zero (item_step (meaning_of z) z.code) (At k c))) here)
-      (λ i below. subst (λ a. IsProper z (iterate (item_step (meaning_of z) z.code) i a)) (sym (iterate-one (item_step (meaning_of z) z.code) (At k c) ∙ step)) (rest.proper i below))
+      subst (IsProper z) (sym (ap (λ (j : ℕ). iterate (item_step (meaning_of z) z.code) j (At k c)) none
+          ∙ iterate-zero (item_step (meaning_of z) z.code) (At k c))) here)
+      (λ i below. subst (λ a. IsProper z (iterate (item_step (meaning_of z) z.code) i a)) (sym (iterate-one (item_step (meaning_of z) z.code) (At k c)
+      ∙ step)) (rest.proper i below))
       j (omega arith);
   small = λ lt. rest.small small;
 }
@@ -152,7 +156,8 @@ reaches_here z from next k c here lands = record {
   forward = forward_zero z (At k c);
   comes = iterate-zero (item_step (meaning_of z) z.code) (At k c);
   proper = λ i le. let none : i ≡ 0 = omega arith in
-      subst (IsProper z) (sym (ap (λ (j : ℕ). iterate (item_step (meaning_of z) z.code) j (At k c)) none ∙ iterate-zero (item_step (meaning_of z) z.code) (At k c))) here;
+      subst (IsProper z) (sym (ap (λ (j : ℕ). iterate (item_step (meaning_of z) z.code) j (At k c)) none
+          ∙ iterate-zero (item_step (meaning_of z) z.code) (At k c))) here;
   lands = lands;
 }
 
@@ -164,7 +169,8 @@ leads_on z from next k n c d runs rest = record {
   at = rest.at;
   last = rest.last;
   forward = forward_both z n rest.items (At k c) runs.forward (subst (GoForward (meaning_of z) z.code rest.items) (sym runs.comes) rest.forward);
-  comes = iterate-add (item_step (meaning_of z) z.code) n rest.items (At k c) ∙ ap (iterate (item_step (meaning_of z) z.code) rest.items) runs.comes ∙ rest.comes;
+  comes = iterate-add (item_step (meaning_of z) z.code) n rest.items (At k c) ∙ ap (iterate (item_step (meaning_of z) z.code) rest.items) runs.comes
+      ∙ rest.comes;
   proper = λ i le. moments_joined (item_step (meaning_of z) z.code) (IsProper z) n (suc rest.items) (At k c) runs.proper
       (λ j below. subst (λ a. IsProper z (iterate (item_step (meaning_of z) z.code) j a)) (sym runs.comes) (rest.proper j (omega arith))) i (omega arith);
   lands = rest.lands;

@@ -51,7 +51,8 @@ module _ (width : Width) (reg next label : ℕ) (cases targets : List ℕ) (code
       sym (append-nil code) ∙ ap (λ cs. code ++ switch_items width reg next label cs []) (sym (none_left cases k le_cases))
       ∙ ap (λ ts. code ++ switch_items width reg next label (drop k cases) ts) (sym (none_left targets k le_targets)) ∙ left
 
-  pub switch_falls : (target : ℕ) (after : List Item) → length cases ≤ k → slice_get targets k ≡ Some target → after ≡ code ++ jump_to next target → after ≡ whole
+  pub switch_falls : (target : ℕ) (after : List Item) → length cases ≤ k → slice_get targets k ≡ Some target → after ≡ code ++ jump_to next target
+      → after ≡ whole
   unfolding switch_items
   switch_falls target after le there jumped =
       jumped ∙ ap (λ cs. code ++ switch_items width reg next label cs (target ∷ drop (suc k) targets)) (sym (none_left cases k le))

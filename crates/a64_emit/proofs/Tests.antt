@@ -54,7 +54,8 @@ add_flags : (width : Width) (x k : ℕ) → k < 2 ^ bits width → is_short k �
     → flags_of_sum width x (2 ^ bits width - k) 0 ≡ flags_of_sum width x (complement width k) 1
 add_flags width x k small long short =
     let some : 0 < k = not_zero k long in
-    flags_by width x (2 ^ bits width - k) x (complement width k) 0 1 (same_sum width x k small some) (rw (negative_signed width k small short some) (omega (arith, ints)))
+    flags_by width x (2 ^ bits width - k) x (complement width k) 0 1 (same_sum width x k small some)
+        (rw (negative_signed width k small short some) (omega (arith, ints)))
 
 -- ---- comparisons
 
@@ -67,7 +68,8 @@ module _ (s : Registers) (m : Bytes) where
       → step_of (AddSubReg width true true 31 (reg_of a) (reg_of b) 0 0) s m ≡ goes_on (with_flags s (flags_of_sum width x (complement width y) 1)) m
   unfolding step_of add_sub_reg
   compare_reg width a b x y is_a is_b gives_a gives_b =
-      ap (λ v. goes_on (with_flags s (flags_of_sum width v (complement width (shifted width 0 (read_low width s (reg_of b)) 0)) 1)) m) (low_is s a width x is_a gives_a)
+      ap (λ v. goes_on (with_flags s (flags_of_sum width v (complement width (shifted width 0 (read_low width s (reg_of b)) 0)) 1)) m)
+          (low_is s a width x is_a gives_a)
       ∙ ap (λ v. goes_on (with_flags s (flags_of_sum width x (complement width (shifted width 0 v 0)) 1)) m) (low_is s b width y is_b gives_b)
       ∙ ap (λ v. goes_on (with_flags s (flags_of_sum width x (complement width v) 1)) m) (unshifted width y (gives-small s b width y gives_b))
 
@@ -79,7 +81,8 @@ module _ (s : Registers) (m : Bytes) where
   short_flags : (width : Width) (sub : Bool) (a : Source) (k x : ℕ) → is_short k ≡ true → IsRegister a → Gives s a width x
       → step_of (short_sum width sub true 31 (reg_of a) k) s m ≡ goes_on (with_flags s (flags_of_sum width x (operand width sub k) (bit sub))) m
   short_flags width sub (InReg r) k x short is_a gives_a =
-      elim (nat_le k 4095) as (λ b. nat_le k 4095 ≡ b → step_of (if b then AddSubImm width sub true 31 r k false else AddSubImm width sub true 31 r (k / 4096) true) s m
+      elim (nat_le k 4095) as (λ b. nat_le k 4095 ≡ b
+          → step_of (if b then AddSubImm width sub true 31 r k false else AddSubImm width sub true 31 r (k / 4096) true) s m
       ≡ goes_on (with_flags s (flags_of_sum width x (operand width sub k) (bit sub))) m) [
         | true ↦ λ e. imm_flags width sub r k false k x gives_a refl
         | false ↦ λ e. imm_flags width sub r (k / 4096) true k x gives_a (short_high k short e)
@@ -102,7 +105,8 @@ module _ (s : Registers) (m : Bytes) where
       let either : (b : Bool) → is_short k ≡ b
       → step_of (if b then short_sum width true true 31 (reg_of a) k else short_sum width false true 31 (reg_of a) (2 ^ bits width - k)) s m
       ≡ goes_on (with_flags s (flags_of_sum width x (complement width k) 1)) m =
-      λ b. elim b as (λ b. is_short k ≡ b → step_of (if b then short_sum width true true 31 (reg_of a) k else short_sum width false true 31 (reg_of a) (2 ^ bits width - k)) s m
+      λ b. elim b as (λ b. is_short k ≡ b → step_of (if b then short_sum width true true 31 (reg_of a) k else short_sum width false true 31 (reg_of a)
+          (2 ^ bits width - k)) s m
       ≡ goes_on (with_flags s (flags_of_sum width x (complement width k) 1)) m) [
         | true ↦ λ e. short_flags width true a k x e is_a gives_a
         | false ↦ λ e. short_flags width false a (2 ^ bits width - k) x (turned_short width k e fits.1) is_a gives_a
@@ -155,7 +159,8 @@ GivesSecond (Compare cond) s b width y = Gives s b width y
 GivesSecond NonZero s b width y = Unit {0}
 GivesSecond (Bit k) s b width y = Unit {0}
 
-pub testing_is : (s : Registers) (m : Bytes) (t : Test) (width : Width) (a b : Source) (x y : ℕ) → IsRegister a → Gives s a width x → GivesSecond t s b width y → IsTested t width b
+pub testing_is : (s : Registers) (m : Bytes) (t : Test) (width : Width) (a b : Source) (x y : ℕ) → IsRegister a → Gives s a width x
+    → GivesSecond t s b width y → IsTested t width b
     → step_of (testing t width a b) s m ≡ goes_on (with_flags s (test_flags t width x y)) m
 unfolding testing
 testing_is s m (Compare cond) width a b x y is_a gives_a gives_b fits = compare_is s m width a b x y is_a gives_a gives_b fits

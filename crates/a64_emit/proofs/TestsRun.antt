@@ -68,7 +68,8 @@ opposite_holds Le f = not_not (not f.z && beq f.n f.v)
 -- ---- CSEL and CSINC
 
 module _ (s : Registers) (m : Bytes) (rd : ℕ) (le : rd ≤ 30) where
-  select_is : (width : Width) (a b : Source) (u v : ℕ) (c : Cond) (p : Bool) → IsRegister a → IsRegister b → Gives s a width u → Gives s b width v → holds c s.flags ≡ p
+  select_is : (width : Width) (a b : Source) (u v : ℕ) (c : Cond) (p : Bool) → IsRegister a → IsRegister b → Gives s a width u → Gives s b width v
+      → holds c s.flags ≡ p
       → step_of (Select width false rd (reg_of a) (reg_of b) c) s m ≡ goes_on (put s rd (if p then u else v)) m
   unfolding step_of select
   select_is width a b u v c p is_a is_b gives_a gives_b e =
@@ -94,7 +95,8 @@ module _ (s : Registers) (m : Bytes) (rd : ℕ) (le : rd ≤ 30) where
 abbrev pub flagged : Machine → Flags → Machine
 flagged m flags = record { registers = with_flags m.registers flags; memory = m.memory }
 
-second_at : (m : Machine) (pc : ℕ) (t : Test) (b : Source) (width : Width) (y : ℕ) → GivesSecond t m.registers b width y → GivesSecond t (moved_to pc m).registers b width y
+second_at : (m : Machine) (pc : ℕ) (t : Test) (b : Source) (width : Width) (y : ℕ) → GivesSecond t m.registers b width y
+    → GivesSecond t (moved_to pc m).registers b width y
 second_at m pc (Compare cond) b width y gives = gives
 second_at m pc NonZero b width y gives = tt
 second_at m pc (Bit k) b width y gives = tt
@@ -136,11 +138,13 @@ module _ (z : Setting) (set : IsSet z) (serves : IsFrameOf z.procedure z.frame) 
 
   flagged_related : (s : State) (m : Machine) (flags : Flags) → IsRelated z s m → IsRelated z s (flagged m flags)
   flagged_related s m flags rel =
-      keeps_related z s m (flagged m flags) (record { sp = refl; memory = refl; x = λ r kept. refl; words = record { x = rel.frame.words.x; sp = rel.frame.words.sp; pc = rel.frame.words.pc } }) rel
+      keeps_related z s m (flagged m flags) (record { sp = refl; memory = refl; x = λ r kept. refl; words =
+          record { x = rel.frame.words.x; sp = rel.frame.words.sp; pc = rel.frame.words.pc } }) rel
 
   -- the test sets its flags
   pub tests_one : (s : State) (m : Machine) (t : Test) (a b : Source) (width : Width) (x y : ℕ) → IsRelated z s m → IsRegister a → Gives m.registers a width x
-      → GivesSecond t m.registers b width y → IsTested t width b → reg_of a ≤ 31 → reg_of b ≤ 31 → DoesOne z m (testing t width a b) (flagged m (test_flags t width x y))
+      → GivesSecond t m.registers b width y → IsTested t width b → reg_of a ≤ 31 → reg_of b ≤ 31
+      → DoesOne z m (testing t width a b) (flagged m (test_flags t width x y))
   tests_one s m t a b width x y rel is_a gives_a gives_b fits le_a le_b =
       let plain = testing_plain t width a b le_a le_b fits in
       does_safely z m (flagged m (test_flags t width x y)) (testing t width a b) (whole_of z set serves m rel.frame)
@@ -153,7 +157,8 @@ module _ (z : Setting) (set : IsSet z) (serves : IsFrameOf z.procedure z.frame) 
       → (ready : Ready s c insts t a b width x y) → IsWritten d home → IsPlaceFor z home → IsRegister a → IsTested t width b → reg_of a ≤ 31 → reg_of b ≤ 31
       → inst_code z.frame i.op i.operands
       ≡ insts ++ testing t width a b ∷ Select W32 true (result_reg d.arg) 31 31 (opposite_cond (condition t)) ∷ put_result z.frame (result_reg d.arg) d.arg
-      → ((junk : List ℕ) → step (meaning z.start) i s junk ≡ (Goes None (with_home s home (Holds d.width (truth (passes t width x y)))), junk)) → Carried z i s c
+      → ((junk : List ℕ) → step (meaning z.start) i s junk ≡ (Goes None (with_home s home (Holds d.width (truth (passes t width x y)))), junk))
+      → Carried z i s c
   set_end i s c t insts a b width x y d home ready is may is_a fits le_a le_b code steps =
       let m : Machine = ready.after in
       let f : Machine = flagged m (test_flags t width x y) in
@@ -169,7 +174,8 @@ module _ (z : Setting) (set : IsSet z) (serves : IsFrameOf z.procedure z.frame) 
         after = last.after;
         steps = steps;
         does = subst (λ insts. Does z c insts last.after) (sym code)
-            (subst (λ arg. Does z c (insts ++ testing t width a b ∷ Select W32 true (result_reg arg) 31 31 (opposite_cond (condition t)) ∷ put_result z.frame (result_reg arg) arg) last.after) (sym is.arg)
+            (subst (λ arg. Does z c (insts ++ testing t width a b ∷ Select W32 true (result_reg arg) 31 31
+            (opposite_cond (condition t)) ∷ put_result z.frame (result_reg arg) arg) last.after) (sym is.arg)
             (does_both z c m last.after insts _ ready.does (does_first z m f last.after (testing t width a b) _ one last.does)));
         related = last.related;
         world = refl;
@@ -177,13 +183,16 @@ module _ (z : Setting) (set : IsSet z) (serves : IsFrameOf z.procedure z.frame) 
 
   -- ---- SelectIf
 
-  pub select_end : (i : AirInst) (s : State) (c : Machine) (t : Test) (insts : List Inst) (a b : Source) (width : Width) (x y : ℕ) (p q : Arg) (other : Width) (u v : ℕ) (d : Operand) (home : Home)
+  pub select_end : (i : AirInst) (s : State) (c : Machine) (t : Test) (insts : List Inst) (a b : Source) (width : Width) (x y : ℕ) (p q : Arg)
+      (other : Width) (u v : ℕ) (d : Operand) (home : Home)
       → (ready : Ready s c insts t a b width x y) → IsWritten d home → IsPlaceFor z home → IsRegister a → IsTested t width b → reg_of a ≤ 31 → reg_of b ≤ 31
-      → IsUsable z p → IsUsable z q → IsRegister (source_of 15 p) → IsRegister (source_of 16 q) → word_of s.homes other p ≡ Some u → word_of s.homes other q ≡ Some v
+      → IsUsable z p → IsUsable z q → IsRegister (source_of 15 p) → IsRegister (source_of 16 q) → word_of s.homes other p ≡ Some u
+      → word_of s.homes other q ≡ Some v
       → inst_code z.frame i.op i.operands
       ≡ insts ++ testing t width a b ∷ fetch z.frame 15 p ++ fetch z.frame 16 q
       ++ Select other false (result_reg d.arg) (reg_of (source_of 15 p)) (reg_of (source_of 16 q)) (condition t) ∷ put_result z.frame (result_reg d.arg) d.arg
-      → ((junk : List ℕ) → step (meaning z.start) i s junk ≡ (Goes None (with_home s home (Holds d.width (if passes t width x y then u else v))), junk)) → Carried z i s c
+      → ((junk : List ℕ) → step (meaning z.start) i s junk ≡ (Goes None (with_home s home (Holds d.width (if passes t width x y then u else v))), junk))
+      → Carried z i s c
   select_end i s c t insts a b width x y p q other u v d home ready is may is_a fits le_a le_b usable_p usable_q is_p is_q reads_p reads_q code steps =
       let m : Machine = ready.after in
       let f : Machine = flagged m (test_flags t width x y) in
@@ -195,8 +204,10 @@ module _ (z : Setting) (set : IsSet z) (serves : IsFrameOf z.procedure z.frame) 
       let result : ℕ = if passes t width x y then u else v in
       let inst : Inst = Select other false rd (reg_of (source_of 15 p)) (reg_of (source_of 16 q)) (condition t) in
       let last = ends_by z set serves s two.after inst home d.width result two.related may
-      (record { fields = (le_more rd (result_most z set serves home may).0, source_most z 15 p (omega arith) usable_p, source_most z 16 q (omega arith) usable_q); touches = λ r. refl })
-      (λ pc. select_is (moved_to pc two.after).registers two.after.memory rd (result_most z set serves home may).0 other (source_of 15 p) (source_of 16 q) u v (condition t) (passes t width x y)
+      (record { fields = (le_more rd (result_most z set serves home may).0, source_most z 15 p (omega arith) usable_p, source_most z 16 q
+      (omega arith) usable_q); touches = λ r. refl })
+      (λ pc. select_is (moved_to pc two.after).registers two.after.memory rd (result_most z set serves home may).0 other (source_of 15 p)
+      (source_of 16 q) u v (condition t) (passes t width x y)
       is_p is_q two.gives_a two.gives_b says) in
       let Code : Arg → List Inst = λ arg. insts ++ testing t width a b ∷ fetch z.frame 15 p ++ fetch z.frame 16 q
       ++ Select other false (result_reg arg) (reg_of (source_of 15 p)) (reg_of (source_of 16 q)) (condition t) ∷ put_result z.frame (result_reg arg) arg in

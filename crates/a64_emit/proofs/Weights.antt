@@ -53,7 +53,8 @@ branches_most t width reg next then_label else_label =
     let first = branch_most t false width reg else_label in
     let second = branch_most t true width reg then_label in
     let jump = jump_most next else_label in
-    elim (nat_eq then_label next) as (λ b. words_of (if b then branch_item t false width reg else_label ∷ [] else branch_item t true width reg then_label ∷ jump_to next else_label) ≤ 3) [
+    elim (nat_eq then_label next) as (λ b. words_of
+        (if b then branch_item t false width reg else_label ∷ [] else branch_item t true width reg then_label ∷ jump_to next else_label) ≤ 3) [
       | true ↦ let sum = sum_by-cons (size_of true) (branch_item t false width reg else_label) [] in omega arith
       | false ↦ let sum = sum_by-cons (size_of true) (branch_item t true width reg then_label) (jump_to next else_label) in omega arith
     ]
@@ -126,7 +127,8 @@ module _ (f : Frame) where
       let second = fetch_most f 16 b.arg in
       let least_a = place_least a.arg in
       let least_b = place_least b.arg in
-      let one : length (fetch_tested f (Compare cond) (a ∷ b ∷ os)) ≡ length (fetch f 15 a.arg) + length (fetch f 16 b.arg) = length-append (fetch f 15 a.arg) (fetch f 16 b.arg) in
+      let one : length (fetch_tested f (Compare cond) (a ∷ b ∷ os)) ≡ length (fetch f 15 a.arg) + length (fetch f 16 b.arg) =
+          length-append (fetch f 15 a.arg) (fetch f 16 b.arg) in
       omega arith
 
   fetched_alone : (a : Operand) → length (fetch f 15 a.arg ++ []) ≤ arg_words a.arg
@@ -137,11 +139,13 @@ module _ (f : Frame) where
       omega arith
 
   -- a test, an instruction and what puts its result
-  tested_words : (tested : List Inst) (i j : Inst) (d : Arg) (n : ℕ) → length tested ≤ n → length (tested ++ i ∷ j ∷ put_result f (result_reg d) d) ≤ 2 + n + arg_words d
+  tested_words : (tested : List Inst) (i j : Inst) (d : Arg) (n : ℕ) → length tested ≤ n
+      → length (tested ++ i ∷ j ∷ put_result f (result_reg d) d) ≤ 2 + n + arg_words d
   tested_words tested i j d n le =
       let put = put_most f (result_reg d) d in
       let least = place_least d in
-      let all : length (tested ++ i ∷ j ∷ put_result f (result_reg d) d) ≡ length tested + length (i ∷ j ∷ put_result f (result_reg d) d) = length-append tested (i ∷ j ∷ put_result f (result_reg d) d) in
+      let all : length (tested ++ i ∷ j ∷ put_result f (result_reg d) d) ≡ length tested + length (i ∷ j ∷ put_result f (result_reg d) d) =
+          length-append tested (i ∷ j ∷ put_result f (result_reg d) d) in
       omega arith
 
   pub set_most : (t : Test) (os : List Operand) → length os ≡ test_count t + 1 → length (set_code f t os) ≤ 2 + sum_by (operand_words f) os
@@ -151,19 +155,22 @@ module _ (f : Frame) where
       let b : Operand = shape.1 in
       let d : Operand = shape.2 in
       subst (λ xs. length (set_code f (Compare cond) xs) ≤ 2 + sum_by (operand_words f) xs) (sym shape.3)
-      (let most = tested_words (fetch_tested f (Compare cond) (a ∷ b ∷ d ∷ [])) (test_at (Compare cond) (a ∷ b ∷ d ∷ [])) _ d.arg (arg_words a.arg + arg_words b.arg) (tested_two cond a b (d ∷ [])) in most_of _ (arg_words a.arg) (arg_words b.arg) (arg_words d.arg) most)
+      (let most = tested_words (fetch_tested f (Compare cond) (a ∷ b ∷ d ∷ [])) (test_at (Compare cond) (a ∷ b ∷ d ∷ [])) _ d.arg
+      (arg_words a.arg + arg_words b.arg) (tested_two cond a b (d ∷ [])) in most_of _ (arg_words a.arg) (arg_words b.arg) (arg_words d.arg) most)
   set_most NonZero os count =
       let shape = of_two os count in
       let a : Operand = shape.0 in
       let d : Operand = shape.1 in
       subst (λ xs. length (set_code f NonZero xs) ≤ 2 + sum_by (operand_words f) xs) (sym shape.2)
-      (two_of _ (arg_words a.arg) (arg_words d.arg) (tested_words (fetch_tested f NonZero (a ∷ d ∷ [])) (test_at NonZero (a ∷ d ∷ [])) _ d.arg (arg_words a.arg) (fetched_alone a)))
+      (two_of _ (arg_words a.arg) (arg_words d.arg) (tested_words (fetch_tested f NonZero (a ∷ d ∷ [])) (test_at NonZero (a ∷ d ∷ [])) _ d.arg
+      (arg_words a.arg) (fetched_alone a)))
   set_most (Bit k) os count =
       let shape = of_two os count in
       let a : Operand = shape.0 in
       let d : Operand = shape.1 in
       subst (λ xs. length (set_code f (Bit k) xs) ≤ 2 + sum_by (operand_words f) xs) (sym shape.2)
-      (two_of _ (arg_words a.arg) (arg_words d.arg) (tested_words (fetch_tested f (Bit k) (a ∷ d ∷ [])) (test_at (Bit k) (a ∷ d ∷ [])) _ d.arg (arg_words a.arg) (fetched_alone a)))
+      (two_of _ (arg_words a.arg) (arg_words d.arg) (tested_words (fetch_tested f (Bit k) (a ∷ d ∷ [])) (test_at (Bit k) (a ∷ d ∷ [])) _ d.arg
+      (arg_words a.arg) (fetched_alone a)))
 
   -- a test, two words that are fetched, an instruction and what puts its result
   select_words : (tested : List Inst) (i j : Inst) (x y d : Arg) (n : ℕ) → length tested ≤ n
@@ -176,8 +183,10 @@ module _ (f : Frame) where
       let least_y = place_least y in
       let least_d = place_least d in
       let a : length (tested ++ i ∷ fetch f 15 x) ≡ length tested + suc (length (fetch f 15 x)) = length-append tested (i ∷ fetch f 15 x) in
-      let b : length (tested ++ i ∷ fetch f 15 x ++ fetch f 16 y) ≡ length (tested ++ i ∷ fetch f 15 x) + length (fetch f 16 y) = length-append (tested ++ i ∷ fetch f 15 x) (fetch f 16 y) in
-      let c : length (tested ++ i ∷ fetch f 15 x ++ fetch f 16 y ++ j ∷ put_result f (result_reg d) d) ≡ length (tested ++ i ∷ fetch f 15 x ++ fetch f 16 y) + suc (length (put_result f (result_reg d) d)) =
+      let b : length (tested ++ i ∷ fetch f 15 x ++ fetch f 16 y) ≡ length (tested ++ i ∷ fetch f 15 x) + length (fetch f 16 y) =
+          length-append (tested ++ i ∷ fetch f 15 x) (fetch f 16 y) in
+      let c : length (tested ++ i ∷ fetch f 15 x ++ fetch f 16 y ++ j ∷ put_result f (result_reg d) d) ≡ length
+          (tested ++ i ∷ fetch f 15 x ++ fetch f 16 y) + suc (length (put_result f (result_reg d) d)) =
       length-append (tested ++ i ∷ fetch f 15 x ++ fetch f 16 y) (j ∷ put_result f (result_reg d) d) in
       omega arith
 
@@ -192,7 +201,8 @@ module _ (f : Frame) where
       let xs : List Operand = a ∷ b ∷ x ∷ y ∷ d ∷ [] in
       subst (λ os. length (select_code f (Compare cond) os) ≤ 2 + sum_by (operand_words f) os) (sym shape.5)
       (five_of _ (arg_words a.arg) (arg_words b.arg) (arg_words x.arg) (arg_words y.arg) (arg_words d.arg)
-      (select_words (fetch_tested f (Compare cond) xs) (test_at (Compare cond) xs) _ x.arg y.arg d.arg (arg_words a.arg + arg_words b.arg) (tested_two cond a b (x ∷ y ∷ d ∷ []))))
+      (select_words (fetch_tested f (Compare cond) xs) (test_at (Compare cond) xs) _ x.arg y.arg d.arg (arg_words a.arg + arg_words b.arg)
+      (tested_two cond a b (x ∷ y ∷ d ∷ []))))
   select_most NonZero os count =
       let shape = of_four os count in
       let a : Operand = shape.0 in
@@ -259,7 +269,8 @@ module _ (f : Frame) where
           let both = length-append (fetch f 15 a.arg ++ []) [] in
           omega arith)
 
-  pub branch_code_most : (next : ℕ) (targets : List ℕ) (t : Test) (os : List Operand) → length os ≡ test_count t → words_of (branch_code f next targets t os) ≤ 4 + sum_by (operand_words f) os
+  pub branch_code_most : (next : ℕ) (targets : List ℕ) (t : Test) (os : List Operand) → length os ≡ test_count t
+      → words_of (branch_code f next targets t os) ≤ 4 + sum_by (operand_words f) os
   branch_code_most next targets t os count =
       let before = before_branches t os count in
       let plain = plain_words (fetch_tested f t os ++ compared t os) in
@@ -269,11 +280,13 @@ module _ (f : Frame) where
       omega arith
 
   pub switch_code_most : (next label : ℕ) (cases targets : List ℕ) (os : List Operand) → length os ≡ 1
-      → words_of (plains (fetch f 15 (arg_at os 0)) ++ switch_items (width_at os 0) (reg_of (source_at os 0 15)) next label cases targets) ≤ 10 * length cases + 2 + sum_by (operand_words f) os
+      → words_of (plains (fetch f 15 (arg_at os 0)) ++ switch_items (width_at os 0) (reg_of (source_at os 0 15)) next label cases targets) ≤ 10 * length
+          cases + 2 + sum_by (operand_words f) os
   switch_code_most next label cases targets os count =
       let shape = of_one os count in
       let a : Operand = shape.0 in
-      subst (λ xs. words_of (plains (fetch f 15 (arg_at xs 0)) ++ switch_items (width_at xs 0) (reg_of (source_at xs 0 15)) next label cases targets) ≤ 10 * length cases + 2 + sum_by (operand_words f) xs) (sym shape.1)
+      subst (λ xs. words_of (plains (fetch f 15 (arg_at xs 0)) ++ switch_items (width_at xs 0) (reg_of (source_at xs 0 15)) next label cases targets)
+          ≤ 10 * length cases + 2 + sum_by (operand_words f) xs) (sym shape.1)
       (let first = fetch_most f 15 a.arg in
       let least = place_least a.arg in
       let plain = plain_words (fetch f 15 a.arg) in
@@ -307,7 +320,8 @@ module _ (f : Frame) where
   lower_most bytes =
       let first = unless_most (bytes / 4096) (AddSubImm W64 true false 31 31 (bytes / 4096) true) in
       let second = unless_most (bytes % 4096) (AddSubImm W64 true false 31 31 (bytes % 4096) false) in
-      let both = length-append (unless_zero (bytes / 4096) (AddSubImm W64 true false 31 31 (bytes / 4096) true ∷ [])) (unless_zero (bytes % 4096) (AddSubImm W64 true false 31 31 (bytes % 4096) false ∷ [])) in
+      let both = length-append (unless_zero (bytes / 4096) (AddSubImm W64 true false 31 31 (bytes / 4096) true ∷ []))
+          (unless_zero (bytes % 4096) (AddSubImm W64 true false 31 31 (bytes % 4096) false ∷ [])) in
       omega arith
 
   pub prologue_most : length f.saved ≤ 10 → length (prologue f) ≤ 24

@@ -71,16 +71,19 @@ no_marks n [] fair = tt
 no_marks n (item ∷ items) fair = (no_mark n item fair.0, no_marks n items fair.1)
 
 -- what is fair of a branch
-fair_branch : (n : ℕ) (test : Test) (label : ℕ) (o : Option Item) → ((item : Item) → o ≡ Some item → IsFair n item) → branch_in o ≡ Some (test, label) → IsTest test × (label < n)
+fair_branch : (n : ℕ) (test : Test) (label : ℕ) (o : Option Item) → ((item : Item) → o ≡ Some item → IsFair n item) → branch_in o ≡ Some (test, label)
+    → IsTest test × (label < n)
 fair_branch n test label None fair is = absurd (no_some (test, label) is)
 fair_branch n test label (Some (If holds to)) fair is =
     subst (λ (b : Test × ℕ). IsTest b.0 × (b.1 < n)) (one_branch (Some (Holds holds, to)) (Holds holds, to) (test, label) refl is) (tt, fair (If holds to) refl)
 fair_branch n test label (Some (IfZero width nonzero reg to)) fair is =
     let h = fair (IfZero width nonzero reg to) refl in
-    subst (λ (b : Test × ℕ). IsTest b.0 × (b.1 < n)) (one_branch (Some (Zero width nonzero reg, to)) (Zero width nonzero reg, to) (test, label) refl is) (h.0, h.1)
+    subst (λ (b : Test × ℕ). IsTest b.0 × (b.1 < n)) (one_branch (Some (Zero width nonzero reg, to)) (Zero width nonzero reg, to) (test, label) refl is)
+        (h.0, h.1)
 fair_branch n test label (Some (IfBit nonzero reg at to)) fair is =
     let h = fair (IfBit nonzero reg at to) refl in
-    subst (λ (b : Test × ℕ). IsTest b.0 × (b.1 < n)) (one_branch (Some (Bit nonzero reg at, to)) (Bit nonzero reg at, to) (test, label) refl is) ((h.0, h.1), h.2)
+    subst (λ (b : Test × ℕ). IsTest b.0 × (b.1 < n)) (one_branch (Some (Bit nonzero reg at, to)) (Bit nonzero reg at, to) (test, label) refl is)
+        ((h.0, h.1), h.2)
 fair_branch n test label (Some (Plain inst)) fair is = absurd (no_some (test, label) is)
 fair_branch n test label (Some (Jump to)) fair is = absurd (no_some (test, label) is)
 fair_branch n test label (Some (Label to)) fair is = absurd (no_some (test, label) is)
@@ -124,7 +127,8 @@ module _ (p : AirProc) (f : Frame) (well : IsWellFormed p) (limit : f.bytes < 2 
         insts = λ k inst there. fair_at k (Plain inst) there;
         tests = λ k test label is. (fair_branch (length p.blocks) test label (slice_get (emitted p f) k) (λ item there. fair_at k item there) is).0;
         jumps = λ k label there. let lt = fair_at k (Jump label) there in omega arith;
-        ifs = λ k test label is. let lt = (fair_branch (length p.blocks) test label (slice_get (emitted p f) k) (λ item there. fair_at k item there) is).1 in omega arith;
+        ifs = λ k test label is. let lt = (fair_branch (length p.blocks) test label (slice_get (emitted p f) k)
+            (λ item there. fair_at k item there) is).1 in omega arith;
         labels = λ k label there. let lt = fair_at k (Label label) there in omega arith;
         label_once = λ i j label there_i there_j.
             let stands = stands_at label (fair_at i (Label label) there_i) in

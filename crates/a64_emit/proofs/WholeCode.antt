@@ -19,7 +19,8 @@ use Rattle.a64_emit.proofs.Light.{light}
 use Rattle.a64_emit.proofs.Positions.{positions_rise}
 use Rattle.a64_emit.proofs.WellLabelled.{labels_counted, marks_none, unmarked, well_labelled}
 
-module _ (p : AirProc) (frame : Frame) (well : IsWellFormed p) (no_tmps : p.tmps ≡ 0) (serves : IsFrameOf p frame) (short : weight p < 2 ^ 24) (built : IsBuilt p) where
+module _ (p : AirProc) (frame : Frame) (well : IsWellFormed p) (no_tmps : p.tmps ≡ 0) (serves : IsFrameOf p frame) (short : weight p < 2 ^ 24)
+    (built : IsBuilt p) where
   -- a setting of this procedure, its frame and its code
   module _ (z : Setting) (of : IsSettingOf p frame (emitted p frame) z) where
     its_frame : IsFrameOf z.procedure z.frame
@@ -52,10 +53,12 @@ module _ (p : AirProc) (frame : Frame) (well : IsWellFormed p) (no_tmps : p.tmps
         unmarked = marks_none p frame well serves.good.limit serves.good.saved;
         light = few;
         entry = λ z answers c of begins.
-            entry_carried z of.3 (its_frame z of) (its_blocks z of) (ap (λ (q : AirProc). q.tmps) of.0 ∙ no_tmps) (its_built z of) (its_code z of) (its_marks z of)
+            entry_carried z of.3 (its_frame z of) (its_blocks z of) (ap (λ (q : AirProc). q.tmps) of.0 ∙ no_tmps) (its_built z of) (its_code z of)
+                (its_marks z of)
             0 (get_or p.blocks 0 (record { insts = []; targets = [] })) (block_there z of 0 well.entry) refl answers c begins;
         block = λ z b s c of some lt rel.
             subst (λ code. CarriesOut z b s (position_of code b) c) of.2
-            (block_carried z of.3 (its_frame z of) (its_blocks z of) (ap (λ (q : AirProc). q.tmps) of.0 ∙ no_tmps) (its_built z of) (its_code z of) (its_marks z of)
+            (block_carried z of.3 (its_frame z of) (its_blocks z of) (ap (λ (q : AirProc). q.tmps) of.0 ∙ no_tmps) (its_built z of) (its_code z of)
+            (its_marks z of)
             b (get_or p.blocks b (record { insts = []; targets = [] })) (block_there z of b lt) s c rel);
       }
