@@ -84,7 +84,7 @@ branch_size (Bit bit) passes width reg label false = omega arith
 pub branches_words : (t : Test) (width : Width) (reg next then_label else_label : ℕ) → HasWords (branches t width reg next then_label else_label)
 branches_words t width reg next then_label else_label =
     elim (nat_eq then_label next) as (λ b. HasWords
-        (if b then branch_item t false width reg else_label ∷ [] else branch_item t true width reg then_label ∷ jump_to next else_label)) [
+    (if b then branch_item t false width reg else_label ∷ [] else branch_item t true width reg then_label ∷ jump_to next else_label)) [
       | true ↦ words_first (branch_item t false width reg else_label) [] (branch_size t false width reg else_label)
       | false ↦ words_first (branch_item t true width reg then_label) (jump_to next else_label) (branch_size t true width reg then_label)
     ]
@@ -119,7 +119,7 @@ pub terminal_words : (f : Frame) (next label : ℕ) (targets : List ℕ) (o : Ai
 unfolding inst_items
 terminal_words f next label targets (op.BranchIf test) os ends below =
     words_right (plains (fetch_tested f test os ++ compared test os))
-        (branches test (width_at os 0) (reg_of (source_at os 0 15)) next (get_or targets 0 0) (get_or targets 1 0))
+    (branches test (width_at os 0) (reg_of (source_at os 0 15)) next (get_or targets 0 0) (get_or targets 1 0))
     (branches_words test (width_at os 0) (reg_of (source_at os 0 15)) next (get_or targets 0 0) (get_or targets 1 0))
 terminal_words f next label targets op.Jump os ends below =
     let one : 1 ≡ length targets = some_same 1 (length targets) ends in

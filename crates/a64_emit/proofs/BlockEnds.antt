@@ -52,7 +52,7 @@ module _ (z : Setting) (set : IsSet z) (serves : IsFrameOf z.procedure z.frame) 
   ends_by (op.BranchIf t) i s targets_of next label k c is e rel =
       let two : 2 ≡ length targets_of = some_same 2 (length targets_of) e.ends in
       branch_ends z set serves unmarked i s targets_of next k c t e.operands.0 is e.operands.2 e.usable (sym two) (e.within 0 (omega arith))
-          (e.within 1 (omega arith)) e.items e.at rel
+      (e.within 1 (omega arith)) e.items e.at rel
   ends_by op.Jump i s targets_of next label k c is e rel =
       let one : 1 ≡ length targets_of = some_same 1 (length targets_of) e.ends in
       jump_ends z set serves unmarked i s targets_of next k c is (no_operands i.operands e.operands.2) (omega arith) (e.within 0 (omega arith)) e.items e.at rel
@@ -87,13 +87,13 @@ ahead_of_blocks p f well long b lt =
     let stands = block_stands p f n block (slice_get-get_or p.blocks n none (omega arith)) in
     let good : IsGoodBlock p block = well.blocks n none (omega arith) in
     let h : HasWords (insts_items f (n + 1) stands.own block.targets (good.body ++ good.last ∷ [])) =
-        last_words f (n + 1) stands.own block.targets good.body good.last
+    last_words f (n + 1) stands.own block.targets good.body good.last
     (terminal_words f (n + 1) stands.own block.targets good.last.op good.last.operands good.ends
     (λ j within. let one = (good.targets j 0 within).1 in omega arith)) in
     let here : HasWords (insts_items f (n + 1) stands.own block.targets block.insts) =
     subst (λ insts. HasWords (insts_items f (n + 1) stands.own block.targets insts)) (sym good.parts) h in
     let ahead = words_ahead (emitted p f) long (position_of (emitted p f) n + 1) (insts_items f (n + 1) stands.own block.targets block.insts)
-        stands.items here in
+    stands.items here in
     ⊎_elim
     (λ less.
     let rise = positions_rise p f b n less (omega arith) in

@@ -64,4 +64,4 @@ pub labels_left : (blocks : List AirBlock) (b : ℕ) (block : AirBlock) → slic
     → sum_by block_labels (drop b blocks) ≡ block_labels block + sum_by block_labels (drop (b + 1) blocks)
 labels_left blocks b block there =
     ap (sum_by block_labels) (dropped blocks b block there) ∙ sum_by-cons block_labels block (drop (suc b) blocks)
-        ∙ ap (λ n. block_labels block + sum_by block_labels (drop n blocks)) (one_more b)
+    ∙ ap (λ n. block_labels block + sum_by block_labels (drop n blocks)) (one_more b)

@@ -123,7 +123,7 @@ module _ (z : Setting) (set : IsSet z) (serves : IsFrameOf z.procedure z.frame) 
       (λ (done : Carried z i s c).
       let up = place_mono z.code z.long (k + length code) end (omega arith) in
       let runs = straight_runs z set unmarked k c done.after code done.does
-          (among_plains z.code k code (among_first z.code k (plains code) others here)) (omega arith) in
+      (among_plains z.code k code (among_first z.code k (plains code) others here)) (omega arith) in
       let rel_next = alike_related z done.next done.after runs.last runs.alike (runs.small rel.frame.words.pc) done.related in
       let rest = body_ends body done.next (k + length code) runs.last (λ j other there. inner (suc j) other there)
       (subst (λ n. Among z.code (k + n) others) count (among_rest z.code k (plains code) others here)) after rel_next in
@@ -157,7 +157,7 @@ module _ (z : Setting) (set : IsSet z) (serves : IsFrameOf z.procedure z.frame) 
   unfolding air.block_step
   block_steps b block s next rest there is =
       ap (λ (x : AirBlock). air.left x.targets (steps (meaning z.start) x.insts s rest))
-          (get_or_from_slice_get z.procedure.blocks b block (record { insts = []; targets = [] }) there) ∙ is
+      (get_or_from_slice_get z.procedure.blocks b block (record { insts = []; targets = [] }) there) ∙ is
 
   -- a block from its label on, where its instructions lead on
   pub block_carries : (b : ℕ) (block : AirBlock) (s : State) (k : ℕ) (c : Machine) → slice_get z.procedure.blocks b ≡ Some block

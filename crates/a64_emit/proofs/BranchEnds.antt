@@ -192,8 +192,12 @@ one_read homes i a operands role = of_word (word_of homes a.width a.arg) refl
     of_word : (o : Option ℕ) → word_of homes a.width a.arg ≡ o
         → (words homes i.operands ≡ None) ⊎ ((x : ℕ) × (word_of homes a.width a.arg ≡ Some x) × (words homes i.operands ≡ Some ((a.width, x) ∷ [])))
     of_word None is = inl (read_first homes i a [] operands role ∙ ap (λ o. and_word a.width o (words homes [])) is)
-    of_word (Some x) is = inr (x, is, read_first homes i a [] operands role ∙ ap (λ o. and_word a.width o (words homes [])) is
-        ∙ ap (and_word a.width (Some x)) (none_read homes))
+    of_word (Some x) is = inr (
+      x,
+      is,
+      read_first homes i a [] operands role ∙ ap (λ o. and_word a.width o (words homes [])) is
+          ∙ ap (and_word a.width (Some x)) (none_read homes),
+    )
 
 pub one_writes : (i : AirInst) (a : Operand) → i.operands ≡ a ∷ [] → a.role ≡ Use → targets i.operands ≡ []
 one_writes i a operands role = ap targets operands ∙ targets_use a [] role ∙ none_written
@@ -215,9 +219,15 @@ two_read homes i a b operands role_a role_b = of_words (word_of homes a.width a.
     of_words None p is_a is_b = inl (reads ∙ ap (λ o. and_word a.width o (and_word b.width (word_of homes b.width b.arg) (Some []))) is_a)
     of_words (Some x) None is_a is_b = inl (reads ∙ ap (λ o. and_word a.width (word_of homes a.width a.arg) (and_word b.width o (Some []))) is_b
         ∙ ap (λ o. and_word a.width o None) is_a)
-    of_words (Some x) (Some y) is_a is_b = inr (x, y, is_a, is_b, reads
-        ∙ ap (λ o. and_word a.width o (and_word b.width (word_of homes b.width b.arg) (Some []))) is_a
-        ∙ ap (λ o. and_word a.width (Some x) (and_word b.width o (Some []))) is_b)
+    of_words (Some x) (Some y) is_a is_b = inr (
+      x,
+      y,
+      is_a,
+      is_b,
+      reads
+          ∙ ap (λ o. and_word a.width o (and_word b.width (word_of homes b.width b.arg) (Some []))) is_a
+          ∙ ap (λ o. and_word a.width (Some x) (and_word b.width o (Some []))) is_b,
+    )
 
 -- each operand may be fetched
 abbrev pub AllUsable : Setting → List Operand → Type 0
@@ -234,7 +244,7 @@ module _ (z : Setting) (set : IsSet z) (serves : IsFrameOf z.procedure z.frame) 
       → IsRegister (source_of 15 a.arg) → IsSummed a.width (source_of 16 b.arg) → word_of s.homes a.width a.arg ≡ Some x
       → word_of s.homes a.width b.arg ≡ Some y
       → Readied z s c (fetch_tested z.frame (Compare cond) (a ∷ b ∷ []) ++ compared (Compare cond) (a ∷ b ∷ [])) (Compare cond) a.width
-          (reg_of (source_of 15 a.arg))
+      (reg_of (source_of 15 a.arg))
       (passes (Compare cond) a.width x y)
   compare_readied s c cond a b x y rel usable_a usable_b is_a fits reads_a reads_b =
       let first = fetch_word z set serves s c 15 a.arg a.width x rel usable_a scratch_15 reads_a in
@@ -246,12 +256,12 @@ module _ (z : Setting) (set : IsSet z) (serves : IsFrameOf z.procedure z.frame) 
       let inst : Inst = testing (Compare cond) a.width (source_of 15 a.arg) (source_of 16 b.arg) in
       let d : Machine = record { registers = with_flags n.registers (test_flags (Compare cond) a.width x y); memory = n.memory } in
       let plain = testing_plain (Compare cond) a.width (source_of 15 a.arg) (source_of 16 b.arg) (source_most z 15 a.arg (omega arith) usable_a)
-          (source_most z 16 b.arg (omega arith) usable_b) fits in
+      (source_most z 16 b.arg (omega arith) usable_b) fits in
       let gives_a : Gives n.registers (source_of 15 a.arg) a.width x =
       gives_same m.registers n.registers (source_of 15 a.arg) a.width x
-          (λ r is. second.0.others r (source_differs z 15 16 a.arg scratch_16 (λ e. omega arith) usable_a r is)) first.1 in
+      (λ r is. second.0.others r (source_differs z 15 16 a.arg scratch_16 (λ e. omega arith) usable_a r is)) first.1 in
       let one : DoesOne z n inst d = does_safely z n d inst (whole_of z set serves n rel_n.frame)
-          (touches_nothing n inst (λ pc. plain.touches (moved_to pc n).registers)) refl
+      (touches_nothing n inst (λ pc. plain.touches (moved_to pc n).registers)) refl
       (λ pc. testing_is (moved_to pc n).registers n.memory (Compare cond) a.width (source_of 15 a.arg) (source_of 16 b.arg) x y is_a
       (gives_same n.registers (moved_to pc n).registers (source_of 15 a.arg) a.width x (λ r is. refl) gives_a)
       (gives_same n.registers (moved_to pc n).registers (source_of 16 b.arg) a.width y (λ r is. refl) second.1) fits) in
@@ -299,11 +309,11 @@ module _ (z : Setting) (set : IsSet z) (serves : IsFrameOf z.procedure z.frame) 
       let same : b.width ≡ a.width = os.4.1 ∙ sym os.3.1 in
       let is_a = home_register z a.arg 15 usable_a (word_home width a.arg os.3.2) in
       let summed : IsSummed a.width (source_of 16 b.arg) =
-          subst (λ w. IsSummed w (source_of 16 b.arg)) (sym os.3.1) (word_summed z width b.arg 16 usable_b os.4.2) in
+      subst (λ w. IsSummed w (source_of 16 b.arg)) (sym os.3.1) (word_summed z width b.arg 16 usable_b os.4.2) in
       ⊎_elim
       (λ lost. inl lost)
       (λ (found : (x : ℕ) × (y : ℕ) × (word_of s.homes a.width a.arg ≡ Some x) × (word_of s.homes b.width b.arg ≡ Some y)
-          × (words s.homes i.operands ≡ Some ((a.width, x) ∷ (b.width, y) ∷ []))).
+      × (words s.homes i.operands ≡ Some ((a.width, x) ∷ (b.width, y) ∷ []))).
       inr (record {
         rs = (a.width, found.0) ∷ (b.width, found.1) ∷ [];
         reads = found.4;
@@ -370,7 +380,7 @@ branches_words : (z : Setting) (t : Test) (width : Width) (reg k next then_label
     → place z.code z.long k < place z.code z.long (length z.code)
 branches_words z t width reg k next then_label else_label among =
     elim (nat_eq then_label next) as (λ b. Among z.code k
-        (if b then branch_item t false width reg else_label ∷ [] else branch_item t true width reg then_label ∷ jump_to next else_label)
+    (if b then branch_item t false width reg else_label ∷ [] else branch_item t true width reg then_label ∷ jump_to next else_label)
     → place z.code z.long k < place z.code z.long (length z.code)) [
       | true ↦ λ items. of_item (branch_item t false width reg else_label) (items 0 (branch_item t false width reg else_label) refl)
           (branch_size (z.long k) t false width reg else_label)
@@ -420,7 +430,7 @@ module _ (z : Setting) (set : IsSet z) (serves : IsFrameOf z.procedure z.frame) 
             q.leaves (chosen_target targets_of q.passes two);
         reaches = leads_on z s.world (air.At (if q.passes then first else second) s) k (length insts) c q.readied.after runs
             (branches_reach z set serves s.world s t (width_at i.operands 0) reg (k + length insts) next first second runs.last q.passes within_then
-                within_else behind next_at
+            within_else behind next_at
             (alike_goes q.readied.after runs.last t (width_at i.operands 0) reg q.passes runs.alike q.readied.goes) (refl, refl)
             (alike_related z s q.readied.after runs.last runs.alike small q.readied.related));
       })

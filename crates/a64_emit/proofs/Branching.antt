@@ -162,20 +162,20 @@ module _ (z : Setting) (set : IsSet z) (serves : IsFrameOf z.procedure z.frame) 
       elim (nat_eq then_label next) as (λ b. nat_eq then_label next ≡ b
       → Among z.code k (if b then branch_item test false width reg else_label ∷ [] else branch_item test true width reg then_label ∷ jump_to next else_label)
       → NextAt z next (k + length (if b then branch_item test false width reg else_label ∷ [] else branch_item test true width reg then_label ∷ jump_to
-          next else_label))
+      next else_label))
       → Reaches z from (air.At (if passes then then_label else else_label) s) k c) [
         | true ↦ λ e items at.
             let same : then_label ≡ next = grind (arith, nat_tests) in
             let here : slice_get z.code k ≡ Some (branch_item test false width reg else_label) =
             ap (slice_get z.code) (omega arith) ∙ items 0 (branch_item test false width reg else_label) refl in
             let proper = item_proper s k c (branch_item test false width reg else_label) here
-                (branch_safe z (moved_to (address_of z k) c) test false width reg else_label) rel in
+            (branch_safe z (moved_to (address_of z k) c) test false width reg else_label) rel in
             fall passes then_label else_label (subst (λ n. NextAt z n (k + 1)) (sym same) at) (goes false) here proper within_then
         | false ↦ λ e items at.
             let here : slice_get z.code k ≡ Some (branch_item test true width reg then_label) =
             ap (slice_get z.code) (omega arith) ∙ items 0 (branch_item test true width reg then_label) refl in
             let proper = item_proper s k c (branch_item test true width reg then_label) here
-                (branch_safe z (moved_to (address_of z k) c) test true width reg then_label) rel in
+            (branch_safe z (moved_to (address_of z k) c) test true width reg then_label) rel in
             let more : Among z.code (k + 1) (jump_to next else_label) =
             among_rest z.code k (branch_item test true width reg then_label ∷ []) (jump_to next else_label) items in
             let e : k + suc (length (jump_to next else_label)) ≡ k + 1 + length (jump_to next else_label) = omega arith in
@@ -197,7 +197,7 @@ module _ (z : Setting) (set : IsSet z) (serves : IsFrameOf z.procedure z.frame) 
           since rel
       jumps false holds here proper items at =
           let runs = one_runs s k c (branch_item test true width reg then_label) here
-              (branch_safe z (moved_to (address_of z k) c) test true width reg then_label)
+          (branch_safe z (moved_to (address_of z k) c) test true width reg then_label)
           (branch_goes test true width reg k then_label c false holds here) rel in
           leads_on z from (air.At else_label s) k 1 c c runs
           (jump_reaches from s (k + 1) next else_label runs.last within_else items at since

@@ -52,7 +52,7 @@ insts_both f next label targets [] last = refl
 insts_both f next label targets (i ∷ body) last =
     ap (λ (xs : List Item). inst_items f next label targets i.op i.operands ++ xs) (insts_both f next label targets body last)
     ∙ sym (append_assoc (inst_items f next label targets i.op i.operands) (insts_items f next label targets body)
-        (insts_items f next label targets (last ∷ [])))
+    (insts_items f next label targets (last ∷ [])))
 
 insts_one : (f : Frame) (next label : ℕ) (targets : List ℕ) (last : AirInst)
     → insts_items f next label targets (last ∷ []) ≡ inst_items f next label targets last.op last.operands
@@ -161,7 +161,7 @@ module _ (z : Setting) (set : IsSet z) (serves : IsFrameOf z.procedure z.frame) 
   behind : (c : ℕ) → c < length z.procedure.blocks → place z.code z.long (position_of z.code c) < place z.code z.long (length z.code)
   behind c lt =
       subst (λ code. place code z.long (position_of code c) < place code z.long (length code)) (sym is_code)
-          (ahead_of_blocks z.procedure z.frame well z.long c lt)
+      (ahead_of_blocks z.procedure z.frame well z.long c lt)
 
   at_end : AtEnd z block.targets (b + 1) stands.own end good.last.op good.last.operands
   unfolding last_items
@@ -218,7 +218,7 @@ module _ (z : Setting) (set : IsSet z) (serves : IsFrameOf z.procedure z.frame) 
       let room : place z.code z.long (0 + n) < place z.code z.long (length z.code) =
       subst (λ k. place z.code z.long k < place z.code z.long (length z.code)) (at ∙ omega arith) (behind b within) in
       let front : Among z.code 0 (plains (prologue z.frame)) =
-          subst (λ code. Among code 0 (plains (prologue z.frame))) (sym is_code) (front_among z.procedure z.frame) in
+      subst (λ code. Among code 0 (plains (prologue z.frame))) (sym is_code) (front_among z.procedure z.frame) in
       let runs = straight_runs z set unmarked 0 c entered.after (prologue z.frame) entered.does (among_plains z.code 0 (prologue z.frame) front) room in
       entry_carries z set serves block (first_state z answers) n c entered.after (ap (slice_get z.procedure.blocks) (sym is) ∙ there)
       (ap (slice_get z.code) (sym zero_at) ∙ subst (λ k. slice_get z.code (position_of z.code k) ≡ Some (Label k)) is label_there)

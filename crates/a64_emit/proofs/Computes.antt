@@ -76,7 +76,7 @@ result_small z m inst reg w f plain does =
     let pc : ℕ = m.registers.pc in
     let left = step_of-LeavesWords inst (moved_to pc m).registers m.memory plain.fields f.words f.bytes in
     let there : (step_of inst (moved_to pc m).registers m.memory).registers.x reg ≡ w = ap (λ (t : Stepped). t.registers.x reg) (does pc)
-        ∙ put_same (moved_to pc m) reg w in
+    ∙ put_same (moved_to pc m) reg w in
     subst (λ v. v < 2 ^ 64) there (left.words.x reg)
 
 -- no instructions more
@@ -110,7 +110,7 @@ module _ (z : Setting) (set : IsSet z) (serves : IsFrameOf z.procedure z.frame) 
       let m : Machine = first.0.after in
       let rel_m = keeps_related z s c m (fetched_keeps z c (fetch z.frame 15 a.arg) 15 scratch_15 first.0) rel in
       let Code : Arg → List Inst = λ arg. fetch z.frame 15 a.arg ++ [] ++ [] ++ computing i.op a.width (result_reg arg) (source_of 15 a.arg)
-          (source_of 16 arg) (Constant 0) ∷ put_result z.frame (result_reg arg) arg in
+      (source_of 16 arg) (Constant 0) ∷ put_result z.frame (result_reg arg) arg in
       let fits_home : IsComputed i.op a.width (source_of 16 (At home)) = subst (λ arg. IsComputed i.op a.width (source_of 16 arg)) is.arg fits in
       let rd : ℕ = result_reg (At home) in
       let last = ends_by s m (computing i.op a.width rd (source_of 15 a.arg) (source_of 16 (At home)) (Constant 0)) home d.width w rel_m may
@@ -140,7 +140,7 @@ module _ (z : Setting) (set : IsSet z) (serves : IsFrameOf z.procedure z.frame) 
   one_runs i s c a d home operands code kind role is rel usable may at is_a fits =
       let reads : words s.homes i.operands ≡ and_word a.width (word_of s.homes a.width a.arg) (Some []) =
       ap (words s.homes) operands ∙ words_use s.homes a (d ∷ []) role
-          ∙ ap (and_word a.width (word_of s.homes a.width a.arg)) (words_result s.homes d home is) in
+      ∙ ap (and_word a.width (word_of s.homes a.width a.arg)) (words_result s.homes d home is) in
       let writes = ap targets operands ∙ targets_use a (d ∷ []) role ∙ targets_result d home is in
       elim (word_of s.homes a.width a.arg) as (λ o. word_of s.homes a.width a.arg ≡ o → InstRuns z i s c) [
         | None ↦ λ e. inl (step_lost z.start i s (reads ∙ ap (λ o. and_word a.width o (Some [])) e))
@@ -242,7 +242,7 @@ module _ (z : Setting) (set : IsSet z) (serves : IsFrameOf z.procedure z.frame) 
                   ∙ ap (λ o. and_word a.width (Some x) (and_word b.width o (Some []))) f))
               | Some y ↦ λ f.
                   let read = reads ∙ ap (λ o. and_word a.width o (and_word b.width B (Some []))) e
-                      ∙ ap (λ o. and_word a.width (Some x) (and_word b.width o (Some []))) f in
+                  ∙ ap (λ o. and_word a.width (Some x) (and_word b.width o (Some []))) f in
                   elim (computed i.op a.width (x ∷ y ∷ [])) as (λ o. computed i.op a.width (x ∷ y ∷ []) ≡ o → InstRuns z i s c) [
                     | None ↦ λ n. inl (step_without z.start i s ((a.width, x) ∷ (b.width, y) ∷ []) read
                         (computes_none z.start i s ((a.width, x) ∷ (b.width, y) ∷ []) kind n))
@@ -283,7 +283,7 @@ module _ (z : Setting) (set : IsSet z) (serves : IsFrameOf z.procedure z.frame) 
       (λ pc. three_computed (moved_to pc m).registers m.memory rd (result_most z set serves home may).0 rel_m.frame.words.x i.op a.width
       (source_of 15 a.arg) (source_of 16 b.arg) (source_of 17 e.arg)
       x y v w at is_a is_b is_e gives_a (subst (λ u. Gives m.registers (source_of 16 b.arg) u y) width_b gives_b)
-          (subst (λ u. Gives m.registers (source_of 17 e.arg) u v) width_e third.1) gives) in
+      (subst (λ u. Gives m.registers (source_of 17 e.arg) u v) width_e third.1) gives) in
       record {
         next = with_home s home (Holds d.width w);
         after = last.after;
@@ -316,7 +316,7 @@ module _ (z : Setting) (set : IsSet z) (serves : IsFrameOf z.procedure z.frame) 
       ∙ ap (and_word a.width A) (words_use s.homes b (e ∷ d ∷ []) role_b
       ∙ ap (and_word b.width B) (words_use s.homes e (d ∷ []) role_e ∙ ap (and_word e.width E) (words_result s.homes d home is))) in
       let writes = ap targets operands ∙ targets_use a (b ∷ e ∷ d ∷ []) role_a ∙ targets_use b (e ∷ d ∷ []) role_b ∙ targets_use e (d ∷ []) role_e
-          ∙ targets_result d home is in
+      ∙ targets_result d home is in
       elim (word_of s.homes a.width a.arg) as (λ o. word_of s.homes a.width a.arg ≡ o → InstRuns z i s c) [
         | None ↦ λ p. inl (step_lost z.start i s (reads ∙ ap (λ o. All o B E) p))
         | Some x ↦ λ p.

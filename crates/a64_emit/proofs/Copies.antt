@@ -180,7 +180,7 @@ module _ (z : Setting) (set : IsSet z) (serves : IsFrameOf z.procedure z.frame) 
   copy_runs i s c a d home operands code kind role width is rel usable fits may =
       let reads : words s.homes i.operands ≡ and_word a.width (word_of s.homes a.width a.arg) (Some []) =
       ap (words s.homes) operands ∙ words_use s.homes a (d ∷ []) role
-          ∙ ap (and_word a.width (word_of s.homes a.width a.arg)) (words_result s.homes d home is) in
+      ∙ ap (and_word a.width (word_of s.homes a.width a.arg)) (words_result s.homes d home is) in
       let writes = ap targets operands ∙ targets_use a (d ∷ []) role ∙ targets_result d home is in
       elim (word_of s.homes a.width a.arg) as (λ o. word_of s.homes a.width a.arg ≡ o → InstRuns z i s c) [
         | None ↦ λ e. inl (step_lost z.start i s (reads ∙ ap (λ o. and_word a.width o (Some [])) e))

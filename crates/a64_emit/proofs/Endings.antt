@@ -98,8 +98,12 @@ module _ (start : Start) (i : AirInst) (s : State) (kind : kind_of i.op ≡ Retu
   reads_word width None is os = inl (ap (words s.homes) os ∙ rw is refl)
   reads_word width (Some w) is os = inr (w, ap (words s.homes) os ∙ rw is refl, reads_carried width (s.homes (Reg (record { 0 = 0 }))) x0 w carries is)
 
-  leaves_word : (width : Width) (w : ℕ) → meaning start (operation i) ((width, w) ∷ []) s.world ≡ Some (record { results = []; world = s.world; exit =
-      Some (Over (Returned (Some w))) })
+  leaves_word : (width : Width) (w : ℕ) → meaning start (operation i) ((width, w) ∷ []) s.world ≡ Some (record {
+    results = [];
+    world = s.world;
+    exit =
+        Some (Over (Returned (Some w)));
+  })
   unfolding meaning
   leaves_word width w = rw kind refl
 
@@ -204,14 +208,19 @@ module _ (z : Setting) (set : IsSet z) (serves : IsFrameOf z.procedure z.frame) 
       let l = leaving z set serves c rel.frame in
       let ret = stands_ret k among in
       let room = words_there z (k + length before_ret) (Plain (BranchReg Ret 30)) ret
-          (slice_get_within z.code (k + length before_ret) (Plain (BranchReg Ret 30)) ret) (omega arith) in
+      (slice_get_within z.code (k + length before_ret) (Plain (BranchReg Ret 30)) ret) (omega arith) in
       let runs : Runs z k c (length before_ret) l.after =
-          straight_runs z set unmarked k c l.after before_ret l.does (among_plains z.code k before_ret (stands_before k among)) room in
+      straight_runs z set unmarked k c l.after before_ret l.does (among_plains z.code k before_ret (stands_before k among)) room in
       leads_on z s.world (air.Stopped (air.seen_as s.world (Returned word))) k (length before_ret) c l.after runs
       (reaches_here z s.world (air.Stopped (air.seen_as s.world (Returned word))) (k + length before_ret) runs.last
-      (ret_proper (k + length before_ret) runs.last ret (whole_alike z runs.last l.after runs.alike l.whole))
-      (s.world, word, refl, refl, has_returned s.world word (k + length before_ret) c l.after runs.last l runs.alike
-      (runs.small rel.frame.words.pc) ret rel.memory is))
+      (ret_proper (k + length before_ret) runs.last ret (whole_alike z runs.last l.after runs.alike l.whole)) (
+        s.world,
+        word,
+        refl,
+        refl,
+        has_returned s.world word (k + length before_ret) c l.after runs.last l runs.alike
+            (runs.small rel.frame.words.pc) ret rel.memory is,
+      ))
 
   pub return_ends : (i : AirInst) (s : State) (targets : List ℕ) (k : ℕ) (c : Machine) → i.op ≡ op.Return → i.operands ≡ returned z.procedure.returns
       → Among z.code k (plains (epilogue z.frame)) → IsRelated z s c → Ends z targets i s k c
@@ -224,7 +233,7 @@ module _ (z : Setting) (set : IsSet z) (serves : IsFrameOf z.procedure z.frame) 
         reaches = return_reaches s k c r.word rel among r.is;
       })
       (returns_word z.start i s (ap kind_of is) (c.registers.x 0) (rel.frame.words.x 0) (rel.registers (record { 0 = 0 }) (inl (omega arith)))
-          z.procedure.returns os)
+      z.procedure.returns os)
 
   -- ---- Jump and Oops
 

@@ -55,7 +55,7 @@ lower_part : (z : Setting) (c : Machine) (part n : ℕ) (high : Bool) → IsWhol
     → (part ≡ 0 → n ≡ 0) → Does z c (unless_zero part (AddSubImm W64 true false 31 31 part high ∷ [])) (with_sp c (c.registers.sp - n))
 lower_part z c part n high whole is small le none =
     elim (nat_eq part 0) as (λ b. nat_eq part 0 ≡ b
-        → Does z c (if b then [] else AddSubImm W64 true false 31 31 part high ∷ []) (with_sp c (c.registers.sp - n))) [
+    → Does z c (if b then [] else AddSubImm W64 true false 31 31 part high ∷ []) (with_sp c (c.registers.sp - n))) [
       | true ↦ λ e.
           let zero_is : part ≡ 0 = grind (arith, nat_tests) in
           let nothing = none zero_is in
@@ -77,7 +77,7 @@ lower_sp_does z c bytes whole small le even =
     let d : Machine = with_sp c (c.registers.sp - high) in
     let first = lower_part z c (bytes / 4096) high true whole refl small (omega arith) (λ e. omega arith) in
     let second = lower_part z d (bytes % 4096) (bytes % 4096) false (with_sp_whole z c (c.registers.sp - high) (omega arith) whole) refl (omega arith)
-        (omega arith) (λ e. e) in
+    (omega arith) (λ e. e) in
     let same : c.registers.sp - high - bytes % 4096 ≡ c.registers.sp - bytes = omega arith in
     does_both z c d (with_sp c (c.registers.sp - bytes)) (unless_zero (bytes / 4096) (AddSubImm W64 true false 31 31 (bytes / 4096) true ∷ []))
     (unless_zero (bytes % 4096) (AddSubImm W64 true false 31 31 (bytes % 4096) false ∷ [])) first
@@ -423,7 +423,7 @@ module _ (z : Setting) (set : IsSet z) (good : IsGoodFrame (row z)) (c : Machine
   first_seen : visible (row z) z.entry (pushed z c.memory) ≡ visible (row z) z.entry c.memory
   first_seen =
       hidden_store z set (write_word c.memory (frame_pointer_of z.entry) 8 (z.entry.registers 29)) (frame_pointer_of z.entry + 8)
-          (z.entry.registers 30) link_hidden
+      (z.entry.registers 30) link_hidden
       ∙ hidden_store z set c.memory (frame_pointer_of z.entry) (z.entry.registers 29) caller_hidden
 
   first_caller : read_word (pushed z c.memory) (frame_pointer_of z.entry - 0) 8 ≡ Some (z.entry.registers 29)
@@ -438,7 +438,7 @@ module _ (z : Setting) (set : IsSet z) (good : IsGoodFrame (row z)) (c : Machine
   first_link : read_word (pushed z c.memory) (frame_pointer_of z.entry + 8) 8 ≡ Some (z.entry.registers 30)
   first_link =
       read-write_same (write_word c.memory (frame_pointer_of z.entry) 8 (z.entry.registers 29)) (frame_pointer_of z.entry + 8) 8 (z.entry.registers 30)
-          (omega arith)
+      (omega arith)
       ∙ ap Some (small_word (z.entry.registers 30) (set.ranged.registers 30))
 
   -- ---- mov x29, sp, and SP falls
@@ -539,7 +539,7 @@ entered_related z set serves answers c entered = record {
       let is_word : IsWordOffset z.frame.bytes offset = (subst (λ o. IsSomeAnd o (λ offset. IsGoodRep (row z) W64 (Slot offset))) there placed).0 in
       let some : is_some (word_below z entered.after offset) ≡ true =
       is_some-read_word entered.after.memory (frame_pointer_of z.entry - offset) 8
-          ∙ word_mapped z set serves.good entered.after offset is_word entered.frame.whole in
+      ∙ word_mapped z set serves.good entered.after offset is_word entered.frame.whole in
       let word = some_word (word_below z entered.after offset) some in
       (word.0, word.1, tt);
   memory = set.memory ∙ sym entered.seen;

@@ -123,9 +123,14 @@ module _ (z : Setting) (set : IsSet z) (serves : IsFrameOf z.procedure z.frame) 
       → word_of s.homes width arg ≡ Some w
       → (f : Fetched z c (fetch z.frame scratch arg) scratch) × Gives f.after.registers (source_of scratch arg) width w
   unfolding fetch word_of none_fetched
-  fetch_word s c scratch (At (Reg r)) width w rel usable is e =
-      (none_fetched c scratch rel.frame.words, (allocatable_most r usable, reads_carried width (s.homes (Reg r)) (c.registers.x r.0) w
-      (rel.registers r usable) e))
+  fetch_word s c scratch (At (Reg r)) width w rel usable is e = (
+    none_fetched c scratch rel.frame.words,
+    (
+      allocatable_most r usable,
+      reads_carried width (s.homes (Reg r)) (c.registers.x r.0) w
+          (rel.registers r usable) e,
+    ),
+  )
   fetch_word s c scratch (At (Spill n)) width w rel usable is e =
       let load = spill_loads s c scratch n w width rel usable (omega (arith, is.1)) (λ f. omega (arith, is.1)) e in (
         record {
@@ -154,8 +159,11 @@ module _ (z : Setting) (set : IsSet z) (serves : IsFrameOf z.procedure z.frame) 
     pub related : IsRelated z (with_home s home held) after
 
   pub result_most : (home : Home) → IsPlaceFor z home → (result_reg (At home) ≤ 30) × (result_reg (At home) ≢ 18)
-  result_most (Reg r) may = (allocatable_most r may.0, λ e. ⊎_elim (λ (le : r.0 ≤ 14). absurd (omega arith))
-      (λ (h : (19 ≤ r.0) × (r.0 ≤ 28)). absurd (omega (arith, h.0))) may.0)
+  result_most (Reg r) may = (
+    allocatable_most r may.0,
+    λ e. ⊎_elim (λ (le : r.0 ≤ 14). absurd (omega arith))
+        (λ (h : (19 ≤ r.0) × (r.0 ≤ 28)). absurd (omega (arith, h.0))) may.0,
+  )
   result_most (Spill n) may = (omega arith, λ e. absurd (omega arith))
   result_most (Tmp n) may = absurd may
 

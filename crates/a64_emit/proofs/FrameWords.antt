@@ -80,7 +80,7 @@ pub hidden_store : (z : Setting) → IsSet z → (memory : Memory) (at w : ℕ) 
 hidden_store z set memory at w hidden =
     fun_ext (hidden_at (row z) z.entry memory at w (λ i lt.
     or_false (is_some (z.entry.memory (byte_address at i))) (in_slot (row z) z.entry (byte_address at i))
-        (not_some z set (byte_address at i) (hidden i lt).0) (hidden i lt).1))
+    (not_some z set (byte_address at i) (hidden i lt).0) (hidden i lt).1))
 
 -- ---- words that are apart
 
@@ -146,7 +146,7 @@ module _ (z : Setting) (set : IsSet z) (good : IsGoodFrame (row z)) where
       or_false (is_within (slot_address z.entry slot) slot.size (byte_address (frame_pointer_of z.entry - offset) i))
       (list_any (λ slot. is_within (slot_address z.entry slot) slot.size (byte_address (frame_pointer_of z.entry - offset) i)) slots)
       (byte_in_no_slot z.entry.sp z.frame.bytes slot.offset slot.size offset i set.ranged.sp set.room is_good.ends is_good.begins word.ends word.begins
-          apart lt)
+      apart lt)
       (in_no_slot slots offset i (All-tail (IsGoodSlot z.frame.bytes) slot slots goods)
       (All-tail (AreDisjoint (word_span W64 offset)) (slot_span slot) (map slot_span slots) aparts) word lt)
 
@@ -176,4 +176,4 @@ module _ (z : Setting) (set : IsSet z) (good : IsGoodFrame (row z)) where
       → is_mapped c.memory (frame_pointer_of z.entry - offset) 8 ≡ true
   word_mapped c offset word whole =
       is_mapped_all c.memory (frame_pointer_of z.entry - offset) 8
-          (λ i lt. whole (byte_address (frame_pointer_of z.entry - offset) i) (word_in_frame offset i word lt))
+      (λ i lt. whole (byte_address (frame_pointer_of z.entry - offset) i) (word_in_frame offset i word lt))

@@ -146,7 +146,7 @@ module _ (z : Setting) (set : IsSet z) (serves : IsFrameOf z.procedure z.frame) 
   unfolding second
   second_one =
       let back : (first.after.registers.x 29 % 2 ^ 64 + 0 + 0) % 2 ^ 64 ≡ frame_pointer_of z.entry = let at = x29_is in let small = set.ranged.sp in
-          omega arith in
+      omega arith in
       does_safely z first.after second (AddSubImm W64 false false 31 29 0 false) first_whole
       (touches_nothing first.after (AddSubImm W64 false false 31 29 0 false) (λ pc. refl)) refl
       (λ pc. sp_from_fp (moved_to pc first.after).registers first.after.memory (frame_pointer_of z.entry) back)

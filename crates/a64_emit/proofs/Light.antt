@@ -94,10 +94,10 @@ module _ (f : Frame) (few : length f.saved ≤ 10) where
   insts_light p next label targets [] good built = omega arith
   insts_light p next label targets (i ∷ insts) good built =
       let here = inst_light p.returns next label targets i.op i.operands (All-head (IsGoodInst p) i insts good).operands
-          (All-head (λ (i : AirInst). is_built i.op ≡ true) i insts built) in
+      (All-head (λ (i : AirInst). is_built i.op ≡ true) i insts built) in
       let least = words_least i in
       let more = insts_light p next label targets insts (All-tail (IsGoodInst p) i insts good)
-          (All-tail (λ (i : AirInst). is_built i.op ≡ true) i insts built) in
+      (All-tail (λ (i : AirInst). is_built i.op ≡ true) i insts built) in
       let both = sum_by-append (size_of true) (inst_items f next label targets i.op i.operands) (insts_items f next label targets insts) in
       let sum = sum_by-cons inst_weight i insts in
       omega arith

@@ -170,7 +170,7 @@ half_step s m width inverted true reg word hw le lt small at =
     puts_of s m reg _ (started_word width inverted word (hw + 1)) le
     (ap (λ x. with_half (low_bits width x) (16 * hw) (half_word word hw)) (read_is s reg le ∙ at)
     ∙ ap (λ x. with_half x (16 * hw) (half_word word hw))
-        (low_same width (started_word width inverted word hw) (started_small width inverted word hw (omega arith) small))
+    (low_same width (started_word width inverted word hw) (started_small width inverted word hw (omega arith) small))
     ∙ next_word width inverted word hw lt)
 half_step s m width true false reg word hw le lt small at =
     puts_of s m reg _ (started_word width true word (hw + 1)) le
@@ -272,4 +272,4 @@ pub constant_puts : (z : Setting) (c : Machine) (width : Width) (reg word : ℕ)
 unfolding constant
 constant_puts z c width reg word whole words le other small =
     moves_put z width (is_inverted width word) reg word le other small (half_count width) 0 false c (omega arith) whole words
-        (no_words width (is_inverted width word) word)
+    (no_words width (is_inverted width word) word)

@@ -63,8 +63,11 @@ place_home z (Spill n) none own named written = named n (own_spill n)
 
 more_role : (r : ℕ) (reads : Bool) (width : Width) (arg : Arg) (ts : List Target) → list_any (λ (t : Target). is_register r t.home) ts ≡ true
     → list_any (λ (t : Target). is_register r t.home) (and_target reads width arg ts) ≡ true
-more_role r false width (At home) ts is = elim (is_register r home) as (λ b. (b || list_any (λ (t : Target). is_register r t.home) ts) ≡ true) [ true ↦
-    refl | false ↦ is ]
+more_role r false width (At home) ts is = elim (is_register r home) as (λ b. (b || list_any (λ (t : Target). is_register r t.home) ts) ≡ true) [
+  | true ↦
+      refl
+  | false ↦ is
+]
 more_role r true width (At home) ts is = is
 more_role r false width (Imm word) ts is = is
 more_role r true width (Imm word) ts is = is
@@ -103,7 +106,7 @@ module _ (z : Setting) (b : ℕ) (block : AirBlock) (block_there : slice_get z.p
   operands_open none good j o at =
       let own : NamesOwn z.procedure o.role o.arg = all_at (λ (o : Operand). NamesOwn z.procedure o.role o.arg) i.operands j o at good.names in
       let named : (n : ℕ) → arg_names n o.arg ≡ true
-          → names z.procedure n ≡ true = λ n is. inst_named n (any_at (λ (o : Operand). arg_names n o.arg) i.operands j o at is) in
+      → names z.procedure n ≡ true = λ n is. inst_named n (any_at (λ (o : Operand). arg_names n o.arg) i.operands j o at is) in
       record {
         reads = λ role width immediates is. usable_arg z o.arg none (subst (λ r. NamesOwn z.procedure r o.arg) role own) named width immediates is;
         writes = λ home is. place_home z home none
@@ -130,7 +133,7 @@ reads_usable z (Word width immediates ∷ ts) (x ∷ os) reads fits opened zero 
     let same : x ≡ o = cc in subst (λ (y : Operand). IsUsable z y.arg) same ((opened 0 x refl).reads fits.0.0 width immediates fits.0.2)
 reads_usable z (BitOf width bit ∷ ts) (x ∷ os) reads fits opened zero o there =
     let same : x ≡ o = cc in subst (λ (y : Operand). IsUsable z y.arg) same
-        ((opened 0 x refl).reads fits.0.0 width NoImmediate (home_word width x.arg fits.0.2))
+    ((opened 0 x refl).reads fits.0.0 width NoImmediate (home_word width x.arg fits.0.2))
 reads_usable z (Word width immediates ∷ ts) (x ∷ os) reads fits opened (suc j) o there =
     reads_usable z ts os reads fits.1 (λ k y at. opened (suc k) y at) j o there
 reads_usable z (BitOf width bit ∷ ts) (x ∷ os) reads fits opened (suc j) o there = reads_usable z ts os reads fits.1 (λ k y at. opened (suc k) y at) j o there
@@ -145,10 +148,10 @@ returns_usable : (z : Setting) (r : Returns) → AreOpen z (returned r) → AllU
 returns_usable z kind.Nothing opened j o there = absurd cc
 returns_usable z kind.W32 opened zero o there =
     let same : operand_in Use W32 0 ≡ o = cc in
-        subst (λ (y : Operand). IsUsable z y.arg) same ((opened 0 (operand_in Use W32 0) refl).reads refl W32 NoImmediate tt)
+    subst (λ (y : Operand). IsUsable z y.arg) same ((opened 0 (operand_in Use W32 0) refl).reads refl W32 NoImmediate tt)
 returns_usable z kind.W64 opened zero o there =
     let same : operand_in Use W64 0 ≡ o = cc in
-        subst (λ (y : Operand). IsUsable z y.arg) same ((opened 0 (operand_in Use W64 0) refl).reads refl W64 NoImmediate tt)
+    subst (λ (y : Operand). IsUsable z y.arg) same ((opened 0 (operand_in Use W64 0) refl).reads refl W64 NoImmediate tt)
 returns_usable z kind.W32 opened (suc j) o there = absurd cc
 returns_usable z kind.W64 opened (suc j) o there = absurd cc
 

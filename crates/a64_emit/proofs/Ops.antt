@@ -160,7 +160,7 @@ module _ (s : Registers) (m : Bytes) (rd : ℕ) (le : rd ≤ 30) where
       (ap (λ u. sum_of width x u 0) (unshifted width y (gives-small s b width y gives_b)) ∙ e))
   adds width true a b x y w is_a is_b gives_a gives_b e =
       puts_of s m rd _ w le (two_of (λ v u. sum_of width v (operand width true (shifted width 0 u 0)) 1) (read_low width s (reg_of a))
-          (read_low width s (reg_of b)) x y w
+      (read_low width s (reg_of b)) x y w
       (low_is s a width x is_a gives_a) (low_is s b width y is_b gives_b)
       (ap (λ u. sum_of width x (operand width true u) 1) (unshifted width y (gives-small s b width y gives_b)) ∙ e))
 
@@ -178,7 +178,7 @@ module _ (s : Registers) (m : Bytes) (rd : ℕ) (le : rd ≤ 30) where
   unfolding step_of add_sub_reg
   neg_is width a x is_a gives_a =
       puts_of s m rd _ (difference width 0 x) le (two_of (λ v u. sum_of width v (operand width true (shifted width 0 u 0)) 1) (0 % 2 ^ bits width)
-          (read_low width s (reg_of a)) 0 x
+      (read_low width s (reg_of a)) 0 x
       (difference width 0 x) (zero_low width) (low_is s a width x is_a gives_a)
       (ap (λ u. sum_of width 0 (operand width true u) 1) (unshifted width x (gives-small s a width x gives_a))
       ∙ difference_is width 0 x (gives-small s a width x gives_a)))
@@ -190,7 +190,7 @@ module _ (s : Registers) (m : Bytes) (rd : ℕ) (le : rd ≤ 30) where
   unfolding step_of mul_add
   mul_is width a b x y is_a is_b gives_a gives_b =
       puts_of s m rd _ (product width x y) le (two_of (λ v u. sum_of width (0 % 2 ^ bits width) (low_bits width (v * u)) 0)
-          (read_low width s (reg_of a)) (read_low width s (reg_of b)) x y
+      (read_low width s (reg_of a)) (read_low width s (reg_of b)) x y
       (product width x y) (low_is s a width x is_a gives_a) (low_is s b width y is_b gives_b) (product_is width (x * y)))
 
   pub mul_sub_is : (width : Width) (a b c : Source) (x y w : ℕ) → IsRegister a → IsRegister b → IsRegister c → Gives s a width x → Gives s b width y
@@ -342,7 +342,7 @@ module _ (s : Registers) (m : Bytes) (rd : ℕ) (le : rd ≤ 30) where
       → step_of (short_sum width sub false rd (reg_of a) k) s m ≡ goes_on (put s rd (sum_of width x (operand width sub k) (if sub then 1 else 0))) m
   short_is width sub (InReg r) k x short is_a gives_a =
       elim (nat_le k 4095) as (λ b. nat_le k 4095 ≡ b
-          → step_of (if b then AddSubImm width sub false rd r k false else AddSubImm width sub false rd r (k / 4096) true) s m
+      → step_of (if b then AddSubImm width sub false rd r k false else AddSubImm width sub false rd r (k / 4096) true) s m
       ≡ goes_on (put s rd (sum_of width x (operand width sub k) (if sub then 1 else 0))) m) [
         | true ↦ λ e. imm_is width sub r k false k x gives_a refl
         | false ↦ λ e. imm_is width sub r (k / 4096) true k x gives_a (short_high k short e)
@@ -356,9 +356,9 @@ module _ (s : Registers) (m : Bytes) (rd : ℕ) (le : rd ≤ 30) where
       let same : k ≡ y = sym (low_small width k fits.0) ∙ gives_b in
       let either : (b : Bool) → is_short k ≡ b
       → step_of (if b then short_sum width false false rd (reg_of a) k else short_sum width true false rd (reg_of a) (2 ^ bits width - k)) s m ≡ goes_on
-          (put s rd (sum width x k)) m =
+      (put s rd (sum width x k)) m =
       λ b. elim b as (λ b. is_short k ≡ b → step_of (if b then short_sum width false false rd (reg_of a) k else short_sum width true false rd (reg_of a)
-          (2 ^ bits width - k)) s m ≡ goes_on (put s rd (sum width x k)) m) [
+      (2 ^ bits width - k)) s m ≡ goes_on (put s rd (sum width x k)) m) [
         | true ↦ λ e. short_is width false a k x e is_a gives_a ∙ ap (λ v. goes_on (put s rd v) m) (sum_is width x k)
         | false ↦ λ e. short_is width true a (2 ^ bits width - k) x (turned_short width k e fits.1) is_a gives_a
             ∙ ap (λ v. goes_on (put s rd v) m) (add_turned width x k fits.0 e)

@@ -22,7 +22,7 @@ saves_take f (row ∷ rows) zero d lt = append-nil (store_at row.reg.0 (above_sp
 saves_take f (row ∷ rows) (suc i) d lt =
     ap (λ (xs : List Inst). store_at row.reg.0 (above_sp f row.offset) ++ xs) (saves_take f rows i d (omega arith))
     ∙ sym (append_assoc (store_at row.reg.0 (above_sp f row.offset)) (saves f (take i rows))
-        (store_at (get_or rows i d).reg.0 (above_sp f (get_or rows i d).offset)))
+    (store_at (get_or rows i d).reg.0 (above_sp f (get_or rows i d).offset)))
 
 restores_take : (f : Frame) (rows : List SavedRow) (i : ℕ) (d : SavedRow) → i < length rows
     → restores f (take (suc i) rows) ≡ restores f (take i rows) ++ load_at (get_or rows i d).reg.0 (above_sp f (get_or rows i d).offset)
@@ -32,7 +32,7 @@ restores_take f (row ∷ rows) zero d lt = append-nil (load_at row.reg.0 (above_
 restores_take f (row ∷ rows) (suc i) d lt =
     ap (λ (xs : List Inst). load_at row.reg.0 (above_sp f row.offset) ++ xs) (restores_take f rows i d (omega arith))
     ∙ sym (append_assoc (load_at row.reg.0 (above_sp f row.offset)) (restores f (take i rows))
-        (load_at (get_or rows i d).reg.0 (above_sp f (get_or rows i d).offset)))
+    (load_at (get_or rows i d).reg.0 (above_sp f (get_or rows i d).offset)))
 
 add_one : (i : ℕ) → suc i ≡ i + 1
 add_one i = omega arith

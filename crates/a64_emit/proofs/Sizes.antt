@@ -39,7 +39,7 @@ place_is items (suc k) le =
     let rest = place_is items k (omega arith) in
     let next = place-suc items (λ j. true) k in
     let here : size_in true (slice_get items k) ≡ size_of true (get_or items k (Label 0)) =
-        ap (size_in true) (slice_get-get_or items k (Label 0) (omega arith)) in
+    ap (size_in true) (slice_get-get_or items k (Label 0) (omega arith)) in
     let more = sum_by_more (size_of true) items k (Label 0) (omega arith) in
     let e : suc k ≡ k + 1 = omega arith in
     let same : words_of (take (suc k) items) ≡ words_of (take (k + 1) items) = ap (λ n. words_of (take n items)) e in
@@ -86,21 +86,30 @@ moves_started width inverted reg word zero hw = omega arith
 moves_started width inverted reg word (suc n) hw =
     let more = moves_started width inverted reg word n (hw + 1) in
     elim (nat_eq (half_word word hw) (filling inverted)) as (λ b. length (if b then half_moves width inverted reg word true n (hw + 1) else
-    half_move width inverted true reg (half_word word hw) hw ∷ half_moves width inverted reg word true n (hw + 1)) ≤ suc n) [ true ↦
-        omega arith | false ↦ omega arith ]
+    half_move width inverted true reg (half_word word hw) hw ∷ half_moves width inverted reg word true n (hw + 1)) ≤ suc n) [
+      | true ↦
+          omega arith
+      | false ↦ omega arith
+    ]
 
 moves_most : (width : Width) (inverted : Bool) (reg word n hw : ℕ) → length (half_moves width inverted reg word false (suc n) hw) ≤ suc n
 unfolding half_moves
 moves_most width inverted reg word zero hw =
     elim (nat_eq (half_word word hw) (filling inverted)) as (λ b. length (if b then half_moves width inverted reg word false 0 (hw + 1) else
-    half_move width inverted false reg (half_word word hw) hw ∷ half_moves width inverted reg word true 0 (hw + 1)) ≤ 1) [ true ↦ omega arith | false ↦
-        omega arith ]
+    half_move width inverted false reg (half_word word hw) hw ∷ half_moves width inverted reg word true 0 (hw + 1)) ≤ 1) [
+      | true ↦ omega arith
+      | false ↦
+          omega arith
+    ]
 moves_most width inverted reg word (suc n) hw =
     let more = moves_most width inverted reg word n (hw + 1) in
     let started = moves_started width inverted reg word (suc n) (hw + 1) in
     elim (nat_eq (half_word word hw) (filling inverted)) as (λ b. length (if b then half_moves width inverted reg word false (suc n) (hw + 1) else
-    half_move width inverted false reg (half_word word hw) hw ∷ half_moves width inverted reg word true (suc n) (hw + 1)) ≤ suc (suc n)) [ true ↦
-        omega arith | false ↦ omega arith ]
+    half_move width inverted false reg (half_word word hw) hw ∷ half_moves width inverted reg word true (suc n) (hw + 1)) ≤ suc (suc n)) [
+      | true ↦
+          omega arith
+      | false ↦ omega arith
+    ]
 
 pub constant_most : (width : Width) (reg word : ℕ) → length (constant width reg word) ≤ 4
 unfolding constant
@@ -134,8 +143,11 @@ module _ (f : Frame) where
 
   pub bring_most : (width : Width) (reg : ℕ) (arg : Arg) → length (bring f width reg arg) ≤ 1 + arg_words arg
   unfolding bring
-  bring_most width reg (At (Reg from)) = elim (nat_eq reg from.0) as (λ b. length (if b then [] else move_reg width reg from.0 ∷ []) ≤ 1) [ true ↦
-      omega arith | false ↦ omega arith ]
+  bring_most width reg (At (Reg from)) = elim (nat_eq reg from.0) as (λ b. length (if b then [] else move_reg width reg from.0 ∷ []) ≤ 1) [
+    | true ↦
+        omega arith
+    | false ↦ omega arith
+  ]
   bring_most width reg (At (Spill n)) = let most = load_most reg (above_sp f (spill_offset f n)) in omega arith
   bring_most width reg (At (Tmp n)) = omega arith
   bring_most width reg (Imm word) = constant_most width reg word
@@ -149,7 +161,7 @@ module _ (f : Frame) where
   -- what is fetched, an instruction, and what puts its result
   compute_parts : (o : AirOp) (os : List Operand) → length (compute_code f o os)
       ≡ length (fetch_below (length os - 1) f os 0 15) + length (fetch_below (length os - 1) f os 1 16) + length
-          (fetch_below (length os - 1) f os 2 17) + 1 + length (put_result f (result_reg (result_at os)) (result_at os))
+      (fetch_below (length os - 1) f os 2 17) + 1 + length (put_result f (result_reg (result_at os)) (result_at os))
   compute_parts o os =
       let n : ℕ = length os - 1 in
       let rd : ℕ = result_reg (result_at os) in

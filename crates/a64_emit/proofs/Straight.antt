@@ -101,12 +101,14 @@ pub forward_both : (z : Setting) (m n : ℕ) (a : Config Machine Inst) → GoFor
 unfolding GoForward
 forward_both z zero n a first rest =
     subst (λ k. GoForward (meaning_of z) z.code k a) (omega arith)
-        (subst (GoForward (meaning_of z) z.code n) (iterate-zero (item_step (meaning_of z) z.code) a) rest)
+    (subst (GoForward (meaning_of z) z.code n) (iterate-zero (item_step (meaning_of z) z.code) a) rest)
 forward_both z (suc m) n a first rest =
     let e : suc (m + n) ≡ suc m + n = omega arith in
-    subst (λ k. GoForward (meaning_of z) z.code k a) e
-    (first.0, forward_both z m n (item_step (meaning_of z) z.code a) first.1
-    (subst (GoForward (meaning_of z) z.code n) (iterate-suc (item_step (meaning_of z) z.code) m a) rest))
+    subst (λ k. GoForward (meaning_of z) z.code k a) e (
+      first.0,
+      forward_both z m n (item_step (meaning_of z) z.code a) first.1
+          (subst (GoForward (meaning_of z) z.code n) (iterate-suc (item_step (meaning_of z) z.code) m a) rest),
+    )
 
 pub runs_none : (z : Setting) (k : ℕ) (c d : Machine) → AreAlike c d → Runs z k c 0 d
 runs_none z k c d same = record {
@@ -130,7 +132,7 @@ runs_more z k c e n d step here small rest = record {
   proper = λ j within. moments_joined (item_step (meaning_of z) z.code) (IsProper z) 1 n (At k c)
       (λ i below. let none : i ≡ 0 = omega arith in
       subst (IsProper z) (sym (ap (λ (j : ℕ). iterate (item_step (meaning_of z) z.code) j (At k c)) none
-          ∙ iterate-zero (item_step (meaning_of z) z.code) (At k c))) here)
+      ∙ iterate-zero (item_step (meaning_of z) z.code) (At k c))) here)
       (λ i below. subst (λ a. IsProper z (iterate (item_step (meaning_of z) z.code) i a)) (sym (iterate-one (item_step (meaning_of z) z.code) (At k c)
       ∙ step)) (rest.proper i below))
       j (omega arith);
@@ -157,7 +159,7 @@ reaches_here z from next k c here lands = record {
   comes = iterate-zero (item_step (meaning_of z) z.code) (At k c);
   proper = λ i le. let none : i ≡ 0 = omega arith in
       subst (IsProper z) (sym (ap (λ (j : ℕ). iterate (item_step (meaning_of z) z.code) j (At k c)) none
-          ∙ iterate-zero (item_step (meaning_of z) z.code) (At k c))) here;
+      ∙ iterate-zero (item_step (meaning_of z) z.code) (At k c))) here;
   lands = lands;
 }
 

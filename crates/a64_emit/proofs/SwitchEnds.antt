@@ -72,8 +72,11 @@ case_number-le : (width : Width) (x : ℕ) (cases : List ℕ) → case_number wi
 case_number-le width x [] = omega arith
 case_number-le width x (case ∷ cases) =
     let more = case_number-le width x cases in
-    elim (nat_eq (low width case) x) as (λ b. (if b then 0 else suc (case_number width x cases)) ≤ suc (length cases)) [ true ↦ omega arith | false ↦
-        omega arith ]
+    elim (nat_eq (low width case) x) as (λ b. (if b then 0 else suc (case_number width x cases)) ≤ suc (length cases)) [
+      | true ↦ omega arith
+      | false ↦
+          omega arith
+    ]
 
 -- a machine with the flags of a word and a case
 pub record ComparedBy (z : Setting) (s : State) (c : Machine) (insts : List Inst) (a : Source) (width : Width) (x case : ℕ) : Type 0 where
@@ -95,14 +98,19 @@ module _ (z : Setting) (set : IsSet z) (serves : IsFrameOf z.procedure z.frame) 
   -- by a register
   compares_put : (s : State) (c : Machine) (a : Source) (width : Width) (x case : ℕ) → IsRelated z s c → IsRegister a → ((r : ℕ) → a ≡ InReg r → r ≢ 16)
       → Gives c.registers a width x → ComparedBy z s c (constant width 16 (low width case) ++ AddSubReg width true true 31 (reg_of a) 16 0 0 ∷ [])
-          a width x case
+      a width x case
   unfolding flags_of_sum
   compares_put s c a width x case rel is differ gives =
       let y : ℕ = low width case in
       let p = constant_puts z c width 16 y (whole_of z set serves c rel.frame) rel.frame.words (omega arith) (λ e. omega arith) (low-small width case) in
       let m : Machine = p.after in
-      let rel_m = keeps_related z s c m (record { sp = p.sp; memory = p.memory; x = λ r kept. p.others r (kept_differs 16 r scratch_16 kept); words =
-          p.words }) rel in
+      let rel_m = keeps_related z s c m (record {
+        sp = p.sp;
+        memory = p.memory;
+        x = λ r kept. p.others r (kept_differs 16 r scratch_16 kept);
+        words =
+            p.words;
+      }) rel in
       let inst : Inst = AddSubReg width true true 31 (reg_of a) 16 0 0 in
       let d : Machine = record { registers = with_flags m.registers (flags_of_sum width x (complement width y) 1); memory = m.memory } in
       let gives_a : Gives m.registers a width x = gives_same c.registers m.registers a width x (λ r is. p.others r (differ r is)) gives in
@@ -132,10 +140,10 @@ module _ (z : Setting) (set : IsSet z) (serves : IsFrameOf z.procedure z.frame) 
       let y : ℕ = low width case in
       let inst : Inst = sum_with width true true 31 (reg_of a) y in
       let plain = sum_plain width true true 31 (reg_of a) (Constant y) (omega arith) (register_most c.registers a width x is gives) (omega arith)
-          (low-small width case, short) in
+      (low-small width case, short) in
       let d : Machine = record { registers = with_flags c.registers (flags_of_sum width x (complement width y) 1); memory = c.memory } in
       let one : DoesOne z c inst d = does_safely z c d inst (whole_of z set serves c rel.frame)
-          (touches_nothing c inst (λ pc. plain.touches (moved_to pc c).registers)) refl
+      (touches_nothing c inst (λ pc. plain.touches (moved_to pc c).registers)) refl
       (λ pc. compare_is (moved_to pc c).registers c.memory width a (Constant y) x y is
       (gives_same c.registers (moved_to pc c).registers a width x (λ r is. refl) gives) (low_low width case)
       (low-small width case, short)) in
@@ -157,7 +165,7 @@ module _ (z : Setting) (set : IsSet z) (serves : IsFrameOf z.procedure z.frame) 
   compares s c a width x case rel is differ gives =
       elim (is_sum_word width (low width case)) as (λ b. is_sum_word width (low width case) ≡ b
       → ComparedBy z s c (if b then sum_with width true true 31 (reg_of a) (low width case) ∷ [] else constant width 16
-          (low width case) ++ AddSubReg width true true 31 (reg_of a) 16 0 0 ∷ []) a width x case) [
+      (low width case) ++ AddSubReg width true true 31 (reg_of a) 16 0 0 ∷ []) a width x case) [
         | true ↦ λ e. compares_with s c a width x case rel is e gives
         | false ↦ λ e. compares_put s c a width x case rel is differ gives
       ] refl
@@ -179,17 +187,20 @@ module _ (z : Setting) (set : IsSet z) (serves : IsFrameOf z.procedure z.frame) 
       let long = length_plains insts in
       let total = length-append (plains insts) (If Eq target ∷ items) in
       let behind : Among z.code (k + n) (If Eq target ∷ items) =
-          subst (λ n. Among z.code (k + n) (If Eq target ∷ items)) long (among_rest z.code k (plains insts) (If Eq target ∷ items) among) in
+      subst (λ n. Among z.code (k + n) (If Eq target ∷ items)) long (among_rest z.code k (plains insts) (If Eq target ∷ items) among) in
       let there : slice_get z.code (k + n) ≡ Some (If Eq target) = ap (slice_get z.code) (omega arith) ∙ behind 0 (If Eq target) refl in
-      let size : 1 ≤ size_in (z.long (k + n)) (Some (If Eq target)) = elim (z.long (k + n)) as (λ b. 1 ≤ size_in b (Some (If Eq target))) [ true ↦
-          omega arith | false ↦ omega arith ] in
+      let size : 1 ≤ size_in (z.long (k + n)) (Some (If Eq target)) = elim (z.long (k + n)) as (λ b. 1 ≤ size_in b (Some (If Eq target))) [
+        | true ↦
+            omega arith
+        | false ↦ omega arith
+      ] in
       let room = words_there z (k + n) (If Eq target) there (slice_get_within z.code (k + n) (If Eq target) there) size in
       let runs : Runs z k c n q.after = straight_runs z set unmarked k c q.after insts q.does
-          (among_plains z.code k insts (among_first z.code k (plains insts) (If Eq target ∷ items) among)) room in
+      (among_plains z.code k insts (among_first z.code k (plains insts) (If Eq target ∷ items) among)) room in
       let last : Machine = runs.last in
       let rel_last = alike_related z s q.after last runs.alike (runs.small rel.frame.words.pc) q.related in
       let equal : test_holds (branch_test (Compare Eq) true width 0) last ≡ nat_eq (low width case) x =
-          ap (λ (m : Machine). holds Eq m.registers.flags) runs.alike ∙ q.equal in
+      ap (λ (m : Machine). holds Eq m.registers.flags) runs.alike ∙ q.equal in
       let step = branch_goes z set serves (Compare Eq) true width 0 (k + n) target last (nat_eq (low width case) x) equal there in
       let e : k + length (plains insts ++ If Eq target ∷ items) ≡ k + n + 1 + length items = omega arith in
       leads_on z from (air.At (get_or (target ∷ targets_of) (case_number width x (case ∷ cases)) 0) s) k n c q.after runs
@@ -202,9 +213,9 @@ module _ (z : Setting) (set : IsSet z) (serves : IsFrameOf z.procedure z.frame) 
             let on = one_runs z set serves s (k + n) last (If Eq target) there tt step rel_last in
             let rel_on = alike_related z s last on.last on.alike (on.small rel_last.frame.words.pc) rel_last in
             let gives_last : Gives last.registers a width x =
-                gives_same q.after.registers last.registers a width x (λ r is. ap (λ (m : Machine). m.registers.x r) runs.alike) q.gives in
+            gives_same q.after.registers last.registers a width x (λ r is. ap (λ (m : Machine). m.registers.x r) runs.alike) q.gives in
             let gives_on : Gives on.last.registers a width x =
-                gives_same last.registers on.last.registers a width x (λ r is. ap (λ (m : Machine). m.registers.x r) on.alike) gives_last in
+            gives_same last.registers on.last.registers a width x (λ r is. ap (λ (m : Machine). m.registers.x r) on.alike) gives_last in
             leads_on z from (air.At (get_or targets_of (case_number width x cases) 0) s) (k + n) 1 last last on
             (switch_reaches from s a width x next label cases targets_of (k + n + 1) on.last (omega arith) (λ j lt. within (suc j) (omega arith))
             (among_rest z.code (k + n) (If Eq target ∷ []) items behind) (subst (λ j. NextAt z next j) e at) since rel_on is differ gives_on)
@@ -224,7 +235,7 @@ module _ (z : Setting) (set : IsSet z) (serves : IsFrameOf z.procedure z.frame) 
   switch_room : (next label k n : ℕ) (cases targets_of : List ℕ) (width : Width) (reg : ℕ) → length targets_of ≡ suc (length cases) → AllWithin z targets_of
       → Among z.code (k + n) (switch_items width reg next label cases targets_of)
       → (next < length z.procedure.blocks → place z.code z.long (k + n + length (switch_items width reg next label cases targets_of)) < place z.code
-          z.long (length z.code))
+      z.long (length z.code))
       → place z.code z.long (k + n) < place z.code z.long (length z.code)
   switch_room next label k n cases targets_of width reg count within among ahead =
       ⊎_elim
@@ -241,7 +252,7 @@ module _ (z : Setting) (set : IsSet z) (serves : IsFrameOf z.procedure z.frame) 
       → Among z.code k (SwitchCode next label cases targets_of i.operands)
       → NextAt z next (k + length (SwitchCode next label cases targets_of i.operands))
       → (next < length z.procedure.blocks → place z.code z.long (k + length (SwitchCode next label cases targets_of i.operands)) < place z.code z.long
-          (length z.code))
+      (length z.code))
       → IsRelated z s c → Ends z targets_of i s k c
   switch_ends i s cases targets_of next label k c width is fits usable count within among at ahead rel =
       let os = one_there (Word width NoImmediate) i.operands fits in
@@ -253,10 +264,10 @@ module _ (z : Setting) (set : IsSet z) (serves : IsFrameOf z.procedure z.frame) 
       let items : List Item = switch_items a.width (reg_of source) next label cases targets_of in
       let here : Among z.code k (plains insts ++ items) = subst (λ xs. Among z.code k (SwitchCode next label cases targets_of xs)) os.1 among in
       let at_here : NextAt z next (k + length (plains insts ++ items)) =
-          subst (λ xs. NextAt z next (k + length (SwitchCode next label cases targets_of xs))) os.1 at in
+      subst (λ xs. NextAt z next (k + length (SwitchCode next label cases targets_of xs))) os.1 at in
       let ahead_here : next < length z.procedure.blocks → place z.code z.long (k + length (plains insts ++ items)) < place z.code z.long (length z.code) =
       subst (λ xs. next < length z.procedure.blocks
-          → place z.code z.long (k + length (SwitchCode next label cases targets_of xs)) < place z.code z.long (length z.code)) os.1 ahead in
+      → place z.code z.long (k + length (SwitchCode next label cases targets_of xs)) < place z.code z.long (length z.code)) os.1 ahead in
       let long = length_plains insts in
       let total = length-append (plains insts) items in
       let e : k + length (plains insts ++ items) ≡ k + length insts + length items = omega arith in
@@ -269,13 +280,13 @@ module _ (z : Setting) (set : IsSet z) (serves : IsFrameOf z.procedure z.frame) 
       let m : Machine = first.0.after in
       let rel_m = keeps_related z s c m (fetched_keeps z c insts 15 scratch_15 first.0) rel in
       let room = switch_room next label k (length insts) cases targets_of a.width (reg_of source) count within behind
-          (subst (λ j. next < length z.procedure.blocks → place z.code z.long j < place z.code z.long (length z.code)) e ahead_here) in
+      (subst (λ j. next < length z.procedure.blocks → place z.code z.long j < place z.code z.long (length z.code)) e ahead_here) in
       let runs : Runs z k c (length insts) m = straight_runs z set unmarked k c m insts first.0.does
-          (among_plains z.code k insts (among_first z.code k (plains insts) items here)) room in
+      (among_plains z.code k insts (among_first z.code k (plains insts) items here)) room in
       let last : Machine = runs.last in
       let rel_last = alike_related z s m last runs.alike (runs.small rel.frame.words.pc) rel_m in
       let gives : Gives last.registers source a.width x =
-          gives_same m.registers last.registers source a.width x (λ r is. ap (λ (n : Machine). n.registers.x r) runs.alike) first.1 in
+      gives_same m.registers last.registers source a.width x (λ r is. ap (λ (n : Machine). n.registers.x r) runs.alike) first.1 in
       let number : ℕ = case_number a.width x cases in
       let most = case_number-le a.width x cases in
       let to : ℕ = get_or targets_of number 0 in

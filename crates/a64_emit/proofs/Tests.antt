@@ -55,7 +55,7 @@ add_flags : (width : Width) (x k : ℕ) → k < 2 ^ bits width → is_short k �
 add_flags width x k small long short =
     let some : 0 < k = not_zero k long in
     flags_by width x (2 ^ bits width - k) x (complement width k) 0 1 (same_sum width x k small some)
-        (rw (negative_signed width k small short some) (omega (arith, ints)))
+    (rw (negative_signed width k small short some) (omega (arith, ints)))
 
 -- ---- comparisons
 
@@ -69,7 +69,7 @@ module _ (s : Registers) (m : Bytes) where
   unfolding step_of add_sub_reg
   compare_reg width a b x y is_a is_b gives_a gives_b =
       ap (λ v. goes_on (with_flags s (flags_of_sum width v (complement width (shifted width 0 (read_low width s (reg_of b)) 0)) 1)) m)
-          (low_is s a width x is_a gives_a)
+      (low_is s a width x is_a gives_a)
       ∙ ap (λ v. goes_on (with_flags s (flags_of_sum width x (complement width (shifted width 0 v 0)) 1)) m) (low_is s b width y is_b gives_b)
       ∙ ap (λ v. goes_on (with_flags s (flags_of_sum width x (complement width v) 1)) m) (unshifted width y (gives-small s b width y gives_b))
 
@@ -82,7 +82,7 @@ module _ (s : Registers) (m : Bytes) where
       → step_of (short_sum width sub true 31 (reg_of a) k) s m ≡ goes_on (with_flags s (flags_of_sum width x (operand width sub k) (bit sub))) m
   short_flags width sub (InReg r) k x short is_a gives_a =
       elim (nat_le k 4095) as (λ b. nat_le k 4095 ≡ b
-          → step_of (if b then AddSubImm width sub true 31 r k false else AddSubImm width sub true 31 r (k / 4096) true) s m
+      → step_of (if b then AddSubImm width sub true 31 r k false else AddSubImm width sub true 31 r (k / 4096) true) s m
       ≡ goes_on (with_flags s (flags_of_sum width x (operand width sub k) (bit sub))) m) [
         | true ↦ λ e. imm_flags width sub r k false k x gives_a refl
         | false ↦ λ e. imm_flags width sub r (k / 4096) true k x gives_a (short_high k short e)
@@ -106,7 +106,7 @@ module _ (s : Registers) (m : Bytes) where
       → step_of (if b then short_sum width true true 31 (reg_of a) k else short_sum width false true 31 (reg_of a) (2 ^ bits width - k)) s m
       ≡ goes_on (with_flags s (flags_of_sum width x (complement width k) 1)) m =
       λ b. elim b as (λ b. is_short k ≡ b → step_of (if b then short_sum width true true 31 (reg_of a) k else short_sum width false true 31 (reg_of a)
-          (2 ^ bits width - k)) s m
+      (2 ^ bits width - k)) s m
       ≡ goes_on (with_flags s (flags_of_sum width x (complement width k) 1)) m) [
         | true ↦ λ e. short_flags width true a k x e is_a gives_a
         | false ↦ λ e. short_flags width false a (2 ^ bits width - k) x (turned_short width k e fits.1) is_a gives_a

@@ -138,8 +138,13 @@ module _ (z : Setting) (set : IsSet z) (serves : IsFrameOf z.procedure z.frame) 
 
   flagged_related : (s : State) (m : Machine) (flags : Flags) → IsRelated z s m → IsRelated z s (flagged m flags)
   flagged_related s m flags rel =
-      keeps_related z s m (flagged m flags) (record { sp = refl; memory = refl; x = λ r kept. refl; words =
-          record { x = rel.frame.words.x; sp = rel.frame.words.sp; pc = rel.frame.words.pc } }) rel
+      keeps_related z s m (flagged m flags) (record {
+        sp = refl;
+        memory = refl;
+        x = λ r kept. refl;
+        words =
+            record { x = rel.frame.words.x; sp = rel.frame.words.sp; pc = rel.frame.words.pc };
+      }) rel
 
   -- the test sets its flags
   pub tests_one : (s : State) (m : Machine) (t : Test) (a b : Source) (width : Width) (x y : ℕ) → IsRelated z s m → IsRegister a → Gives m.registers a width x
@@ -204,8 +209,15 @@ module _ (z : Setting) (set : IsSet z) (serves : IsFrameOf z.procedure z.frame) 
       let result : ℕ = if passes t width x y then u else v in
       let inst : Inst = Select other false rd (reg_of (source_of 15 p)) (reg_of (source_of 16 q)) (condition t) in
       let last = ends_by z set serves s two.after inst home d.width result two.related may
-      (record { fields = (le_more rd (result_most z set serves home may).0, source_most z 15 p (omega arith) usable_p, source_most z 16 q
-      (omega arith) usable_q); touches = λ r. refl })
+      (record {
+        fields = (
+          le_more rd (result_most z set serves home may).0,
+          source_most z 15 p (omega arith) usable_p,
+          source_most z 16 q
+              (omega arith) usable_q,
+        );
+        touches = λ r. refl;
+      })
       (λ pc. select_is (moved_to pc two.after).registers two.after.memory rd (result_most z set serves home may).0 other (source_of 15 p)
       (source_of 16 q) u v (condition t) (passes t width x y)
       is_p is_q two.gives_a two.gives_b says) in

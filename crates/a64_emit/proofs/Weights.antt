@@ -54,7 +54,7 @@ branches_most t width reg next then_label else_label =
     let second = branch_most t true width reg then_label in
     let jump = jump_most next else_label in
     elim (nat_eq then_label next) as (λ b. words_of
-        (if b then branch_item t false width reg else_label ∷ [] else branch_item t true width reg then_label ∷ jump_to next else_label) ≤ 3) [
+    (if b then branch_item t false width reg else_label ∷ [] else branch_item t true width reg then_label ∷ jump_to next else_label) ≤ 3) [
       | true ↦ let sum = sum_by-cons (size_of true) (branch_item t false width reg else_label) [] in omega arith
       | false ↦ let sum = sum_by-cons (size_of true) (branch_item t true width reg then_label) (jump_to next else_label) in omega arith
     ]
@@ -128,7 +128,7 @@ module _ (f : Frame) where
       let least_a = place_least a.arg in
       let least_b = place_least b.arg in
       let one : length (fetch_tested f (Compare cond) (a ∷ b ∷ os)) ≡ length (fetch f 15 a.arg) + length (fetch f 16 b.arg) =
-          length-append (fetch f 15 a.arg) (fetch f 16 b.arg) in
+      length-append (fetch f 15 a.arg) (fetch f 16 b.arg) in
       omega arith
 
   fetched_alone : (a : Operand) → length (fetch f 15 a.arg ++ []) ≤ arg_words a.arg
@@ -145,7 +145,7 @@ module _ (f : Frame) where
       let put = put_most f (result_reg d) d in
       let least = place_least d in
       let all : length (tested ++ i ∷ j ∷ put_result f (result_reg d) d) ≡ length tested + length (i ∷ j ∷ put_result f (result_reg d) d) =
-          length-append tested (i ∷ j ∷ put_result f (result_reg d) d) in
+      length-append tested (i ∷ j ∷ put_result f (result_reg d) d) in
       omega arith
 
   pub set_most : (t : Test) (os : List Operand) → length os ≡ test_count t + 1 → length (set_code f t os) ≤ 2 + sum_by (operand_words f) os
@@ -184,9 +184,9 @@ module _ (f : Frame) where
       let least_d = place_least d in
       let a : length (tested ++ i ∷ fetch f 15 x) ≡ length tested + suc (length (fetch f 15 x)) = length-append tested (i ∷ fetch f 15 x) in
       let b : length (tested ++ i ∷ fetch f 15 x ++ fetch f 16 y) ≡ length (tested ++ i ∷ fetch f 15 x) + length (fetch f 16 y) =
-          length-append (tested ++ i ∷ fetch f 15 x) (fetch f 16 y) in
+      length-append (tested ++ i ∷ fetch f 15 x) (fetch f 16 y) in
       let c : length (tested ++ i ∷ fetch f 15 x ++ fetch f 16 y ++ j ∷ put_result f (result_reg d) d) ≡ length
-          (tested ++ i ∷ fetch f 15 x ++ fetch f 16 y) + suc (length (put_result f (result_reg d) d)) =
+      (tested ++ i ∷ fetch f 15 x ++ fetch f 16 y) + suc (length (put_result f (result_reg d) d)) =
       length-append (tested ++ i ∷ fetch f 15 x ++ fetch f 16 y) (j ∷ put_result f (result_reg d) d) in
       omega arith
 
@@ -281,12 +281,12 @@ module _ (f : Frame) where
 
   pub switch_code_most : (next label : ℕ) (cases targets : List ℕ) (os : List Operand) → length os ≡ 1
       → words_of (plains (fetch f 15 (arg_at os 0)) ++ switch_items (width_at os 0) (reg_of (source_at os 0 15)) next label cases targets) ≤ 10 * length
-          cases + 2 + sum_by (operand_words f) os
+      cases + 2 + sum_by (operand_words f) os
   switch_code_most next label cases targets os count =
       let shape = of_one os count in
       let a : Operand = shape.0 in
       subst (λ xs. words_of (plains (fetch f 15 (arg_at xs 0)) ++ switch_items (width_at xs 0) (reg_of (source_at xs 0 15)) next label cases targets)
-          ≤ 10 * length cases + 2 + sum_by (operand_words f) xs) (sym shape.1)
+      ≤ 10 * length cases + 2 + sum_by (operand_words f) xs) (sym shape.1)
       (let first = fetch_most f 15 a.arg in
       let least = place_least a.arg in
       let plain = plain_words (fetch f 15 a.arg) in
@@ -321,7 +321,7 @@ module _ (f : Frame) where
       let first = unless_most (bytes / 4096) (AddSubImm W64 true false 31 31 (bytes / 4096) true) in
       let second = unless_most (bytes % 4096) (AddSubImm W64 true false 31 31 (bytes % 4096) false) in
       let both = length-append (unless_zero (bytes / 4096) (AddSubImm W64 true false 31 31 (bytes / 4096) true ∷ []))
-          (unless_zero (bytes % 4096) (AddSubImm W64 true false 31 31 (bytes % 4096) false ∷ [])) in
+      (unless_zero (bytes % 4096) (AddSubImm W64 true false 31 31 (bytes % 4096) false ∷ [])) in
       omega arith
 
   pub prologue_most : length f.saved ≤ 10 → length (prologue f) ≤ 24

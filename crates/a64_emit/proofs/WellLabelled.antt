@@ -79,11 +79,11 @@ fair_branch n test label (Some (If holds to)) fair is =
 fair_branch n test label (Some (IfZero width nonzero reg to)) fair is =
     let h = fair (IfZero width nonzero reg to) refl in
     subst (λ (b : Test × ℕ). IsTest b.0 × (b.1 < n)) (one_branch (Some (Zero width nonzero reg, to)) (Zero width nonzero reg, to) (test, label) refl is)
-        (h.0, h.1)
+    (h.0, h.1)
 fair_branch n test label (Some (IfBit nonzero reg at to)) fair is =
     let h = fair (IfBit nonzero reg at to) refl in
     subst (λ (b : Test × ℕ). IsTest b.0 × (b.1 < n)) (one_branch (Some (Bit nonzero reg at, to)) (Bit nonzero reg at, to) (test, label) refl is)
-        ((h.0, h.1), h.2)
+    ((h.0, h.1), h.2)
 fair_branch n test label (Some (Plain inst)) fair is = absurd (no_some (test, label) is)
 fair_branch n test label (Some (Jump to)) fair is = absurd (no_some (test, label) is)
 fair_branch n test label (Some (Label to)) fair is = absurd (no_some (test, label) is)

@@ -54,7 +54,7 @@ module _ (p : AirProc) (frame : Frame) (well : IsWellFormed p) (no_tmps : p.tmps
         light = few;
         entry = λ z answers c of begins.
             entry_carried z of.3 (its_frame z of) (its_blocks z of) (ap (λ (q : AirProc). q.tmps) of.0 ∙ no_tmps) (its_built z of) (its_code z of)
-                (its_marks z of)
+            (its_marks z of)
             0 (get_or p.blocks 0 (record { insts = []; targets = [] })) (block_there z of 0 well.entry) refl answers c begins;
         block = λ z b s c of some lt rel.
             subst (λ code. CarriesOut z b s (position_of code b) c) of.2

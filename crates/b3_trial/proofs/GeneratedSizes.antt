@@ -95,8 +95,8 @@ unfolding operations
 operations_short zero state k some few = tt
 operations_short (suc count) state k some few = (
   operation_short (drawn state % 6) k (child_before k (drawn (next_state state))) (child_before k (drawn (next_state (next_state state))))
-  (omega arith) (child_small k (drawn (next_state state)) some (omega arith))
-  (child_small k (drawn (next_state (next_state state))) some (omega arith)),
+      (omega arith) (child_small k (drawn (next_state state)) some (omega arith))
+      (child_small k (drawn (next_state (next_state state))) some (omega arith)),
   operations_short count (state_behind 3 state) (k + 1) (omega arith) (omega arith),
 )
 
@@ -168,8 +168,12 @@ procedures_count : (count state p : ℕ) → length (procedures_from count state
 unfolding procedures_from
 procedures_count zero state p = refl
 procedures_count (suc count) state p =
-    omega (arith, length-append (procedure_rows state p) (procedures_from count (state_behind 1501 state) (p + 1)), procedure_count state p,
-    procedures_count count (state_behind 1501 state) (p + 1))
+    omega (
+      arith,
+      length-append (procedure_rows state p) (procedures_from count (state_behind 1501 state) (p + 1)),
+      procedure_count state p,
+      procedures_count count (state_behind 1501 state) (p + 1),
+    )
 
 pub generated_short : (n : ℕ) → length (generated n) ≤ 16_777_216
 generated_short n = omega (arith, text_short (procedures_from 16 n 0) (procedures_short 16 n 0 (omega arith)), procedures_count 16 n 0)
