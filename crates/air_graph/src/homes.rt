@@ -22,8 +22,8 @@ fn place_of(reg: u8) -> Option<usize>
     }
 }
 
-/// The number of a home, where there are so many temporaries: temporaries have theirs, and after them come x0 to x14 and
-/// x19 to x28. Other homes have none. It takes no memory.
+/// The number of a home, where there are so many temporaries: temporaries have theirs, and after them come x0 to x14
+/// and x19 to x28. Other homes have none. It takes no memory.
 pub fn number_of(tmps: u32, home: Home) -> Option<usize>
     ensures { result ≡ number_of tmps home }
 {

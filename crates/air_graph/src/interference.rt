@@ -27,8 +27,8 @@ pub struct Interference {
 }
 
 impl Interference {
-    /// The graph of so many temporaries of which none interferes with another home, and without moves. It is refused for
-    /// want of memory alone.
+    /// The graph of so many temporaries of which none interferes with another home, and without moves. It is refused
+    /// for want of memory alone.
     pub fn new(alloc: Global, tmps: u32) -> Result<Interference, NoMemory>
         requires { tmps + 25 ≤ 2 ^ 17 }
         ensures tmps { IfOk result (λ g. g.tmps ≡ tmps) }
