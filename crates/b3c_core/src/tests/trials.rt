@@ -102,13 +102,13 @@ fn blocks_are_those_of_b3_and_steps_those_of_the_machine(rt: HostRuntime) -> Res
         ),
         (
             COUNTDOWN,
-            "procedure f\nx0 3\nblocks 4\nsteps 49\n",
+            "procedure f\nx0 3\nblocks 4\nsteps 44\n",
             "status going\n",
             "status returned 1\n",
         ),
         (
             COUNTDOWN,
-            "procedure f\nx0 3\nblocks 5\nsteps 48\n",
+            "procedure f\nx0 3\nblocks 5\nsteps 43\n",
             "status returned 1\n",
             "status going\n",
         ),
@@ -176,7 +176,7 @@ fn an_input_is_refused_before_its_trial(rt: HostRuntime) -> Result<(), Fail> {
             "b3c: line 3: invalid rule 5\n",
         ),
         (
-            "procedure f\nBB#0:\n    Void b@0 = Oops()\n",
+            "procedure f\nBB#0:\n    Int64 b@0 = FramePointer()\n    Void b@1 = Return(b@0)\n",
             10,
             "b3c: line 3: not built\n",
         ),
