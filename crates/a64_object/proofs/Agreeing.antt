@@ -1,5 +1,5 @@
 -- The object's code of a procedure, as it is made, agrees with the procedure.
-use Rattle.std.proofs.Common.{◌≡◌, ℕ, suc, ◌+◌, ◌-◌, ◌*◌, ◌/◌, ◌%◌, ◌^◌, ◌<◌, ◌≤◌, List, [], ◌∷◌, Some, length, refl, sym, ap, ◌∙◌, subst, arith, not}
+use Rattle.std.proofs.Common.{◌≡◌, ℕ, suc, ◌+◌, ◌*◌, ◌/◌, ◌<◌, ◌≤◌, List, [], ◌∷◌, Some, length, refl, sym, ap, ◌∙◌, subst, arith, not}
 use Rattle.std.specs.Prelude.{All, map, slice_get, sum_by}
 use Rattle.std.specs.List.{filter}
 use Rattle.std.proofs.lemmas.List.{length-map, nil_from_length}
@@ -13,12 +13,10 @@ use Rattle.stackmap.specs.declared.site.SavedRow.{SavedRow}
 use Rattle.stackmap.specs.declared.site.SlotRow.{SlotRow}
 use Rattle.exit_table.specs.declared.tables.FrameRow.{FrameRow}
 use Rattle.a64_inst.specs.declared.item.Item.{Item}
-use Rattle.air_ir.specs.declared.procedure.AirProc.{AirProc}
 use Rattle.air_frame.specs.Frames.{row_of, rounded, slot_bytes, slot_rows}
 use Rattle.air_frame.specs.Needs.{callee_saved, writes}
 use Rattle.elf_obj.specs.declared.object.Object.{Object}
 use Rattle.elf_obj.specs.declared.object.Symbol.{Symbol}
-use Rattle.a64_layout.specs.Layout.{most_words}
 use Rattle.a64_layout.specs.Machine.{IsShortestText, RunsAsItems}
 use Rattle.a64_layout.specs.Run.{IsWellMarked}
 use Rattle.a64_layout.specs.Text.{IsWellLabelled, mark_count}

@@ -1,16 +1,11 @@
 -- The code of a procedure in an object agrees with the procedure.
-use Rattle.std.proofs.Common.{◌≡◌, ◌≢◌, ℕ, zero, suc, ◌+◌, ◌-◌, ◌*◌, ◌/◌, ◌%◌, ◌^◌, ◌<◌, ◌≤◌, List, [], ◌∷◌, ◌++◌, Some, length, refl, sym, ap, ◌∙◌, subst, arith, div-le_self}
-use Rattle.std.specs.Prelude.{All, map, slice_get}
-use Rattle.std.proofs.lemmas.List.{length-map}
+use Rattle.std.proofs.Common.{◌≡◌, ◌≢◌, ℕ, zero, suc, ◌+◌, ◌-◌, ◌*◌, ◌/◌, ◌<◌, ◌≤◌, List, [], ◌++◌, length, refl, sym, ap, ◌∙◌, subst, arith, div-le_self}
 use Rattle.b3_base.specs.Observed.{Answer, MachineStart, Observation, Start}
-use Rattle.b3_base.specs.Ranged.{IsRangedAnswer}
 use Rattle.b3_base.specs.Run.{Follows, iterate}
 use Rattle.b3_base.specs.declared.observation.Status.TheVariants.{Undefined}
 use Rattle.b3_base.proofs.Run.{iterate-zero}
-use Rattle.b3_ir.specs.Procedure.{Procedure, total}
+use Rattle.b3_ir.specs.Procedure.{Procedure}
 use Rattle.b3_meaning.specs.Run as b3
-use Rattle.stackmap.specs.declared.site.SlotRow.{SlotRow}
-use Rattle.exit_table.specs.declared.tables.FrameRow.{FrameRow}
 use Rattle.a64_inst.specs.declared.item.Item.{Item}
 use Rattle.air_ir.specs.Blocks as air
 use Rattle.air_ir.specs.Run.{HasBlocksOf, air_run}
@@ -19,22 +14,21 @@ use Rattle.air_ir.specs.WellFormed.{IsWellFormed}
 use Rattle.air_ir.specs.declared.frame.Frame.{Frame}
 use Rattle.air_ir.specs.declared.procedure.AirProc.{AirProc}
 use Rattle.air_ir.proofs.Same.{seen_same}
-use Rattle.air_frame.specs.Frames.{row_of, slot_rows}
 use Rattle.elf_obj.specs.declared.object.Object.{Object}
 use Rattle.elf_obj.specs.declared.object.Symbol.{Symbol}
 use Rattle.a64_layout.specs.Layout.{Set}
-use Rattle.a64_run.specs.Agrees.{Agrees, AgreesFrom, word_count}
+use Rattle.a64_run.specs.Agrees.{AgreesFrom, word_count}
 use Rattle.a64_run.specs.Machine as machine
 use Rattle.a64_run.specs.Machine.{Config, Entry, machine_run, machine_step, run_of}
 use Rattle.a64_run.specs.Moments.{IsProper as IsMoment}
-use Rattle.a64_run.specs.Placement.{Places, start_of}
+use Rattle.a64_run.specs.Placement.{start_of}
 use Rattle.a64_emit.specs.Setting.{IsSet, Setting, row}
 use Rattle.a64_emit.specs.Emitted.{IsCodeOfAir}
 use Rattle.a64_object.proofs.Following.{Followed, followed}
 use Rattle.a64_object.proofs.Stepping.{HasText}
 use Rattle.a64_object.proofs.Items.{IsText, entry_at, setting_at}
 use Rattle.a64_object.proofs.Blocks.{Alike, Lost, Moment, blocks, bound, follows, number, up}
-use Rattle.a64_object.proofs.Beginning.{entry_step, is_set, start_ranged}
+use Rattle.a64_object.proofs.Beginning.{entry_step}
 
 module _ (p : Procedure) (q : AirProc) (frame : Frame) (code : List Item) (long : Set) (words : List ℕ) (o : Object) (symbol : Symbol) (m : MachineStart) (text : IsText code long words) where
   abbrev z : Setting

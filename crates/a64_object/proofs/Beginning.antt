@@ -1,17 +1,16 @@
 -- Where the run of the machine of an object begins, and its first step: the entry and the block behind it.
-use Rattle.std.proofs.Common.{◌≡◌, ℕ, zero, suc, ◌+◌, ◌-◌, ◌*◌, ◌%◌, ◌^◌, ◌<◌, ◌≤◌, Bool, true, false, ◌&&◌, Option, Some, None, List, [], ◌∷◌, ◌++◌, length, refl, sym, ap, ◌∙◌, subst, arith, append_assoc, if◌then◌else◌, nat_lt, nat_le}
-use Rattle.std.specs.Prelude.{All, IfSome, is_some, map, slice_get}
+use Rattle.std.proofs.Common.{◌≡◌, ℕ, zero, suc, ◌+◌, ◌-◌, ◌^◌, ◌<◌, ◌≤◌, Bool, true, false, Option, Some, None, List, [], ◌∷◌, ◌++◌, length, refl, sym, ap, ◌∙◌, subst, arith, append_assoc, if◌then◌else◌, nat_lt, nat_le}
+use Rattle.std.specs.Prelude.{IfSome, map}
 use Rattle.std.proofs.lemmas.Bool.{and_parts}
 use Rattle.std.proofs.lemmas.Bool.Decides.{nat_tests}
 use Rattle.std.proofs.lemmas.List.Elements.{All-cons, All-nil}
 use Rattle.b3_base.specs.Memory.{AreBytes}
-use Rattle.b3_base.specs.Observed.{Answer, MachineStart, Memory, Observation}
+use Rattle.b3_base.specs.Observed.{Answer, MachineStart}
 use Rattle.b3_base.specs.Ranged.{AreWords as AreAllWords, IsRangedStart}
 use Rattle.b3_base.specs.Run.{iterate}
 use Rattle.b3_base.proofs.Run.{iterate-add, moments_joined}
 use Rattle.stackmap.specs.declared.site.SlotRow.{SlotRow}
 use Rattle.exit_table.specs.declared.tables.FrameRow.{FrameRow}
-use Rattle.a64_inst.specs.Registers.{AreWords}
 use Rattle.a64_inst.specs.declared.item.Item.{Item}
 use Rattle.air_ir.specs.Blocks as air
 use Rattle.air_ir.specs.Blocks.{block_step, run_step}
@@ -21,7 +20,6 @@ use Rattle.air_ir.specs.Steps.{State}
 use Rattle.air_ir.specs.WellFormed.{IsWellFormed}
 use Rattle.air_ir.specs.declared.frame.Frame.{Frame}
 use Rattle.air_ir.specs.declared.procedure.AirProc.{AirProc}
-use Rattle.air_frame.specs.Frames.{row_of}
 use Rattle.elf_obj.specs.declared.object.Object.{Object}
 use Rattle.elf_obj.specs.declared.object.Symbol.{Symbol}
 use Rattle.a64_layout.specs.Layout.{Set, place, position_of}
@@ -30,14 +28,14 @@ use Rattle.a64_layout.proofs.Least.{place-zero}
 use Rattle.a64_run.specs.Machine as machine
 use Rattle.a64_run.specs.Machine.{Config, Entry, Runs, machine_step}
 use Rattle.a64_run.specs.Moments.{IsProper as IsMoment}
-use Rattle.a64_run.specs.Placement.{Places, argument_words, entry_memory, frame_pointer_of, in_frame, in_slot, is_within, slot_address, start_of, visible}
+use Rattle.a64_run.specs.Placement.{Places, argument_words, entry_memory, in_frame, slot_address, start_of}
 use Rattle.a64_emit.specs.Setting.{IsSet, Setting, address_of, row}
 use Rattle.a64_emit.specs.Related.{IsRelated}
 use Rattle.a64_emit.specs.Emitted.{Begins, CarriesOut, IsCodeOfAir, first_state}
 use Rattle.a64_object.proofs.Following.{OneStep}
 use Rattle.a64_object.proofs.Stepping.{HasText, begin_of}
 use Rattle.a64_object.proofs.Items.{IsText, as_many, entry_at, setting_at, stands}
-use Rattle.a64_object.proofs.Landing.{Comes, IsAlike, IsMomentOf}
+use Rattle.a64_object.proofs.Landing.{Comes}
 use Rattle.a64_object.proofs.Blocks.{Alike, Lost, Moment, block_lost, block_over, blocks, bound, carried, number, of_at, run_first, some_words, up}
 
 -- ---- the start that agrees is in range

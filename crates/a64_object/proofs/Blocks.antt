@@ -1,32 +1,28 @@
 -- The run of the machine of an object follows the run of the procedure of Air whose code it has, block by block.
-use Rattle.std.proofs.Common.{◌≡◌, ℕ, zero, suc, ◌+◌, ◌-◌, ◌*◌, ◌/◌, ◌%◌, ◌^◌, ◌<◌, ◌≤◌, Option, Some, None, List, [], ◌∷◌, ◌++◌, length, refl, sym, ap, ◌∙◌, subst, arith, ⊎_elim}
-use Rattle.std.specs.Prelude.{All, slice_get}
+use Rattle.std.proofs.Common.{◌≡◌, ℕ, zero, suc, ◌-◌, ◌*◌, ◌<◌, ◌≤◌, Option, Some, None, List, [], ◌++◌, length, refl, sym, ap, ◌∙◌, subst, arith, ⊎_elim}
+use Rattle.std.specs.Prelude.{slice_get}
 use Rattle.std.proofs.lemmas.List.Elements.{All-get_or}
 use Rattle.std.proofs.lemmas.Bool.{cases_lt}
 use Rattle.std.proofs.lemmas.Option.{get_or_from_slice_get, slice_get_within}
 use Rattle.b3_base.specs.Observed.{Answer, MachineStart, Observation}
 use Rattle.b3_base.specs.Run.{iterate}
-use Rattle.b3_base.proofs.Run.{iterate-add, iterate-one, iterate-zero, moments_joined}
+use Rattle.b3_base.proofs.Run.{iterate-one, iterate-zero}
 use Rattle.a64_inst.specs.declared.item.Item.{Item}
 use Rattle.air_ir.specs.Blocks as air
 use Rattle.air_ir.specs.Blocks.{block_of, block_step, entered, left, run_step}
-use Rattle.air_ir.specs.Meaning.{Exit, To, Over, World, meaning}
-use Rattle.air_ir.specs.Run.{first}
+use Rattle.air_ir.specs.Meaning.{To, Over, meaning}
 use Rattle.air_ir.specs.Steps.{Outcome, Undefined, Goes, State, steps}
 use Rattle.air_ir.specs.WellFormed.{IsGoodBlock, IsWellFormed}
 use Rattle.air_ir.specs.declared.frame.Frame.{Frame}
-use Rattle.air_ir.specs.declared.procedure.AirBlock.{AirBlock}
 use Rattle.air_ir.specs.declared.procedure.AirProc.{AirProc}
 use Rattle.elf_obj.specs.declared.object.Object.{Object}
 use Rattle.elf_obj.specs.declared.object.Symbol.{Symbol}
 use Rattle.a64_layout.specs.Layout.{Set, place, position_of}
 use Rattle.a64_layout.specs.Machine.{Machine}
 use Rattle.a64_run.specs.Machine.{Config, Entry, Stops, machine_step}
-use Rattle.a64_run.specs.Machine as machine
-use Rattle.a64_run.specs.Placement.{entry_memory}
-use Rattle.a64_emit.specs.Setting.{IsSet, Setting, row}
+use Rattle.a64_emit.specs.Setting.{IsSet, Setting}
 use Rattle.a64_emit.specs.Related.{IsRelated}
-use Rattle.a64_emit.specs.Emitted.{Begins, CarriesOut, IsCodeOfAir, Leads, LeadsUnlessLost, first_state}
+use Rattle.a64_emit.specs.Emitted.{CarriesOut, IsCodeOfAir, LeadsUnlessLost}
 use Rattle.a64_object.proofs.Following.{FollowsBy, OneStep}
 use Rattle.a64_object.proofs.Stepping.{HasText}
 use Rattle.a64_object.proofs.Items.{IsText, as_many, entry_at, setting_at, stands}

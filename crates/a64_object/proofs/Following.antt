@@ -1,7 +1,7 @@
 -- A run that follows another one whose steps take words from a list, from a first step on; a fact holds of each moment, with an
 -- upper state behind which nothing is lost that isn't lost at the end.
 use Rattle.std.proofs.Common.{◌≡◌, ℕ, zero, suc, ◌+◌, ◌-◌, ◌*◌, ◌/◌, ◌<◌, ◌≤◌, List, [], ◌++◌, refl, sym, ap, ◌∙◌, subst, arith, append_assoc}
-use Rattle.b3_base.specs.Run.{Simulates, SimulatesFrom, iterate}
+use Rattle.b3_base.specs.Run.{SimulatesFrom, iterate}
 use Rattle.b3_base.proofs.Run.{iterate-add, iterate-keeps, run_simulated_from}
 
 module _ {A B : Type 0} (up : A × List ℕ → A × List ℕ) (low : B → B) (R : A → B → Type 0) (P : A → B → Type 0) (Lost : A → Type 0) (place : A → ℕ) (b c : ℕ) where

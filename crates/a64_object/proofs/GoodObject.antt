@@ -7,7 +7,7 @@ use Rattle.std.proofs.lemmas.List.{length-map}
 use Rattle.std.proofs.lemmas.List.Concat.{flat_map-cons}
 use Rattle.std.proofs.lemmas.List.Sums.{sum_by-cons}
 use Rattle.b3_ir.specs.Names.{IsName}
-use Rattle.b3_ir.specs.Procedure.{Procedure, total}
+use Rattle.b3_ir.specs.Procedure.{Procedure}
 use Rattle.b3_meaning.specs.Keeps.{Keeps}
 use Rattle.b3_meaning.proofs.Keeping.{keeps_itself}
 use Rattle.b3_rules.specs.Valid.{Header, IsValid}
@@ -20,13 +20,13 @@ use Rattle.elf_obj.specs.Good.{Fills, IsGood, names_of, sizes_of}
 use Rattle.elf_obj.specs.Size.{size_bound}
 use Rattle.elf_obj.specs.declared.object.Object.{Object}
 use Rattle.elf_obj.specs.declared.object.Symbol.{Symbol}
-use Rattle.a64_run.specs.Agrees.{Agrees, child_count}
+use Rattle.a64_run.specs.Agrees.{Agrees}
 use Rattle.a64_run.specs.CodeOf.{IsCodeOf, IsCodeOfOne}
 use Rattle.air_select.specs.Contract.{IsWithinLimits}
 use Rattle.a64_object.specs.Joined.{ArePartsOf, IsJoinedOf, IsPartOf, Part, object_of, row_in, symbol_at, symbols_from, words_in}
 use Rattle.a64_object.specs.Taken.{AreWithinLimits, IsTaken}
 use Rattle.a64_object.proofs.Agreeing.{HasCode, agrees}
-use Rattle.a64_object.proofs.Joining.{bound_is, each_stands, text_short, words_bound}
+use Rattle.a64_object.proofs.Joining.{bound_is, each_stands, text_short}
 use Rattle.a64_object.proofs.Making.{small_row, some_words, taken}
 use Rattle.a64_object.proofs.Placed.{one_in}
 

@@ -1,12 +1,11 @@
 -- Where items of emitted code lead, the machine of an object with their text is led, through proper moments.
-use Rattle.std.proofs.Common.{◌≡◌, ℕ, zero, suc, ◌+◌, ◌-◌, ◌*◌, ◌/◌, ◌%◌, ◌^◌, ◌<◌, ◌≤◌, ◌⊎◌, inl, inr, ⊎_elim, Bool, true, false, ◌&&◌, if◌then◌else◌, Option, Some, None, List, [], length, refl, sym, ap, ◌∙◌, subst, arith, get_or}
+use Rattle.std.proofs.Common.{◌≡◌, ℕ, zero, suc, ◌+◌, ◌*◌, ◌^◌, ◌<◌, ◌≤◌, ◌⊎◌, inl, inr, ⊎_elim, Bool, true, false, if◌then◌else◌, Option, Some, None, List, [], length, refl, sym, ap, ◌∙◌, subst, arith, get_or}
 use Rattle.std.specs.Prelude.{slice_get}
 use Rattle.std.proofs.lemmas.Bool.{and_parts, cases_lt}
 use Rattle.std.proofs.lemmas.Option.{slice_get_within, slice_get-get_or}
 use Rattle.b3_base.specs.Observed.{Answer, MachineStart}
 use Rattle.b3_base.specs.Run.{iterate}
 use Rattle.b3_base.proofs.Run.{iterate-add, iterate-one, iterate-suc, iterate-suc_last, iterate-zero, moments_joined}
-use Rattle.a64_inst.specs.Registers.{Stepped}
 use Rattle.a64_inst.specs.Step.{step_of}
 use Rattle.a64_inst.specs.declared.inst.Inst.{Inst}
 use Rattle.a64_inst.specs.declared.item.Item.{Item}
@@ -25,10 +24,10 @@ use Rattle.a64_layout.specs.Run as run
 use Rattle.a64_layout.specs.Run.{GoForward, GoesOn, mark_before, place_at, run_cost}
 use Rattle.a64_layout.specs.Text.{IsWellLabelled, mark_count, words_before}
 use Rattle.a64_layout.proofs.Least.{place-next, place_mono}
-use Rattle.a64_layout.proofs.Simulation.{cost_most, cost_within, item_is, run_cost-one, run_forward, run_free}
+use Rattle.a64_layout.proofs.Simulation.{cost_most, item_is, run_cost-one, run_forward}
 use Rattle.a64_layout.proofs.Words.{words_length}
 use Rattle.a64_run.specs.Agrees.{entry_of}
-use Rattle.a64_run.specs.Machine.{Config, Entry, Runs, State, machine_step}
+use Rattle.a64_run.specs.Machine.{Config, Entry, Runs, machine_step}
 use Rattle.a64_run.specs.Moments.{IsProper as IsMoment, TouchesAbove}
 use Rattle.a64_run.specs.Placement.{start_of}
 use Rattle.a64_emit.specs.Setting.{Setting, address_of, meaning_of}

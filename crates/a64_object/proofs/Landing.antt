@@ -1,5 +1,5 @@
 -- Where a block of emitted code lands, the machine of an object with its text lands: at the label of a block, or back at the caller.
-use Rattle.std.proofs.Common.{◌≡◌, ℕ, zero, suc, ◌+◌, ◌-◌, ◌*◌, ◌/◌, ◌%◌, ◌^◌, ◌<◌, ◌≤◌, ◌⊎◌, inl, inr, ⊎_elim, Bool, true, false, ◌&&◌, if◌then◌else◌, Option, Some, None, List, [], length, refl, sym, ap, ◌∙◌, subst, arith, nat_eq, eq-eqb}
+use Rattle.std.proofs.Common.{◌≡◌, ℕ, zero, suc, ◌+◌, ◌<◌, ◌≤◌, ⊎_elim, true, List, [], length, refl, sym, ap, ◌∙◌, subst, arith, nat_eq, eq-eqb}
 use Rattle.std.specs.Prelude.{slice_get}
 use Rattle.std.proofs.lemmas.Bool.{cases_lt}
 use Rattle.std.proofs.lemmas.Option.{slice_get_within}
@@ -39,7 +39,7 @@ use Rattle.a64_emit.specs.Related.{IsRelated}
 use Rattle.a64_emit.specs.Emitted.{IsCodeOfAir, IsProper, IsProperAt, IsSafe, IsSafeItem, Leads, Returns}
 use Rattle.a64_object.proofs.TextWords.{plain_at}
 use Rattle.a64_object.proofs.Stepping.{HasText, state_of, word_executes, word_proper}
-use Rattle.a64_object.proofs.Items.{IsText, Ran, an_item, as_many, entry_at, item_runs, items_run, nothing, ran_both, ran_count, ran_more, ran_none, run_cost-none, same_place, setting_at, stands, words_for}
+use Rattle.a64_object.proofs.Items.{IsText, Ran, an_item, as_many, entry_at, item_runs, items_run, ran_both, ran_count, ran_more, ran_none, run_cost-none, same_place, setting_at, stands, words_for}
 
 -- ---- coming back to the caller
 keeps_all : (e : Entry) (r : Registers) (n : ℕ) → n ≤ 11 → ((k : ℕ) → 19 ≤ k → k ≤ 29 → r.x k ≡ e.start.registers k) → keeps_registers e r n ≡ true

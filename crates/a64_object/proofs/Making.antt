@@ -1,6 +1,6 @@
 -- What the passes of a procedure that is taken may ask, and what is known of its words and its frame.
-use Rattle.std.proofs.Common.{◌≡◌, ℕ, zero, suc, ◌+◌, ◌*◌, ◌^◌, ◌<◌, ◌≤◌, Bool, true, false, not, List, [], ◌∷◌, ◌++◌, Some, length, refl, sym, ap, ◌∙◌, subst, arith, take, take-suc}
-use Rattle.std.specs.Prelude.{All, get_or, map, slice_get, sum_by}
+use Rattle.std.proofs.Common.{◌≡◌, ℕ, zero, suc, ◌+◌, ◌*◌, ◌^◌, ◌<◌, ◌≤◌, true, not, List, [], ◌∷◌, ◌++◌, Some, length, refl, sym, ap, ◌∙◌, subst, arith, take, take-suc}
+use Rattle.std.specs.Prelude.{All, map, slice_get}
 use Rattle.std.specs.List.{filter, flat_map}
 use Rattle.std.proofs.lemmas.List.{length-map}
 use Rattle.std.proofs.lemmas.List.Elements.{All-cons, All-nil}
@@ -24,7 +24,7 @@ use Rattle.air_ir.specs.Weight.{weight}
 use Rattle.air_frame.specs.Frames.{HaveRoom, row_of, slot_bytes, slot_rows}
 use Rattle.air_frame.specs.Needs.{callee_saved, spill_count, writes}
 use Rattle.a64_run.specs.Agrees.{child_count}
-use Rattle.air_select.specs.Contract.{IsBuilt, IsWithinLimits, is_built, procedure_at}
+use Rattle.air_select.specs.Contract.{IsWithinLimits, is_built, procedure_at}
 use Rattle.a64_object.specs.Made.{IsMadeOf, IsPlacedOf}
 use Rattle.a64_object.specs.Taken.{IsTaken}
 use Rattle.a64_object.proofs.Agreeing.{rows_length, ten_saved, text_of}

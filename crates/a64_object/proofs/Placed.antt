@@ -1,6 +1,6 @@
 -- A procedure that is selected and rewritten is placed.
-use Rattle.std.proofs.Common.{◌≡◌, ℕ, zero, suc, ◌+◌, ◌*◌, ◌^◌, ◌<◌, ◌≤◌, true, List, [], ◌∷◌, Some, length, refl, sym, ap, ◌∙◌, subst, arith}
-use Rattle.std.specs.Prelude.{All, get_or, map, slice_get}
+use Rattle.std.proofs.Common.{◌≡◌, ℕ, suc, ◌+◌, ◌*◌, ◌≤◌, true, List, [], ◌∷◌, Some, length, refl, sym, ap, ◌∙◌, subst, arith}
+use Rattle.std.specs.Prelude.{All, map, slice_get}
 use Rattle.std.proofs.lemmas.List.{length-map}
 use Rattle.std.proofs.lemmas.List.Elements.{All-cons, All-get_or, All-nil, All-weaker}
 use Rattle.std.proofs.lemmas.Option.{get_or_from_slice_get, slice_get_within}
@@ -10,7 +10,7 @@ use Rattle.b3_ir.specs.declared.procedure.SlotLine.{SlotLine}
 use Rattle.stackmap.specs.declared.site.Returns.TheVariants.{W32, W64}
 use Rattle.air_ir.specs.Run.{BlocksThrough, HasBlocksOf, HasSameBlocks}
 use Rattle.air_ir.specs.Weight.{weight}
-use Rattle.air_ir.specs.WellFormed.{IsSpillBelow, IsWellFormed, NamesSpillsBelow, SpillsBelow, StandsAt}
+use Rattle.air_ir.specs.WellFormed.{IsSpillBelow, IsWellFormed, NamesSpillsBelow, SpillsBelow}
 use Rattle.air_ir.specs.declared.assignment.Assignment.{Assignment}
 use Rattle.air_ir.specs.declared.operand.Arg.{Arg}
 use Rattle.air_ir.specs.declared.operand.Arg.TheVariants.{At, Addr, Index}

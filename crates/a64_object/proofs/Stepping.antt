@@ -1,23 +1,21 @@
 -- The machine at a word of a text in an object takes the step that the word's instruction takes among its text's words.
-use Rattle.std.proofs.Common.{◌≡◌, ℕ, zero, suc, ◌+◌, ◌-◌, ◌*◌, ◌/◌, ◌%◌, ◌^◌, ◌<◌, ◌≤◌, min, Bool, true, false, ◌&&◌, not, if◌then◌else◌, Option, Some, None, List, [], length, refl, sym, ap, ◌∙◌, subst, arith, nat_eq, nat_le, nat_lt, le-leb}
+use Rattle.std.proofs.Common.{◌≡◌, ℕ, zero, suc, ◌+◌, ◌-◌, ◌*◌, ◌/◌, ◌%◌, ◌^◌, ◌<◌, ◌≤◌, Bool, true, false, ◌&&◌, not, if◌then◌else◌, Option, Some, None, List, [], length, refl, sym, ap, ◌∙◌, arith, nat_eq, nat_le, le-leb}
 use Rattle.std.specs.Prelude.{is_some, slice_get}
 use Rattle.std.proofs.lemmas.Bool.Decides.{nat_tests}
 use Rattle.std.proofs.lemmas.Option.{slice_get_within}
-use Rattle.std.specs.List.{position_or_len}
 use Rattle.b3_base.specs.Memory.{byte_address}
-use Rattle.b3_base.specs.Observed.{Answer, MachineStart, Memory}
+use Rattle.b3_base.specs.Observed.{Answer, Memory}
 use Rattle.a64_inst.specs.Registers.{Registers, Stepped}
 use Rattle.a64_inst.specs.Step.{step_of}
 use Rattle.a64_inst.specs.StepBranch.{branch, branch_bit, branch_if, branch_zero}
 use Rattle.a64_inst.specs.declared.inst.Inst.{Inst}
 use Rattle.a64_inst.specs.declared.inst.Inst.TheVariants.{Branch, BranchIf, BranchZero, BranchBit}
-use Rattle.a64_inst.specs.declared.state.Outcome.{Outcome}
 use Rattle.a64_inst.specs.declared.state.Outcome.TheVariants.{Next}
 use Rattle.a64_word.specs.Decode.{decode}
 use Rattle.a64_word.specs.Word.{word}
 use Rattle.a64_layout.specs.Machine as layout
 use Rattle.a64_layout.specs.Machine.{Machine, machine_of, moved_to, place_of}
-use Rattle.a64_run.specs.Machine.{Config, Entry, Runs, State, execute, has_returned, is_empty_byte, is_ret, machine_step, touched, touches_empty, touches_empty_at}
+use Rattle.a64_run.specs.Machine.{Entry, Runs, State, execute, has_returned, is_empty_byte, is_ret, machine_step, touched, touches_empty, touches_empty_at}
 use Rattle.a64_run.specs.Moments.{IsProperState, TouchesAbove}
 use Rattle.a64_run.specs.Placement.{in_frame, in_text, is_within}
 use Rattle.a64_run.proofs.Steps.{is_proper, step_executes, word_at-word}

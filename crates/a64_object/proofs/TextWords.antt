@@ -1,5 +1,5 @@
 -- The words of a text, one by one: each is the word of an instruction of the items, or of a branch.
-use Rattle.std.proofs.Common.{◌≡◌, ℕ, zero, suc, ◌+◌, ◌^◌, ◌<◌, ◌≤◌, ◌⊎◌, inl, inr, pos, Bool, true, false, if◌then◌else◌, Option, Some, None, List, length, refl, sym, ap, ◌∙◌, arith}
+use Rattle.std.proofs.Common.{◌≡◌, ℕ, zero, suc, ◌+◌, ◌^◌, ◌<◌, ◌≤◌, ◌⊎◌, inl, inr, pos, Bool, true, false, if◌then◌else◌, Option, Some, None, List, length, refl, ap, ◌∙◌, arith}
 use Rattle.std.specs.Prelude.{slice_get}
 use Rattle.std.proofs.lemmas.Int.{ints}
 use Rattle.std.proofs.lemmas.Option.{slice_get_within}
@@ -11,7 +11,7 @@ use Rattle.a64_inst.specs.declared.item.Item.TheVariants.{Plain, Jump, If, IfZer
 use Rattle.a64_word.specs.Decode.{decode}
 use Rattle.a64_word.specs.Word.{word}
 use Rattle.a64_word.proofs.Inverse.{decode-word}
-use Rattle.a64_layout.specs.Branch.{IsTest, branch_by, branch_in, branch_of, opposite, reach, size_in}
+use Rattle.a64_layout.specs.Branch.{IsTest, branch_by, branch_in, opposite, reach, size_in}
 use Rattle.a64_layout.specs.Layout.{Fits, IsEnough, IsIf, Set, label_place, place}
 use Rattle.a64_layout.specs.Text.{IsWellLabelled, distance, if_words, words_before, words_of}
 use Rattle.a64_layout.specs.declared.branch.Test.{Test}

@@ -1,5 +1,5 @@
 -- The procedures that are taken: those whose opcodes are selected, without slots, within the limits.
-use Rattle.std.specs.Prelude.{◌≡◌, ℕ, ◌≤◌, List, [], All, sum_by}
+use Rattle.std.specs.Prelude.{◌≡◌, ◌≤◌, List, [], All, sum_by}
 use Rattle.b3_ir.specs.Procedure.{Procedure, total}
 use Rattle.a64_run.specs.Agrees.{child_count}
 use Rattle.air_select.specs.Contract.{IsBuilt, IsWithinLimits}

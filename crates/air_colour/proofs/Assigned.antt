@@ -1,6 +1,6 @@
 -- The assignment of a colouring.
-use Rattle.std.proofs.Common.{◌≡◌, ℕ, ◌+◌, ◌-◌, ◌<◌, ◌≤◌, ◌⊎◌, ◌↔◌, inl, inr, Bool, true, false, cond, ltb, Option, Some, None, List, length, map, take, get_or, arith, refl, sym, ap, ◌∙◌, subst}
-use Rattle.std.specs.Prelude.{All, IfSome, slice_get, leb}
+use Rattle.std.proofs.Common.{◌≡◌, ℕ, ◌+◌, ◌-◌, ◌<◌, inl, inr, true, Option, Some, None, List, length, map, take, get_or, arith, refl, sym, ap, ◌∙◌, subst}
+use Rattle.std.specs.Prelude.{All, IfSome, slice_get}
 use Rattle.std.proofs.lemmas.Bool.{cases_lt, false≢true, le-leb, le-ltb, lt-ltb}
 use Rattle.std.proofs.lemmas.List.{get_or_default, get_or-map, get_or-take, get_or_past, length-map, length-take-le}
 use Rattle.std.proofs.lemmas.Option.{get_or_from_slice_get, slice_get-get_or, slice_get_within}
@@ -14,13 +14,12 @@ use Rattle.air_flow.specs.Interfere.{Interfere}
 use Rattle.air_flow.specs.Proper.{IsProper, register_of}
 use Rattle.air_graph.specs.Edges.{has_edge}
 use Rattle.air_graph.specs.Graph.{IsInterferenceOf}
-use Rattle.air_graph.specs.Homes.{above, edge_between, home_at, number_of, place_of, register_at}
+use Rattle.air_graph.specs.Homes.{above, edge_between, number_of, place_of, register_at}
 use Rattle.air_graph.specs.declared.interference.Interference.{Interference}
-use Rattle.air_graph.proofs.Numbers.{home_high, home_low, number_back, numbered, register_high, register_low, some_is}
+use Rattle.air_graph.proofs.Numbers.{home_high, home_low, numbered, register_high, register_low, some_is}
 use Rattle.air_colour.specs.Assigned.{IsBarred, IsColouringOf, as_register, class_of, graph_in, colours, moves_in, stands_in}
 use Rattle.air_colour.specs.Classes.{classes_left, Joined}
 use Rattle.air_colour.specs.Colouring.{IsBarredFrom, IsColouring}
-use Rattle.air_colour.specs.Easy.{Easy}
 use Rattle.air_colour.specs.Homes.{register_of as rank_of}
 use Rattle.air_colour.specs.Interference.{IsIn}
 use Rattle.air_colour.specs.Kept.{given_in}

@@ -1,5 +1,5 @@
 -- Edges one after the other, as two classes are joined.
-use Rattle.std.proofs.Common.{◌≡◌, ℕ, ◌+◌, ◌<◌, ◌⊎◌, inl, inr, ◌↔◌, true, List, [], get_or, length, take, arith, sym, ◌∙◌, subst}
+use Rattle.std.proofs.Common.{◌≡◌, ℕ, ◌+◌, ◌<◌, ◌⊎◌, inl, inr, ◌↔◌, true, List, get_or, length, take, arith}
 use Rattle.std.specs.Prelude.{Contains}
 use Rattle.air_graph.specs.Edges.{ArePair, EdgeSet}
 use Rattle.air_graph.proofs.Adding.{contains_more}

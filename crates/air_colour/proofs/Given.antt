@@ -1,8 +1,7 @@
 -- An interference graph has the edges that colouring asks for.
-use Rattle.std.proofs.Common.{◌≡◌, ℕ, ◌+◌, ◌-◌, ◌<◌, ◌≤◌, inl, inr, Bool, true, false, cond, ltb, arith, refl, sym, ap, ◌∙◌, subst}
-use Rattle.std.specs.Prelude.{leb}
+use Rattle.std.proofs.Common.{◌≡◌, ℕ, ◌+◌, ◌-◌, ◌<◌, inl, inr, true, false, arith, refl, sym, ap, ◌∙◌, subst}
 use Rattle.std.specs.FinSet as set
-use Rattle.std.proofs.lemmas.Bool.{cases_lt, false≢true, leb-true, le-ltb, lt-ltb}
+use Rattle.std.proofs.lemmas.Bool.{cases_lt, leb-true, le-ltb, lt-ltb}
 use Rattle.air_graph.specs.Edges.{EdgeSet, has_edge, pair_number}
 use Rattle.air_colour.specs.Homes.{home_graph}
 use Rattle.air_colour.specs.Interference.{IsInterference}

@@ -1,22 +1,22 @@
 -- Degrees and the list of classes that can go, as a class is taken away.
-use Rattle.std.proofs.Common.{◌≡◌, ℕ, zero, suc, ◌+◌, ◌-◌, ◌<◌, ◌≤◌, ◌⊎◌, inl, inr, Bool, true, false, not, ◌&&◌, ◌||◌, eqb, Some, List, [], ◌∷◌, ◌++◌, length, get_or, take, arith, refl, sym, ap, ◌∙◌, subst, length-set}
+use Rattle.std.proofs.Common.{◌≡◌, ℕ, zero, suc, ◌+◌, ◌-◌, ◌<◌, ◌≤◌, ◌⊎◌, inl, inr, Bool, true, false, not, ◌&&◌, eqb, Some, List, [], ◌∷◌, ◌++◌, length, get_or, take, arith, refl, sym, ap, ◌∙◌, subst, length-set}
 use Rattle.std.specs.Prelude.{Contains, slice_set, slice_index_or}
 use Rattle.std.proofs.Math.Seq.{take-length}
-use Rattle.std.proofs.lemmas.Bool.{cases_eq, cases_lt, eq-eqb, false≢true, ne_eqb, or_cases, or_left, or_right}
+use Rattle.std.proofs.lemmas.Bool.{cases_eq, cases_lt, false≢true}
 use Rattle.std.proofs.lemmas.List.{get_or-set_other, get_or-set_same, take_more}
 use Rattle.std.proofs.lemmas.List.Elements.{Contains-append_left, Contains-get_or, Contains-push, Contains-push_cases}
-use Rattle.air_graph.specs.Edges.{EdgeSet, IsListOf, IsOnce, has_edge}
+use Rattle.air_graph.specs.Edges.{EdgeSet, IsOnce}
 use Rattle.air_graph.specs.Walk.{in_list}
 use Rattle.air_graph.proofs.Adding.{contains_more, listed}
 use Rattle.air_graph.proofs.Beside.{edge_back}
 use Rattle.air_graph.proofs.Numbers.{In, from_in, to_in}
-use Rattle.air_colour.specs.Easy.{CanGo, IsEmptied, IsStuck}
+use Rattle.air_colour.specs.Easy.{IsEmptied}
 use Rattle.air_colour.specs.Choosing.{IsNext}
-use Rattle.air_colour.specs.Interference.{Graph, IsIn, count, one}
+use Rattle.air_colour.specs.Interference.{Graph, count, one}
 use Rattle.air_colour.specs.Kept.{graph_of, has, neighbours_left}
 use Rattle.air_colour.specs.Worklist.{AreDegrees, AreLow, HasLow, IsLow, IsPassed, degree_in}
-use Rattle.air_colour.proofs.Counting.{but, but_gone, but_same, count_same, count_without}
-use Rattle.air_colour.proofs.KeptGraph.{is_left, left_taken}
+use Rattle.air_colour.proofs.Counting.{but, count_same, count_without}
+use Rattle.air_colour.proofs.KeptGraph.{left_taken}
 use Rattle.air_colour.proofs.Listed.{absent_false}
 use Rattle.air_colour.proofs.Merging.{same_tests}
 

@@ -1,10 +1,9 @@
 -- What colouring promises of the registers that it gives.
-use Rattle.std.specs.Prelude.{◌≡◌, ℕ, ◌+◌, ◌<◌, Option, Some, None, true, List, length, map, slice_get}
+use Rattle.std.specs.Prelude.{◌≡◌, ℕ, ◌+◌, ◌<◌, Option, Some, None, true, length, map, slice_get}
 use Rattle.b3_ir.specs.declared.value.Reg.{Reg as Register}
 use Rattle.stackmap.specs.Rules.{IsAllocatable}
 use Rattle.air_ir.specs.declared.assignment.Assignment.{Assignment}
 use Rattle.air_ir.specs.declared.operand.Home.{Home}
-use Rattle.air_ir.specs.declared.operand.Home.TheVariants.{Tmp, Reg}
 use Rattle.air_flow.specs.Proper.{register_of}
 use Rattle.air_graph.specs.Edges.{has_edge}
 use Rattle.air_graph.specs.Homes.{edge_between, home_at, number_of, register_at}

@@ -1,5 +1,5 @@
 -- The homes that are coloured: temporaries and after them registers.
-use Rattle.std.specs.Prelude.{◌≡◌, ℕ, ◌+◌, ◌-◌, ◌<◌, ◌≤◌, Bool, true, false, leb, Option, None, List, length, slice_index_or}
+use Rattle.std.specs.Prelude.{◌≡◌, ℕ, ◌+◌, ◌-◌, ◌<◌, Bool, true, false, leb, Option, None, List, length, slice_index_or}
 use Rattle.air_graph.specs.Edges.{EdgeSet}
 use Rattle.air_colour.specs.Interference.{Graph}
 use Rattle.air_colour.specs.Kept.{has, given_in}

@@ -1,6 +1,6 @@
 -- No public clause cites this module. What is kept of a graph: its edges, and two lists that say which classes are left
 -- and which hold a register.
-use Rattle.std.specs.Prelude.{◌≡◌, ℕ, ◌<◌, ◌≤◌, Bool, true, false, Option, Some, None, ◌&&◌, ◌↔◌, ◌⊎◌, Contains, List, length, slice_index_or}
+use Rattle.std.specs.Prelude.{◌≡◌, ℕ, ◌<◌, Bool, true, false, Option, Some, None, ◌&&◌, ◌↔◌, ◌⊎◌, Contains, List, length, slice_index_or}
 use Rattle.air_graph.specs.Edges.{EdgeSet, has_edge}
 use Rattle.air_colour.specs.Interference.{Graph, IsIn, count}
 use Rattle.air_colour.specs.Joining.{is_significant}

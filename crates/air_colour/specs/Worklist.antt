@@ -1,5 +1,5 @@
 -- No public clause cites this module. Degrees and the list of classes that can go, while classes are taken away.
-use Rattle.std.specs.Prelude.{◌≡◌, ℕ, ◌+◌, ◌<◌, ◌≤◌, Bool, true, false, List, length, slice_index_or, Contains}
+use Rattle.std.specs.Prelude.{◌≡◌, ℕ, ◌<◌, Bool, true, false, List, length, slice_index_or, Contains}
 use Rattle.air_graph.specs.Edges.{EdgeSet}
 use Rattle.air_colour.specs.Kept.{neighbours_left}
 

@@ -1,9 +1,8 @@
-use Rattle.std.proofs.Common.{◌≡◌, ◌^◌, ◌<◌, ◌≤◌, arith, subst}
+use Rattle.std.proofs.Common.{◌^◌, ◌<◌, ◌≤◌, arith, subst}
 use Rattle.b3_rules.specs.Valid.{IsValid}
 use Rattle.std.specs.Prelude.{All}
 use Rattle.std.specs.Result.{IfOk}
 use Rattle.std.proofs.lemmas.Result.{IfOk-weaker}
-use Rattle.elf_obj.specs.declared.object.Object.{Object}
 use Rattle.elf_obj.specs.Size.{size_bound}
 use Rattle.a64_run.specs.CodeOf.{IsCodeOf}
 use Rattle.b3_ir.specs.Procedure.{procedures}

@@ -1,4 +1,4 @@
-use Rattle.std.proofs.Common.{◌≡◌, ◌∙◌, refl, arith}
+use Rattle.std.proofs.Common.{◌∙◌, refl}
 use Rattle.air_select.specs.Contract.{procedure_at}
 use Rattle.a64_object.proofs.Making.{room_asked, row_is_so, short_asked, slots_asked}
 use Rattle.a64_object.proofs.procedure.procedure_text.Goals as goal

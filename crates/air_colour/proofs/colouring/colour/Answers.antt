@@ -1,10 +1,8 @@
 use Rattle.std.proofs.Common.{◌≡◌, ℕ, Option, List, map, take, ◌++◌, refl, sym, ap, ◌∙◌, subst}
 use Rattle.std.specs.Prelude.{All, IfSome, ◌<◌}
-use Rattle.b3_ir.specs.declared.value.Reg.{Reg as Register}
-use Rattle.air_ir.specs.declared.assignment.Assignment.{Assignment}
 use Rattle.air_graph.specs.declared.interference.Interference.{Interference}
 use Rattle.air_graph.specs.declared.moves.Copied.{Copied}
-use Rattle.air_colour.specs.Assigned.{IsColouringOf, as_register, colours, graph_in, move_of}
+use Rattle.air_colour.specs.Assigned.{as_register, colours, graph_in, move_of}
 use Rattle.air_colour.specs.Colouring.{IsColouring}
 use Rattle.air_colour.specs.Homes.{register_of}
 use Rattle.air_colour.specs.Kept.{given_in}

@@ -1,7 +1,6 @@
-use Rattle.std.proofs.Common.{◌≡◌, ℕ, ◌+◌, ◌-◌, ◌<◌, ◌&&◌, false, length, arith}
+use Rattle.std.proofs.Common.{◌-◌, false, length, arith}
 use Rattle.std.specs.Prelude.{slice_index_or}
 use Rattle.std.proofs.lemmas.Bool.{false≢true, lt-ltb, ltb-true}
-use Rattle.air_colour.specs.Interference.{count}
 use Rattle.air_colour.specs.Joining.{is_significant}
 use Rattle.air_colour.specs.Kept.{graph_of, has}
 use Rattle.air_colour.proofs.Listed.{split_count}

@@ -1,6 +1,6 @@
-use Rattle.std.proofs.Common.{◌≡◌, ◌≤◌, ◌&&◌, not, take}
+use Rattle.std.proofs.Common.{◌≡◌, ◌≤◌, take}
 use Rattle.std.specs.Prelude.{count_by}
-use Rattle.air_colour.specs.Kept.{has, significant_left}
+use Rattle.air_colour.specs.Kept.{significant_left}
 use Rattle.air_colour.proofs.joining.significant_near.Given as goal
 
 abbrev pub invariant-loop-x : goal.invariant-loop-x

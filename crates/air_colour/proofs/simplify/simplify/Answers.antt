@@ -1,4 +1,4 @@
-use Rattle.std.proofs.Common.{◌≡◌, ℕ, ◌+◌, ◌<◌, ◌≤◌, ◌⊎◌, length, List, [], ◌∷◌, ◌++◌, sym, ◌∙◌, subst, ap, arith, append_assoc, append-nil, drop, length-set, take, take_at}
+use Rattle.std.proofs.Common.{◌≡◌, ℕ, ◌<◌, ◌≤◌, ◌⊎◌, length, List, [], ◌∷◌, ◌++◌, sym, ◌∙◌, subst, ap, arith, append_assoc, append-nil, drop, length-set, take, take_at}
 use Rattle.std.specs.Prelude.{Contains, false, slice_set}
 use Rattle.air_colour.specs.Interference.{Graph, take_away}
 use Rattle.air_colour.specs.Choosing.{IsNext, Simplifies}

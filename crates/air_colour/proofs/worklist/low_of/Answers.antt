@@ -1,8 +1,8 @@
-use Rattle.std.proofs.Common.{◌≡◌, ℕ, ◌+◌, ◌<◌, false, length, inl, inr, List, [], ◌∷◌, ◌++◌, slice_index_or, arith, sym, ap, ◌∙◌, subst}
+use Rattle.std.proofs.Common.{◌≡◌, ℕ, length, inl, inr, List, [], ◌∷◌, ◌++◌, arith, sym, ap, ◌∙◌, subst}
 use Rattle.std.specs.Prelude.{Contains}
 use Rattle.std.proofs.lemmas.Bool.{cases_lt, false≢true}
 use Rattle.std.proofs.lemmas.List.Elements.{Contains-append_left, Contains-push, Contains-push_cases}
-use Rattle.air_colour.specs.Worklist.{IsLow, degree_in}
+use Rattle.air_colour.specs.Worklist.{IsLow}
 use Rattle.air_colour.proofs.worklist.low_of.Goals as goal
 use Rattle.air_colour.proofs.worklist.low_of.Goals.{then-is_low+in_ok-push, else-is_low}
 

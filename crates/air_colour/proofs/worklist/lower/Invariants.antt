@@ -1,4 +1,4 @@
-use Rattle.std.proofs.Common.{◌≡◌, ℕ, ◌+◌, ◌<◌, ◌≤◌, ◌⊎◌, length, take}
+use Rattle.std.proofs.Common.{◌≡◌, ℕ, ◌+◌, ◌≤◌, ◌⊎◌, length, take}
 use Rattle.std.specs.Prelude.{Contains}
 use Rattle.air_graph.specs.Walk.{in_list}
 use Rattle.air_colour.specs.Interference.{one}
