@@ -5,7 +5,7 @@ use Rattle.std.specs.List.{flat_map}
 use Rattle.std.proofs.lemmas.Bool.{cases_lt}
 use Rattle.std.proofs.lemmas.List.Concat.{flat_map-cons}
 use Rattle.std.proofs.lemmas.List.Sums.{sum_by-append, sum_by-cons}
-use Rattle.b3_ir.specs.Procedure.{Block, Procedure, total}
+use Rattle.b3_ir.specs.Procedure.{Block, Kept, Procedure, procedures, total}
 use Rattle.b3_ir.specs.declared.value.Body.{Body}
 use Rattle.b3_ir.specs.declared.value.Body.TheVariants.{Cases}
 use Rattle.b3_ir.specs.declared.value.Value.{Value}
@@ -13,9 +13,12 @@ use Rattle.b3_module.specs.Limits.{Computed, Header, Heading, KeepsLimits, Place
 use Rattle.b3_module.specs.declared.fault.LimitName.{LimitName}
 use Rattle.b3_module.specs.declared.fault.LimitName.TheVariants as limits
 use Rattle.a64_run.specs.Agrees.{case_count, child_count}
-use Rattle.air_select.specs.Contract.{IsWithinLimits}
-use Rattle.a64_object.specs.Taken.{AreWithinLimits}
-use Rattle.a64_object.proofs.Placed.{all_of}
+use Rattle.b3_supported.specs.Supported.{AreSupported}
+use Rattle.air_select.specs.Contract.{IsWithinLimits, procedure_at}
+use Rattle.a64_object.specs.Taken.{AreWithinLimits, IsTaken}
+use Rattle.a64_object.proofs.GoodObject.{all_taken}
+use Rattle.a64_object.proofs.Making.{procedure_there}
+use Rattle.a64_object.proofs.Placed.{all_of, one_in}
 
 -- ---- sums over all lines
 abbrev line_of : Placed → ℕ
@@ -140,3 +143,8 @@ module _ (ps : List Procedure) (keeps : KeepsLimits ps) where
           omega arith;
     });
   }
+
+-- so each of them may go through the passes, if all are supported
+pub taken_there : (m : List Kept) (at : ℕ) → at < length m → AreSupported (procedures m) → KeepsLimits (procedures m) → IsTaken (procedure_at m at)
+taken_there m at lt supported keeps =
+    one_in IsTaken (procedures m) at (procedure_at m at) (procedure_there m at lt) (all_taken (procedures m) supported (within_limits (procedures m) keeps))

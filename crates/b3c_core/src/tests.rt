@@ -2,6 +2,7 @@
 
 mod commands;
 mod objects;
+mod passes;
 mod streams;
 mod trials;
 
