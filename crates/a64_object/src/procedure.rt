@@ -1,6 +1,12 @@
 //! The passes of one procedure, one after the other.
 
-ghost use Rattle.std.specs.Prelude.{◌≡◌, ◌<◌, [], length, IfOk};
+ghost use Rattle.std.specs.Prelude.{◌≡◌, ◌^◌, ◌<◌, ◌≤◌, [], length, IfOk};
+ghost use Rattle.air_ir.specs.Weight.{weight};
+ghost use Rattle.air_ir.specs.WellFormed.{IsWellFormed};
+ghost use Rattle.air_flow.specs.Proper.{IsProper};
+ghost use Rattle.air_graph.specs.Graph.{IsInterferenceOf};
+ghost use Rattle.air_graph.specs.declared.interference.Interference.{Interference};
+ghost use Rattle.air_colour.specs.Assigned.{IsColouringOf};
 ghost use Rattle.air_frame.specs.Frames.{row_of};
 ghost use Rattle.air_select.specs.Contract.{procedure_at};
 ghost use Rattle.a64_object.specs.Made.{IsMadeOf, IsPlacedOf};
@@ -8,14 +14,17 @@ ghost use Rattle.a64_object.specs.Taken.{IsTaken};
 
 use a64_emit::emit;
 use a64_layout::resolve;
-use air_flow::proper_assignments;
+use air_colour::colour;
+use air_flow::{AirFlow, kept_homes};
 use air_frame::{layout, spill_counts};
+use air_graph::graph;
 use air_ir::{AirProc, Assignment, Frame, same_blocks_laws};
 use air_select::select;
 use air_spill::rewrite;
 use b3_base::{CodeWords, NoMemory};
 use b3_validate::Valid;
 use exit_table::FrameRow;
+use flow_live::live;
 use stackmap::{Returns, SlotRows};
 use std::alloc::Global;
 
@@ -26,18 +35,33 @@ pub struct ProcedureText {
     pub row: FrameRow,
 }
 
-/// A procedure of a valid module, by its place, in registers and spill places: it is selected, and each temporary is
-/// spilled. It is refused for want of memory alone.
+/// Registers for the temporaries of a procedure, by colouring its interference graph. It is refused for want of memory
+/// alone.
+pub fn coloured(alloc: Global, p: &AirProc) -> Result<Assignment, NoMemory>
+    requires well { IsWellFormed p.now }
+    requires tmps { p.now.tmps ≤ 65536 }
+    requires blocks { length p.now.blocks ≤ 4097 }
+    requires light { weight p.now ≤ 2 ^ 32 }
+    ensures proper { IfOk result (IsProper p.now) }
+    ensures coloured { IfOk result (λ a. (g : Interference) × IsInterferenceOf p.now g × IsColouringOf g a) }
+{
+    kept_homes();
+    let flow = AirFlow::new(alloc, p)?;
+    let live = live(alloc, &flow)?;
+    colour(alloc, graph(alloc, p, &live)?)
+}
+
+/// A procedure of a valid module, by its place, in registers and spill places: it is selected, and its temporaries are
+/// coloured. It is refused for want of memory alone.
 pub fn placed_procedure(alloc: Global, valid: &Valid, proc: usize) -> Result<AirProc, NoMemory>
     requires there { proc < length valid.now }
     requires taken { IsTaken (procedure_at valid.now proc) }
     ensures placed { IfOk result (IsPlacedOf (procedure_at valid.now proc)) }
 {
     same_blocks_laws();
-    proper_assignments();
     spill_counts();
     let selected = select(alloc, valid, proc)?;
-    let assignment = Assignment::new(alloc, selected.tmps)?;
+    let assignment = coloured(alloc, &selected)?;
     let placed = rewrite(alloc, selected, &assignment)?;
     Ok(placed)
 }

@@ -1,15 +1,16 @@
 -- The made module is valid, within the limits and supported, and the generated text spells it.
-use Rattle.std.proofs.Common.{◌≡◌, ℕ, zero, suc, ◌+◌, ◌<◌, ◌≤◌, List, [], ◌∷◌, ◌++◌, Some, length, refl, sym, ap, ◌∙◌, subst, arith}
-use Rattle.std.specs.Prelude.{All, codes, slice_get, slice_index_or}
+use Rattle.std.proofs.Common.{◌≡◌, ℕ, zero, suc, ◌+◌, ◌*◌, ◌<◌, ◌≤◌, List, [], ◌∷◌, ◌++◌, Some, length, refl, sym, ap, ◌∙◌, subst, arith}
+use Rattle.std.specs.Prelude.{All, codes, slice_get, slice_index_or, sum_by}
 use Rattle.std.specs.Fmt.{decimal}
 use Rattle.std.specs.List.{AllByRecursion}
 use Rattle.std.proofs.Math.ListN.{length-append}
 use Rattle.std.proofs.lemmas.List.Elements.{All-cons, All-nil}
+use Rattle.std.proofs.lemmas.List.Sums.{sum_by-cons}
 use Rattle.std.proofs.lemmas.Option.{slice_get-get_or}
 use Rattle.b3_ir.specs.Fits.{Fits}
 use Rattle.b3_ir.specs.Names.{IsName}
 use Rattle.b3_ir.specs.Naming.{all_values}
-use Rattle.b3_ir.specs.Procedure.{AllFit, Block, Procedure}
+use Rattle.b3_ir.specs.Procedure.{AllFit, Block, Procedure, total}
 use Rattle.b3_ir.specs.declared.opcode.Opcode.{Opcode}
 use Rattle.b3_ir.specs.declared.opcode.Ty.TheVariants.{Int64}
 use Rattle.b3_ir.specs.declared.value.Body.TheVariants.{Plain}
@@ -94,6 +95,7 @@ record IsGood (k : ℕ) (p : Procedure) : Type 0 where
   pub fit : AllFit p.blocks
   pub forms : HasForms p
   pub parts : HasParts p
+  pub values : total p ≡ 517
 
 entry_count : (word : ℕ) → length (entry word) ≡ 12
 entry_count word =
@@ -127,6 +129,14 @@ module _ (name : List ℕ) (line la lb lc : ℕ) (first second third : List Valu
         count = omega (arith, three_count (block_on 0 la first) (block_on 1 lb second) (block_on 2 lc third), is.first_count, is.second_count, is.third_count);
       }
 
+  made_total : total p ≡ 517
+  made_total =
+      let count : Block → ℕ = λ b. length b.values in
+      let a = sum_by-cons count (block_on 0 la first) (block_on 1 lb second ∷ block_on 2 lc third ∷ []) in
+      let b = sum_by-cons count (block_on 1 lb second) (block_on 2 lc third ∷ []) in
+      let c = sum_by-cons count (block_on 2 lc third) [] in
+      omega (arith, a, b, c, is.first_count, is.second_count, is.third_count)
+
 one_good : (line state k : ℕ) → IsGood k (lined_procedure line (procedure_of state k))
 one_good line state k =
     let a : Block = block_of 0 (entry (drawn state)) in
@@ -152,6 +162,7 @@ one_good line state k =
       fit = made_fit name line la lb lc first second third is;
       forms = made_forms name line la lb lc first second third is;
       parts = made_parts name line la lb lc first second third is;
+      values = made_total name line la lb lc first second third is;
     }
 
 -- ---- the module
@@ -182,6 +193,11 @@ unfolding procedures_from
 procedures_listed zero state k few = tt
 procedures_listed (suc count) state k few =
     (procedure_listed state k (name_good k (omega arith)), procedures_listed count (state_behind 1501 state) (k + 1) (omega arith))
+
+total_of : (ps : List Procedure) → ((k : ℕ) (p : Procedure) → slice_get ps k ≡ Some p → total p ≡ 517) → sum_by total ps ≡ 517 * length ps
+total_of [] each = omega arith
+total_of (p ∷ ps) each =
+    omega (arith, sum_by-cons total p ps, each 0 p refl, total_of ps (λ k q there. each (suc k) q there))
 
 module _ (n : ℕ) where
   abbrev ps : List Procedure
@@ -225,4 +241,6 @@ module _ (n : ℕ) where
     within = keeps_limits ps (omega (arith, as_many)) (λ k p there. (good k p there).1.parts);
     valid = valid;
     supported = supported ps valid (λ k d lt. (at_index k d lt).1.fit) have;
+    procedures = as_many;
+    values = omega (arith, total_of ps (λ k p there. (good k p there).1.values), as_many);
   }

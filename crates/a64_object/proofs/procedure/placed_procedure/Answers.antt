@@ -1,12 +1,7 @@
-use Rattle.std.proofs.Common.{arith, subst, sym}
-use Rattle.air_flow.specs.Proper.{IsProper}
+use Rattle.std.proofs.Common.{arith}
 use Rattle.air_select.specs.Contract.{procedure_at}
 use Rattle.a64_object.proofs.Placed.{placed_of, spills_below}
 use Rattle.a64_object.proofs.procedure.placed_procedure.Goals as goal
-
-pub rewrite-requires-clause-proper : goal.rewrite-requires-clause-proper
-rewrite-requires-clause-proper c =
-    subst (IsProper c.in_ok-selected.selected) (sym c.in_ok-assignment.ensures) (c.proper_assignments.ensures.spilled c.in_ok-selected.selected)
 
 pub rewrite-requires-clause-named : goal.rewrite-requires-clause-named
 rewrite-requires-clause-named c = spills_below 0 56 c.in_ok-selected.selected (omega arith) c.in_ok-selected.ensures.spills
