@@ -279,3 +279,18 @@ one_more f ts k list new lt o is at grown =
     ∙ ap (λ (l : List ℕ). filter_map f (take k ts) ++ l) (sym (alone (f (get_or ts k (touch.Use 0)))))
     ∙ sym (filter_map-append f (take k ts) (get_or ts k (touch.Use 0) ∷ []))
     ∙ sym (ap (filter_map f) (take_more ts k (touch.Use 0) lt))
+
+-- ---- the numbers of names
+
+pub numbered_below : (tmps : ℕ) (names : List ℕ) (n : ℕ) → Contains (filter_map (number_named tmps) names) n → n < tmps + 25
+numbered_below tmps names n c =
+    let r = picked (number_named tmps) names n (to_in (filter_map (number_named tmps) names) n c) in (named tmps r.0 n r.2).0
+
+pub numbered_in : (tmps : ℕ) (names : List ℕ) (n : ℕ) → n < tmps + 25
+    → Contains (filter_map (number_named tmps) names) n ↔ Contains names (name_at tmps n)
+numbered_in tmps names n lt = (
+  λ c. let r = picked (number_named tmps) names n (to_in (filter_map (number_named tmps) names) n c) in
+      from_in names (name_at tmps n) (subst (λ (k : ℕ). In k names) (named tmps r.0 n r.2).1 r.1),
+  λ c. from_in (filter_map (number_named tmps) names) n
+      (picks (number_named tmps) names n (name_at tmps n) (to_in names (name_at tmps n) c) (named_back tmps n lt)),
+)

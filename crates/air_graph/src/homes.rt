@@ -2,7 +2,7 @@
 
 ghost use Rattle.std.specs.Prelude.{◌≡◌, ◌+◌, ◌^◌, ◌<◌, ◌≤◌};
 ghost use Rattle.air_graph.specs.Homes.{home_at, number_of, place_of};
-ghost use Rattle.air_graph.specs.Walk.{name_at, number_named};
+ghost use Rattle.air_graph.specs.Walk.{number_named};
 
 use air_ir::Home;
 use b3_ir::Reg;
@@ -72,12 +72,4 @@ pub(crate) fn number_named(tmps: u32, name: usize) -> Option<usize>
     } else {
         None
     }
-}
-
-/// The name of the home of a number.
-pub(crate) fn name_at(tmps: u32, n: usize) -> usize
-    requires { n < tmps + 25 }
-    ensures { result ≡ name_at tmps n }
-{
-    if n < tmps as usize + 15 { n } else { n + 4 }
 }

@@ -7,9 +7,9 @@ ghost use Rattle.air_ir.specs.declared.procedure.AirProc.{AirProc};
 ghost use Rattle.air_flow.specs.Flow.{flow_of};
 ghost use Rattle.air_graph.specs.Walk.{AreBelow, in_list, name_at};
 
-use crate::homes::name_at;
+use crate::homes::number_named;
 use crate::met::in_list;
-use crate::touched::{Numbers, Touched};
+use crate::touched::{Numbers, Touched, push_some};
 use b3_base::NoMemory;
 use flow_live::LiveSets;
 use std::alloc::Global;
@@ -27,11 +27,10 @@ pub(crate) fn live_out(
     ensures live { IfOk result (λ list. (p : AirProc) → IsLivenessOf (flow_of p) live.now → (n : ℕ) → n < tmps + 25
         → Contains list n ↔ LiveOut (flow_of p) (name_at tmps n) block) }
 {
+    let names = live.names_out(alloc, block)?;
     let mut list = Numbers::new(alloc);
-    for n in 0..tmps as usize + 25 {
-        if live.live_out(block, name_at(tmps, n)) {
-            list.push(n)?;
-        }
+    for name in names.as_slice() {
+        push_some(&mut list, number_named(tmps, *name))?;
     }
     Ok(list)
 }

@@ -29,7 +29,8 @@ pub(crate) struct Touched {
     pub(crate) moves: Moves,
 }
 
-fn push_some(numbers: &mut Numbers, number: Option<usize>) -> Result<(), NoMemory>
+/// Adds a number, where there is one.
+pub(crate) fn push_some(numbers: &mut Numbers, number: Option<usize>) -> Result<(), NoMemory>
     ensures { OnOk result (numbers.new ≡ numbers.old ++ option_to_list number) }
 {
     match number {

@@ -99,7 +99,7 @@ one_cleared words at bit q h =
 
 -- ---- runs of words as sets
 
-one_at : (words : List ℕ) (at j i : ℕ) → i < 64 → is_one words at (64 * j + i) ≡ nat_eq (bit_at (slice_index words (at + j)) i) 1
+pub one_at : (words : List ℕ) (at j i : ℕ) → i < 64 → is_one words at (64 * j + i) ≡ nat_eq (bit_at (slice_index words (at + j)) i) 1
 one_at words at j i h =
     let d : (64 * j + i) / 64 ≡ j = omega arith in
     let m : (64 * j + i) % 64 ≡ i = omega arith in

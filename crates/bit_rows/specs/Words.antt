@@ -1,7 +1,8 @@
 -- The words of 64 bits that rows are kept in, and what each kernel does to them.
-use Rattle.std.specs.Prelude.{◌≡◌, ℕ, zero, suc, ◌+◌, ◌*◌, ◌/◌, ◌%◌, ◌^◌, ◌<◌, ◌≤◌, ◌⊎◌, ◌==◌, Bool, cond, List, map, slice_index, bit_and, bit_xor, count_ones}
+use Rattle.std.specs.Prelude.{◌≡◌, ℕ, zero, suc, ◌+◌, ◌*◌, ◌/◌, ◌%◌, ◌^◌, ◌<◌, ◌≤◌, ◌⊎◌, ◌↔◌, ◌==◌, Bool, true, cond, List, map, slice_index, bit_and, bit_xor, count_ones, Contains}
 use Rattle.std.specs.Int.{bit_at}
 use Rattle.std.specs.List.{range_with_len}
+use Rattle.std.specs.List.Sorted.{IsStrictlyIncreasing}
 use Rattle.std.specs.FinSet as set
 use Rattle.bit_rows.specs.BitRows.{BitSet}
 
@@ -60,3 +61,9 @@ pub record FillsWords (words rows stride bits : ℕ) : Type 0 where
   pub all : words ≡ rows * stride
   pub room : bits ≤ 64 * stride
   pub few : words ≤ 2 ^ 34
+
+-- the list has the numbers below n that pass p, in rising order
+pub record Lists (p : ℕ → Bool) (n : ℕ) (list : List ℕ) : Type 0 where
+  pub below : (q : ℕ) → Contains list q → q < n
+  pub is : (q : ℕ) → q < n → Contains list q ↔ (p q ≡ true)
+  pub rising : IsStrictlyIncreasing list

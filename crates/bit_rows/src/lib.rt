@@ -2,13 +2,15 @@
 //! whole rows work lane by lane on vectors of 64-bit words, with a plain loop for the rest.
 #![tactic(auto)]
 
-ghost use Rattle.std.specs.Prelude.{◌≡◌, ◌*◌, ◌^◌, ◌<◌, ◌≤◌, ◌↔◌, length, replicate, false, IfOk};
+ghost use Rattle.std.specs.Prelude.{◌≡◌, ℕ, ◌*◌, ◌^◌, ◌<◌, ◌≤◌, ◌↔◌, length, replicate, true, false, Contains, IfOk};
+ghost use Rattle.std.specs.List.Sorted.{IsStrictlyIncreasing};
 ghost use Rattle.std.specs.FinSet as set;
 
-use b3_base::NoMemory;
+use b3_base::{NoMemory, Seq};
 use std::alloc::Global;
 use std::marker::Model;
 
+mod listing;
 mod merge;
 mod single;
 mod tally;
@@ -119,6 +121,17 @@ impl Rows {
         ensures { result ≡ set.len (row_of self.now row) }
     {
         tally::count_words(&self.words, row * self.stride, self.stride) as usize
+    }
+
+    /// The bits of the row `row`, from the lowest to the highest. It takes a step for each word of
+    /// the row and one for each of its bits. It is refused for want of memory alone.
+    pub fn members(&self, alloc: Global, row: usize) -> Result<Seq<usize>, NoMemory>
+        requires { row < length self.now.sets }
+        ensures members { IfOk result (λ list. (bit : ℕ)
+            → Contains list bit ↔ (set.contains (row_of self.now row) bit ≡ true)) }
+        ensures rising { IfOk result (λ list. IsStrictlyIncreasing list) }
+    {
+        listing::list_words(alloc, &self.words, row * self.stride, self.stride)
     }
 }
 

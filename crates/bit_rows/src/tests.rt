@@ -77,3 +77,21 @@ fn a_row_grows_once(rt: HostRuntime) -> Result<(), Fail> {
     assert!(rt; !rows.has(1, 70));
     Ok(())
 }
+
+#[test]
+fn members_stand_in_rising_order(rt: HostRuntime) -> Result<(), Fail> {
+    let mut rows = Rows::new(rt.alloc(), 2, 200)?;
+    rows.set(1, 199);
+    rows.set(1, 0);
+    rows.set(1, 63);
+    rows.set(1, 70);
+    rows.set(1, 64);
+    rows.set(1, 191);
+    let members = rows.members(rt.alloc(), 1)?;
+    assert_eq!(rt;
+        members.as_slice(),
+        [0usize, 63, 64, 70, 191, 199].as_slice()
+    );
+    assert!(rt; rows.members(rt.alloc(), 0)?.is_empty());
+    Ok(())
+}

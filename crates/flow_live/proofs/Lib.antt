@@ -4,3 +4,4 @@ pub mod Gathering
 pub mod Visiting
 pub mod Passing
 pub mod Least
+pub mod NamesOut

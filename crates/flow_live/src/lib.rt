@@ -2,12 +2,13 @@
 //! before a place of it, exactly as paths say.
 #![tactic(auto)]
 
-ghost use Rattle.std.specs.Prelude.{◌≡◌, ◌*◌, ◌^◌, ◌<◌, ◌≤◌, ◌↔◌, IfOk, IsTrue};
+ghost use Rattle.std.specs.Prelude.{◌≡◌, ℕ, ◌*◌, ◌^◌, ◌<◌, ◌≤◌, ◌↔◌, true, Contains, IfOk, IsTrue};
+ghost use Rattle.std.specs.List.Sorted.{IsStrictlyIncreasing};
 ghost use Rattle.std.specs.FinSet as set;
 ghost use Rattle.flow_live.specs.Graph.{Graph, IsInRange, length_of, LiveIn, LiveOut, LiveBefore};
 ghost use Rattle.flow_live.specs.Liveness.{IsLivenessOf, in_of, out_of};
 
-use b3_base::NoMemory;
+use b3_base::{NoMemory, Seq};
 use bit_rows::Rows;
 use std::alloc::Global;
 use std::marker::Model;
@@ -92,6 +93,23 @@ impl LiveSets {
         ensures live { (g : Graph) → IsLivenessOf g self.now → IsTrue result ↔ LiveOut g name block }
     {
         self.rows.has(self.blocks + block, name)
+    }
+
+    /// The names that are live out of the block, in rising order: exactly those that are live into
+    /// a successor. It takes a step for each 64 names and one for each name of the list. It is
+    /// refused for want of memory alone.
+    pub fn names_out(&self, alloc: Global, block: usize) -> Result<Seq<usize>, NoMemory>
+        requires { block < self.now.blocks }
+        ensures value { IfOk result (λ list. (name : ℕ)
+            → Contains list name ↔ ((name < self.now.names) × (set.contains (out_of self.now block) name ≡ true))) }
+        ensures live { IfOk result (λ list. (g : Graph) → IsLivenessOf g self.now → (name : ℕ)
+            → Contains list name ↔ ((name < self.now.names) × LiveOut g name block)) }
+        ensures rising { IfOk result (λ list. IsStrictlyIncreasing list) }
+    {
+        if self.names == 0 {
+            return Ok(Seq::new(alloc));
+        }
+        self.rows.members(alloc, self.blocks + block)
     }
 
     /// Whether the name is live before a place of the block, where these are the live names of the

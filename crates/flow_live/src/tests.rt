@@ -86,6 +86,7 @@ fn check_sample(
     for block in 0..4 {
         let places = sample.places(block);
         let last = if places == 0 { 0 } else { places - 1 };
+        let out = sets.names_out(alloc, block)?;
         for name in 0..4 {
             assert_eq!(rt;
                 sets.live_in(block, name),
@@ -96,6 +97,11 @@ fn check_sample(
                 sets.live_out(block, name),
                 expected.outs[block] >> name & 1 == 1,
                 "{name} out of {block}"
+            );
+            assert_eq!(rt;
+                out.as_slice().contains(&name),
+                expected.outs[block] >> name & 1 == 1,
+                "{name} of the names out of {block}"
             );
             assert_eq!(rt;
                 sets.live_before(sample, block, last, name),

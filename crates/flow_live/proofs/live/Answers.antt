@@ -1,7 +1,17 @@
-use Rattle.std.proofs.Common.{◌+◌, ◌*◌}
+use Rattle.std.proofs.Common.{rules, ◌+◌, ◌*◌, sym, ◌∙◌}
+use Rattle.std.proofs.lemmas.Bool.{false≢true}
 use Rattle.flow_live.proofs.RowFacts.{has-none}
 use Rattle.flow_live.proofs.Least.{liveness}
 use Rattle.flow_live.proofs.live.Goals as goal
+
+pub invariant_of-result : goal.invariant_of-result
+invariant_of-result g c =
+    record {
+      all = search rules;
+      bits = search rules;
+      few = search rules;
+      within = λ row name t. absurd (false≢true (sym (has-none c.in_ok-rows.rows 0 0 row name c.in_ok-rows.ensures) ∙ t));
+    }
 
 pub gather-requires-clause-blank : goal.gather-requires-clause-blank
 gather-requires-clause-blank g c row name =
