@@ -5,4 +5,4 @@ mod object;
 mod procedure;
 
 pub use object::module_object;
-pub use procedure::{ProcedureText, placed_procedure, procedure_text};
+pub use procedure::{ProcedureText, coloured, placed_procedure, procedure_text};
