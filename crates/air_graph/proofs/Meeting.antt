@@ -1,8 +1,8 @@
 -- What an instruction does to homes, by lists of numbers.
-use Rattle.std.proofs.Common.{◌≡◌, ℕ, ◌+◌, ◌<◌, ◌⊎◌, ◌↔◌, inl, inr, Bool, true, false, not, ◌||◌, Some, List, ◌++◌, length, get_or, take, refl, sym, ap, ◌∙◌, subst}
+use Rattle.std.proofs.Common.{◌≡◌, ℕ, ◌+◌, ◌<◌, ◌⊎◌, ◌↔◌, inl, inr, Bool, true, false, not, Some, List, [], ◌∷◌, ◌++◌, length, get_or, take, refl, sym, ap, ◌∙◌, subst}
 use Rattle.std.specs.Prelude.{Contains, filter, filter_map}
-use Rattle.std.proofs.lemmas.Bool.{false≢true, or_left}
-use Rattle.std.proofs.lemmas.List.Elements.{Contains-append_cases, Contains-append_left, Contains-append_right}
+use Rattle.std.proofs.lemmas.Bool.{false≢true}
+use Rattle.std.proofs.lemmas.List.Elements.{Contains-append_cases, Contains-append_left, Contains-append_right, Contains-push, Contains-push_cases}
 use Rattle.flow_live.specs.declared.touch.Touch.{Touch}
 use Rattle.flow_live.specs.declared.touch.Touch.TheVariants as touch
 use Rattle.air_ir.specs.WellFormed.{StandsAt}
@@ -46,41 +46,74 @@ appended xs ys x = (
 
 -- ---- what is live before
 
-pub live_from : (used late defined live list : List ℕ)
-    → list ≡ (filter (λ y. not (in_list defined y || (in_list used y || in_list late y))) live ++ used) ++ late → (y : ℕ)
-    → Contains list y ↔ ((Contains used y ⊎ Contains late y) ⊎ (Contains live y × (Contains defined y → ⊥)))
-live_from used late defined live list e y =
-    let test : ℕ → Bool = λ y. not (in_list defined y || (in_list used y || in_list late y)) in
-    let all = appended (filter test live ++ used) late y in
-    let first = appended (filter test live) used y in
-    let kept = filtered test live y in (
-      λ c. elim (all.0 (subst (λ (l : List ℕ). Contains l y) e c)) [
-        | inl i ↦ elim (first.0 i) [
-          | inl j ↦
-              let k = kept.0 j in
-              inr (
-                k.0,
-                λ d. false≢true (sym (not_true (in_list defined y || (in_list used y || in_list late y)) k.1)
-                    ∙ or_left (in_list defined y) (in_list used y || in_list late y) ((listed defined y).1 d)),
-              )
-          | inr j ↦ inl (inl j)
-        ]
-        | inr i ↦ inl (inr i)
-      ],
-      λ c. subst (λ (l : List ℕ). Contains l y) (sym e) (all.1 (elim c [
-        | inl i ↦ elim i [ inl j ↦ inl (first.1 (inr j)) | inr j ↦ inr j ]
-        | inr i ↦ elim (either (in_list used y)) [
-          | inl t ↦ inl (first.1 (inr ((listed used y).0 t)))
-          | inr f ↦ elim (either (in_list late y)) [
-            | inl t ↦ inr ((listed late y).0 t)
-            | inr g ↦ elim (either (in_list defined y)) [
-              | inl t ↦ absurd (i.1 ((listed defined y).0 t))
-              | inr h ↦ inl (first.1 (inl (kept.1 (i.0, rw (h, f, g) refl))))
-            ]
-          ]
-        ]
-      ])),
+pub without : (defined live list : List ℕ) → list ≡ filter (λ y. not (in_list defined y)) live → (y : ℕ)
+    → Contains list y ↔ (Contains live y × (Contains defined y → ⊥))
+without defined live list e y =
+    let kept = filtered (λ y. not (in_list defined y)) live y in (
+      λ c. let k = kept.0 (subst (λ (l : List ℕ). Contains l y) e c) in
+          (k.0, λ d. false≢true (sym (not_true (in_list defined y) k.1) ∙ (listed defined y).1 d)),
+      λ c. subst (λ (l : List ℕ). Contains l y) (sym e) (kept.1 (
+        c.0,
+        false_not (in_list defined y) (elim (either (in_list defined y)) [
+          | inl t ↦ absurd (c.1 ((listed defined y).0 t))
+          | inr f ↦ f
+        ]),
+      )),
     )
+
+-- more of a list is in another
+module _ (first list new more : List ℕ) (k : ℕ) (lt : k < length more)
+    (is : (y : ℕ) → Contains list y ↔ (Contains first y ⊎ Contains (take k more) y)) where
+  one_missing : ((y : ℕ) → Contains new y ↔ (Contains list y ⊎ (y ≡ get_or more k 0)))
+      → (y : ℕ) → Contains new y ↔ (Contains first y ⊎ Contains (take (k + 1) more) y)
+  one_missing grown y =
+      let step = contains_more more k 0 y lt in (
+        λ c. elim ((grown y).0 c) [
+          | inl i ↦ elim ((is y).0 i) [ inl j ↦ inl j | inr j ↦ inr (step.1 (inl j)) ]
+          | inr e ↦ inr (step.1 (inr e))
+        ],
+        λ c. (grown y).1 (elim c [
+          | inl i ↦ inl ((is y).1 (inl i))
+          | inr i ↦ elim (step.0 i) [ inl j ↦ inl ((is y).1 (inr j)) | inr e ↦ inr e ]
+        ]),
+      )
+
+  pub missing_pushed : new ≡ list ++ get_or more k 0 ∷ [] → (y : ℕ) → Contains new y ↔ (Contains first y ⊎ Contains (take (k + 1) more) y)
+  missing_pushed e =
+      let item : ℕ = get_or more k 0 in
+      one_missing (λ y. (
+        λ c. elim (Contains-push_cases list item y (subst (λ (l : List ℕ). Contains l y) e c)) [ inl i ↦ inl i | inr s ↦ inr (sym s) ],
+        λ c. subst (λ (l : List ℕ). Contains l y) (sym e) (elim c [
+          | inl i ↦ Contains-append_left list (item ∷ []) y i
+          | inr s ↦ subst (λ (z : ℕ). Contains (list ++ item ∷ []) z) (sym s) (Contains-push list item)
+        ]),
+      ))
+
+  pub missing_had : new ≡ list → in_list list (get_or more k 0) ≡ true → (y : ℕ) → Contains new y ↔ (Contains first y ⊎ Contains (take (k + 1) more) y)
+  missing_had e had =
+      one_missing (λ y. (
+        λ c. inl (subst (λ (l : List ℕ). Contains l y) e c),
+        λ c. subst (λ (l : List ℕ). Contains l y) (sym e) (elim c [
+          | inl i ↦ i
+          | inr s ↦ subst (λ (z : ℕ). Contains list z) (sym s) ((listed list (get_or more k 0)).0 had)
+        ]),
+      ))
+
+pub live_from : (used late defined live rest more list : List ℕ)
+    → ((y : ℕ) → Contains rest y ↔ (Contains live y × (Contains defined y → ⊥)))
+    → ((y : ℕ) → Contains more y ↔ (Contains rest y ⊎ Contains used y))
+    → ((y : ℕ) → Contains list y ↔ (Contains more y ⊎ Contains late y)) → (y : ℕ)
+    → Contains list y ↔ ((Contains used y ⊎ Contains late y) ⊎ (Contains live y × (Contains defined y → ⊥)))
+live_from used late defined live rest more list left first last y = (
+  λ c. elim ((last y).0 c) [
+    | inl i ↦ elim ((first y).0 i) [ inl j ↦ inr ((left y).0 j) | inr j ↦ inl (inl j) ]
+    | inr i ↦ inl (inr i)
+  ],
+  λ c. (last y).1 (elim c [
+    | inl i ↦ elim i [ inl j ↦ inl ((first y).1 (inr j)) | inr j ↦ inr j ]
+    | inr i ↦ inl ((first y).1 (inl ((left y).1 i)))
+  ]),
+)
 
 -- ---- what is met
 

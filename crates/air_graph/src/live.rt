@@ -1,6 +1,6 @@
 //! Which homes are live along a block.
 
-ghost use Rattle.std.specs.Prelude.{◌≡◌, filter, not, ◌||◌, ◌↔◌, ◌⊎◌, ◌+◌, ◌<◌, ℕ, Contains, IfOk, length};
+ghost use Rattle.std.specs.Prelude.{◌≡◌, filter, not, ◌↔◌, ◌⊎◌, ◌+◌, ◌<◌, ℕ, Contains, IfOk, OnOk, length};
 ghost use Rattle.flow_live.specs.Graph.{LiveOut};
 ghost use Rattle.flow_live.specs.Liveness.{IsLivenessOf};
 ghost use Rattle.air_ir.specs.declared.procedure.AirProc.{AirProc};
@@ -35,30 +35,49 @@ pub(crate) fn live_out(
     Ok(list)
 }
 
-/// The homes that are live after an instruction and aren't touched by it.
-fn untouched(alloc: Global, t: &Touched, live: &[usize]) -> Result<Numbers, NoMemory>
-    ensures { IfOk result (λ list. list ≡ filter (λ y. not (in_list t.now.defined y ||
-        (in_list t.now.used y || in_list t.now.late y))) live.now) }
+/// The homes of a list that aren't in a list of those that are defined.
+fn undefined(alloc: Global, defined: &[usize], live: &[usize]) -> Result<Numbers, NoMemory>
+    ensures { IfOk result (λ list. list ≡ filter (λ y. not (in_list defined.now y)) live.now) }
 {
     let mut list = Numbers::new(alloc);
     for y in live {
-        let defined = in_list(t.defined.as_slice(), *y);
-        let used = in_list(t.used.as_slice(), *y);
-        let late = in_list(t.late.as_slice(), *y);
-        if !(defined || (used || late)) {
+        if !in_list(defined, *y) {
             list.push(*y)?;
         }
     }
     Ok(list)
 }
 
-/// The homes that are live before an instruction, from those that are live after it.
-pub(crate) fn live_before(alloc: Global, t: &Touched, live: &[usize]) -> Result<Numbers, NoMemory>
-    ensures { IfOk result (λ list. (y : ℕ) → Contains list y
-        ↔ ((Contains t.now.used y ⊎ Contains t.now.late y) ⊎ (Contains live.now y × (Contains t.now.defined y → ⊥)))) }
+/// The live homes without those that are defined. Where nothing is defined, the list stays as it is.
+fn without_defined(alloc: Global, defined: &[usize], live: Numbers) -> Result<Numbers, NoMemory>
+    ensures { IfOk result (λ list. (y : ℕ)
+        → Contains list y ↔ (Contains live y × (Contains defined.now y → ⊥))) }
 {
-    let mut list = untouched(alloc, t, live)?;
-    list.extend(t.used.as_slice())?;
-    list.extend(t.late.as_slice())?;
+    if defined.is_empty() {
+        return Ok(live);
+    }
+    undefined(alloc, defined, live.as_slice())
+}
+
+/// Adds to a list the homes of another that it doesn't have.
+fn add_missing(list: &mut Numbers, more: &[usize]) -> Result<(), NoMemory>
+    ensures { OnOk result ((y : ℕ) → Contains list.new y ↔ (Contains list.old y ⊎ Contains more.now y)) }
+{
+    for y in more {
+        if !in_list(list.as_slice(), *y) {
+            list.push(*y)?;
+        }
+    }
+    Ok(())
+}
+
+/// The homes that are live before an instruction, from those that are live after it.
+pub(crate) fn live_before(alloc: Global, t: &Touched, live: Numbers) -> Result<Numbers, NoMemory>
+    ensures { IfOk result (λ list. (y : ℕ) → Contains list y
+        ↔ ((Contains t.now.used y ⊎ Contains t.now.late y) ⊎ (Contains live y × (Contains t.now.defined y → ⊥)))) }
+{
+    let mut list = without_defined(alloc, t.defined.as_slice(), live)?;
+    add_missing(&mut list, t.used.as_slice())?;
+    add_missing(&mut list, t.late.as_slice())?;
     Ok(list)
 }

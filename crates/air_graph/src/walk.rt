@@ -67,7 +67,7 @@ fn add_block(
     for place in (0..flow.places(block)).rev() {
         let t = touched_at(alloc, flow, block, place)?;
         add_defined(alloc, tmps, edges, &t, t.defined.as_slice(), now.as_slice())?;
-        now = live_before(alloc, &t, now.as_slice())?;
+        now = live_before(alloc, &t, now)?;
     }
     Ok(())
 }

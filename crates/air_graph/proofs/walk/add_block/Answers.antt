@@ -1,4 +1,4 @@
-use Rattle.std.proofs.Common.{◌≡◌, ℕ, ◌+◌, ◌-◌, ◌<◌, ◌≤◌, ◌⊎◌, ◌↔◌, List, length, arith, refl, sym, ◌∙◌, subst}
+use Rattle.std.proofs.Common.{◌≡◌, ℕ, ◌+◌, ◌-◌, ◌<◌, ◌≤◌, ◌⊎◌, List, length, arith, refl, sym, ◌∙◌, subst}
 use Rattle.std.specs.Prelude.{Contains}
 use Rattle.air_ir.specs.Blocks.{block_of}
 use Rattle.air_ir.specs.declared.procedure.AirProc.{AirProc}
@@ -65,9 +65,7 @@ loop-place-preserved c =
       live = live_step p c.args.block c.requires.block
           (c.loop-place.place - 1) some_inst lt c.live_homes.ensures.touches c.live_homes.ensures.goes_on c.in_ok-t.t
           c.in_ok-t.ensures c.loop-place.now now c.in_ok-now-2.now
-          (subst (λ (l : List ℕ). (y : ℕ) → Contains c.in_ok-now-2.now y
-          ↔ ((Contains c.in_ok-t.t.used y ⊎ Contains c.in_ok-t.t.late y) ⊎ (Contains l y × (Contains c.in_ok-t.t.defined y → ⊥))))
-          c.as_slice-in-loop-place-2.ensures c.in_ok-now-2.ensures);
+          c.in_ok-now-2.ensures;
       edges = subst (λ (k : ℕ). Adds k c.args.edges.now c.add_defined.new.edges
           (λ a b. (at : ℕ) × (c.loop-place.place - 1 ≤ at) × MeetAt p c.args.block at a b)) (sym c.requires.sized)
           (edges_step p c.args.block c.requires.block
