@@ -1,0 +1,8 @@
+use Rattle.air_colour.proofs.Active.{numbers_more, numbers_none}
+use Rattle.air_colour.proofs.moves.numbers.Goals as goal
+
+pub loop-j-init : goal.loop-j-init
+loop-j-init c = numbers_none c.new-list.result.items c.new-list.ensures.items
+
+pub loop-j-preserved : goal.loop-j-preserved
+loop-j-preserved c = numbers_more c.loop-j.list.items c.push.new.self.items c.loop-j.j c.in_ok-push.ensures.items c.loop-j.invariant
