@@ -1,7 +1,6 @@
 -- The registers that are barred from a class, marked neighbour by neighbour.
-use Rattle.std.proofs.Common.{◌≡◌, ℕ, ◌+◌, ◌<◌, ◌↔◌, ◌⊎◌, inl, inr, Bool, true, false, Option, Some, List, length, get_or, take, arith, refl, sym, ◌∙◌, ap, subst, slice_index_or}
+use Rattle.std.proofs.Common.{◌≡◌, ℕ, ◌+◌, ◌<◌, ◌↔◌, ◌⊎◌, inl, inr, Bool, true, false, Option, Some, List, length, get_or, take, arith, refl, sym, ◌∙◌, ap, slice_index_or}
 use Rattle.std.specs.Prelude.{Contains}
-use Rattle.std.proofs.Math.Seq.{take-length}
 use Rattle.std.proofs.lemmas.Bool.{false≢true}
 use Rattle.air_graph.specs.Edges.{EdgeSet, IsListOf}
 use Rattle.air_graph.proofs.Adding.{contains_more}

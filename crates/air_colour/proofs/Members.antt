@@ -1,5 +1,5 @@
 -- The members of a class go into another one.
-use Rattle.std.proofs.Common.{◌≡◌, ℕ, ◌+◌, ◌<◌, ◌⊎◌, inl, inr, cond, List, [], ◌∷◌, ◌++◌, length, get_or, take, arith, refl, sym, ◌∙◌, ap, subst, slice_index_or}
+use Rattle.std.proofs.Common.{◌≡◌, ℕ, ◌+◌, ◌<◌, ◌⊎◌, inl, inr, cond, List, [], ◌∷◌, ◌++◌, length, get_or, take, arith, sym, ◌∙◌, ap, subst, slice_index_or}
 use Rattle.std.specs.Prelude.{◌==◌, Contains}
 use Rattle.std.proofs.lemmas.Bool.{cases_eq, cases_lt}
 use Rattle.std.proofs.lemmas.List.{get_or_past}
@@ -122,9 +122,9 @@ module _ (class : List ℕ) (members : List (List ℕ)) (a b : ℕ) (going : Lis
         | inr ne ↦ elim (cases_eq c a) [
           | inl e ↦ elim (Contains-append_cases (list_of members a) going u
               (subst (λ (l : List ℕ). Contains l u) (others' c ne ∙ ap (list_of members') e ∙ grown) i)) [
-            | inl j ↦ are.below a u j
-            | inr j ↦ going_below u j
-          ]
+                | inl j ↦ are.below a u j
+                | inr j ↦ going_below u j
+              ]
           | inr nea ↦ are.below c u (subst (λ (l : List ℕ). Contains l u) (others' c ne ∙ others c nea) i)
         ]
       ]

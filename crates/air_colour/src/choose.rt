@@ -60,12 +60,7 @@ fn first_clear(bars: &[bool]) -> Option<usize>
 }
 
 /// The first register that is given to no class that `a` interferes with, of as many as there are places in `bars`.
-fn first_free(
-    edges: &Edges,
-    given: &[Option<usize>],
-    a: usize,
-    bars: &mut [bool],
-) -> Option<usize>
+fn first_free(edges: &Edges, given: &[Option<usize>], a: usize, bars: &mut [bool]) -> Option<usize>
     requires room { HasRoom edges.now (length given.now) (length given.now) }
     requires a { a < length given.now }
     ensures long { length bars.new ≡ length bars.old }

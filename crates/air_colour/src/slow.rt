@@ -314,7 +314,14 @@ fn clashes(t: &Table, a: &Assignment, class: &[usize], u: usize) -> bool {
 }
 
 /// Whether a member of a class interferes with a home that is given the register.
-fn is_barred(t: &Table, a: &Assignment, rows: &[bool], x: usize, register: usize, class: &[usize]) -> bool {
+fn is_barred(
+    t: &Table,
+    a: &Assignment,
+    rows: &[bool],
+    x: usize,
+    register: usize,
+    class: &[usize],
+) -> bool {
     for v in 0..homes(t.tmps) {
         if given(t, a, v) == register && has(t.tmps, rows, x, class_of(class, v)) {
             return true;

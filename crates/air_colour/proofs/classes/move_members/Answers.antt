@@ -1,5 +1,4 @@
-use Rattle.std.proofs.Common.{◌≡◌, ℕ, ◌<◌, ◌++◌, List, length, sym, ◌∙◌, ap, arith}
-use Rattle.std.specs.Prelude.{Contains}
+use Rattle.std.proofs.Common.{ℕ, ◌++◌, List, sym, ◌∙◌, ap}
 use Rattle.air_colour.proofs.Members.{all_merged, going_below, list_of, members_merged, members_same}
 use Rattle.air_colour.proofs.classes.move_members.Goals as goal
 

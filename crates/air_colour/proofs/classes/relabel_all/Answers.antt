@@ -1,8 +1,7 @@
-use Rattle.std.proofs.Common.{◌≡◌, ℕ, ◌⊎◌, inl, inr, List, length, get_or, take, arith, refl, sym, ◌∙◌, ap, subst}
+use Rattle.std.proofs.Common.{◌≡◌, ℕ, inl, List, length, get_or, take, arith, refl, sym, ◌∙◌, ap, subst}
 use Rattle.std.specs.Prelude.{Contains}
 use Rattle.std.proofs.Math.Seq.{take-length}
 use Rattle.std.proofs.lemmas.List.Elements.{Contains-get_or}
-use Rattle.air_colour.specs.Classes.{merged}
 use Rattle.air_colour.specs.Progress.{class_in}
 use Rattle.air_colour.proofs.Members.{relabelled_either, relabelled_those}
 use Rattle.air_colour.proofs.classes.relabel_all.Goals as goal

@@ -1,9 +1,9 @@
-use Rattle.std.proofs.Common.{◌≡◌, ℕ, ◌+◌, ◌<◌, ◌⊎◌, inl, inr, Bool, List, length, get_or, drop, arith, refl, sym, ◌∙◌, ap, subst}
-use Rattle.std.specs.Prelude.{Contains, false}
+use Rattle.std.proofs.Common.{◌≡◌, ℕ, ◌⊎◌, inl, inr, Bool, List, length, get_or, arith, sym, ◌∙◌, ap, subst}
+use Rattle.std.specs.Prelude.{Contains}
 use Rattle.std.proofs.lemmas.Bool.{false≢true}
 use Rattle.std.proofs.lemmas.List.Elements.{Contains-get_or}
 use Rattle.air_colour.specs.declared.moves.Move.{Move}
-use Rattle.air_colour.specs.Interference.{Graph, IsInterference}
+use Rattle.air_colour.specs.Interference.{Graph}
 use Rattle.air_colour.specs.Classes.{MayJoinMove}
 use Rattle.air_colour.specs.Progress.{class_in, moves_of, IsJoinedSoFar, IsKept, IsOver, IsState, left_count}
 use Rattle.air_colour.proofs.Active.{active_more, none_left, over_after, over_never, still_below}
