@@ -44,6 +44,11 @@ appended xs ys x = (
   λ c. elim c [ inl i ↦ Contains-append_left xs ys x i | inr i ↦ Contains-append_right xs ys x i ],
 )
 
+-- a test that each passes leaves a list as it is
+pub all_kept : (test : ℕ → Bool) (xs : List ℕ) → ((x : ℕ) → test x ≡ true) → filter test xs ≡ xs
+all_kept test [] all = refl
+all_kept test (x ∷ xs) all = rw (all x) (ap (λ (l : List ℕ). x ∷ l) (all_kept test xs all))
+
 -- ---- what is live before
 
 pub without : (defined live list : List ℕ) → list ≡ filter (λ y. not (in_list defined y)) live → (y : ℕ)

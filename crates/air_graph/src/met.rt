@@ -78,6 +78,10 @@ fn apart(
 {
     let sources = sources_of(alloc, moves, home_at(tmps, x))?;
     let mut list = Numbers::new(alloc);
+    if sources.is_empty() {
+        list.extend(live)?;
+        return Ok(list);
+    }
     for y in live {
         if !has_home(sources.as_slice(), home_at(tmps, *y)) {
             list.push(*y)?;
