@@ -1,18 +1,19 @@
--- What is left at first, and how many moves there are at last.
-use Rattle.std.proofs.Common.{◌≡◌, ◌≢◌, ℕ, ◌+◌, ◌<◌, inl, inr, Bool, true, false, List, [], ◌∷◌, length, All, arith, refl, sym, ap, ◌∙◌, subst}
+-- What is left at first, and at last.
+use Rattle.std.proofs.Common.{◌≡◌, ◌≢◌, ℕ, ◌+◌, ◌<◌, ◌≤◌, inl, inr, Bool, true, false, List, [], ◌∷◌, length, All, arith, refl, sym, ap, ◌∙◌, subst}
 use Rattle.std.specs.Prelude.{AllPairs, not}
 use Rattle.std.specs.List.{count_by}
-use Rattle.std.proofs.lemmas.Bool.{cases_Bool, cases_order}
+use Rattle.std.proofs.lemmas.Bool.{cases_order}
 use Rattle.std.proofs.lemmas.List.{length-map}
 use Rattle.std.proofs.lemmas.List.Elements.{All-get_or}
 use Rattle.std.proofs.lemmas.List.Sums.{sum_by-cons}
 use Rattle.b3_ir.specs.declared.value.Reg.{Reg as Register}
+use Rattle.air_ir.specs.declared.operand.Home.{Home}
 use Rattle.air_ir.specs.declared.operand.Home.TheVariants.{Reg}
-use Rattle.air_shuffle.specs.Moves.{IsSource, Move, is_self, writes}
-use Rattle.air_shuffle.specs.Pending.{Going, Has, one_if, saves}
-use Rattle.air_shuffle.specs.Waiting.{AreCounts, AreFree, AreWriters, IsKept, IsSequenceable, left_of, move_at, no_move}
+use Rattle.air_shuffle.specs.Moves.{GoUp, IsSource, Move, is_self, writes}
+use Rattle.air_shuffle.specs.Pending.{Going, one_if, saves}
+use Rattle.air_shuffle.specs.Waiting.{AreCounts, AreFree, AreWriters, IsKept, IsSequenceable, is_left_at, left_of, move_at, no_move, pending_in}
 use Rattle.air_shuffle.specs.declared.pending.Pending.{Pending}
-use Rattle.air_shuffle.proofs.Left.{differ_left, others, place_of}
+use Rattle.air_shuffle.proofs.Left.{differ_left, has-contains, none_left, others, others-from, others-self, place_of}
 use Rattle.air_shuffle.proofs.Steps.{going-first}
 
 pub sequenceable : (ms : List Move) → All (λ (c : Move). IsSource c.from) ms → AllPairs (λ (c d : Move). c.to ≢ d.to) ms → IsSequenceable ms
@@ -73,3 +74,15 @@ pub count-saves : (scratch : Register) (done : List Move) → saves scratch done
 unfolding saves
 count-saves scratch [] = refl
 count-saves scratch (c ∷ cs) = let n = count-cons (writes (Reg scratch)) c cs in let rest = count-saves scratch cs in omega arith
+
+-- ---- at last
+
+-- nothing is left once each place was passed
+pub ended : (scratch : Register) (whole done : List Move) (p : Pending) (place n : ℕ) → n ≤ place → length p.moves.items ≡ n → ((k : ℕ) → k < place → is_left_at p k ≡ false)
+    → Going scratch whole done (pending_in p) → Going scratch whole done []
+ended scratch whole done p place n le many behind g = subst (Going scratch whole done) (none_left p.moves.items p.left.items (λ k lt. behind k (omega arith))) g
+
+-- nothing is saved where each move goes up
+pub straight : (scratch : Register) (ms done : List Move) → Going scratch (left_of ms (others ms)) done [] → (rank : Home → ℕ) → GoUp rank ms → count_by (writes (Reg scratch)) done ≡ 0
+straight scratch ms done g rank up =
+    sym (count-saves scratch done) ∙ (g.plain rank (λ c has h e. up c (has-contains c ms (others-from c ms has)) (others-self c ms has) h e)).0

@@ -1,8 +1,8 @@
 -- The moves that are left, by their places.
-use Rattle.std.proofs.Common.{◌≡◌, ◌≢◌, ℕ, zero, suc, ◌<◌, ◌⊎◌, inl, inr, Bool, true, false, if◌then◌else◌, List, [], ◌∷◌, ◌++◌, length, map, arith, refl, sym, ap, ◌∙◌, subst}
+use Rattle.std.proofs.Common.{◌≡◌, ℕ, zero, suc, ◌<◌, ◌⊎◌, inl, inr, Bool, true, false, if◌then◌else◌, List, [], ◌∷◌, ◌++◌, length, map, arith, refl, sym, ap, ◌∙◌, subst}
 use Rattle.std.specs.Prelude.{Contains, IfSome, Option, Some, None, not, slice_index_or, slice_set}
-use Rattle.std.proofs.lemmas.Bool.{cases_Bool, false≢true}
-use Rattle.air_shuffle.specs.Moves.{IsSource, Move, is_self}
+use Rattle.std.proofs.lemmas.Bool.{false≢true}
+use Rattle.air_shuffle.specs.Moves.{Move, is_self}
 use Rattle.air_shuffle.specs.Pending.{Differ, Has}
 use Rattle.air_shuffle.specs.Waiting.{IsSequenceable, left_of, move_at, no_move}
 use Rattle.air_shuffle.proofs.Lists.{has-one}
@@ -94,6 +94,18 @@ others-to c (d ∷ cs) h = to-others c d cs (is_self d) refl h (others-to c cs)
 
 pub without_self : (ms : List Move) → IsWithoutSelf ms (left_of ms (others ms))
 without_self ms = record { from = λ c h. others-from c ms h; rest = λ c h. others-to c ms h }
+
+self-left : (c d : Move) (cs : List Move) (b : Bool) → b ≡ is_self d → Has c (if not b then d ∷ left_of cs (others cs) else left_of cs (others cs))
+    → (Has c (left_of cs (others cs)) → is_self c ≡ false) → is_self c ≡ false
+unfolding Has
+self-left c d cs true e h rest = rest h
+self-left c d cs false e (inl here) rest = ap is_self here ∙ sym e
+self-left c d cs false e (inr h) rest = rest h
+
+pub others-self : (c : Move) (ms : List Move) → Has c (left_of ms (others ms)) → is_self c ≡ false
+unfolding left_of Has
+others-self c [] h = absurd h
+others-self c (d ∷ cs) h = self-left c d cs (is_self d) refl h (others-self c cs)
 
 -- ---- lists of moves whose destinations differ
 pub has-place : (c : Move) (ms : List Move) → Has c ms → (k : ℕ) × (k < length ms) × (c ≡ move_at ms k)

@@ -7,3 +7,4 @@ pub mod Releasing
 pub mod Taking
 pub mod Counting
 pub mod Beginning
+pub mod Going

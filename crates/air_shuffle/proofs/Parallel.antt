@@ -1,5 +1,5 @@
 -- The moves that are done and those that are pending are the whole, done at once.
-use Rattle.std.proofs.Common.{◌≡◌, ◌≢◌, ℕ, ◌^◌, ◌<◌, inl, inr, false, Option, Some, None, List, ◌∷◌, ◌++◌, arith, refl, sym, ap, ◌∙◌, subst}
+use Rattle.std.proofs.Common.{◌≡◌, ◌≢◌, ℕ, inl, inr, false, Option, Some, List, ◌∷◌, ◌++◌, arith, refl, sym, ap, ◌∙◌, subst}
 use Rattle.std.proofs.lemmas.Bool.{false≢true}
 use Rattle.b3_base.specs.Arithmetic.{low}
 use Rattle.b3_base.specs.declared.word.Width.{Width}
@@ -13,7 +13,7 @@ use Rattle.air_ir.specs.declared.operand.Arg.TheVariants.{At, Imm, Addr, Index, 
 use Rattle.air_ir.proofs.HomeLaws.{put-other, put-same, same_home-refl}
 use Rattle.air_shuffle.specs.Moves.{IsSource, Move, reads}
 use Rattle.air_shuffle.specs.Pending.{AreReady, Has, HasWord, Parallel, held, taken}
-use Rattle.air_shuffle.specs.Waiting.{from_scratch, saved}
+use Rattle.air_shuffle.specs.Waiting.{from_scratch}
 use Rattle.air_shuffle.proofs.Lists.{has-rest, has-more, has-one}
 
 -- a source that doesn't read a home gives the same word after a write there

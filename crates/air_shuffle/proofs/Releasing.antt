@@ -1,10 +1,9 @@
 -- Counts and free moves once a move no longer reads its source.
-use Rattle.std.proofs.Common.{◌≡◌, ◌≢◌, ℕ, zero, suc, ◌+◌, ◌-◌, ◌<◌, ◌≤◌, ◌⊎◌, inl, inr, Bool, true, false, if◌then◌else◌, Option, Some, None, List, [], ◌∷◌, ◌++◌, length, arith, refl, sym, ap, ◌∙◌, subst}
-use Rattle.std.specs.Prelude.{Contains, nat_eq, slice_index_or, slice_set}
-use Rattle.std.proofs.lemmas.Bool.{cases_Bool, cases_eq, eq-eqb, eqb-true, false≢true, false_from_ne_true}
+use Rattle.std.proofs.Common.{◌≡◌, ◌≢◌, ℕ, ◌+◌, ◌-◌, ◌<◌, ◌⊎◌, inl, inr, Bool, true, false, if◌then◌else◌, Option, Some, None, List, [], ◌∷◌, ◌++◌, length, arith, refl, sym, ap, ◌∙◌, subst}
+use Rattle.std.specs.Prelude.{Contains, nat_eq, slice_set}
+use Rattle.std.proofs.lemmas.Bool.{cases_Bool, cases_eq, eq-eqb, eqb-true}
 use Rattle.std.proofs.lemmas.List.{get_or-set_other, get_or-set_same, length-set}
 use Rattle.std.proofs.lemmas.List.Elements.{Contains-append_left, Contains-push, Contains-push_cases}
-use Rattle.b3_ir.specs.declared.value.Reg.{Reg as Register}
 use Rattle.indexmap.specs.IndexMap as map
 use Rattle.air_ir.specs.Operands.{same_home}
 use Rattle.air_ir.specs.declared.operand.Home.{Home}
@@ -13,11 +12,9 @@ use Rattle.air_ir.specs.declared.operand.Arg.{Arg}
 use Rattle.air_ir.specs.declared.operand.Arg.TheVariants.{At, Imm, Addr, Index, FrameSlot}
 use Rattle.air_ir.proofs.HomeLaws.{same_home-false, same_home-refl}
 use Rattle.air_shuffle.specs.Moves.{IsSource, Move, reads}
-use Rattle.air_shuffle.specs.Pending.{Going, Has, one_if, readers}
-use Rattle.air_shuffle.specs.Waiting.{AreCounts, AreWriters, HasFreeBut, IsCounted, IsKept, IsKeptBut, IsSequenceable, IsWriterBelow, changed, count_at, freed, from_scratch, is_left_at, left_of, lowered, move_at, number_of, pending_in, raised, saved, writer_of}
+use Rattle.air_shuffle.specs.Pending.{one_if, readers}
+use Rattle.air_shuffle.specs.Waiting.{AreCounts, AreWriters, HasFreeBut, IsCounted, IsSequenceable, IsWriterBelow, changed, count_at, freed, is_left_at, lowered, move_at, number_of, pending_in, raised, writer_of}
 use Rattle.air_shuffle.specs.declared.pending.Pending.{Pending}
-use Rattle.air_shuffle.proofs.Left.{Splits, left_has, place_of, splits}
-use Rattle.air_shuffle.proofs.Steps.{AreBlocked, blocked-unread, going-move, going-saved, readers-one}
 
 -- ---- the move that writes a source
 
@@ -52,7 +49,7 @@ length-changed f None counts = refl
 -- the count of the destination that is the source changes, and no other one
 count-changed : (f : ℕ → ℕ) (from : Arg) (ms : List Move) (counts : List ℕ) (w : Option ℕ) → IsSequenceable ms → WriterIs ms from w → length counts ≡ length ms → (k : ℕ) → k < length ms
     → ((reads (move_at ms k).to from ≡ true) × (count_at (changed f w counts) k ≡ f (count_at counts k)))
-      ⊎ ((reads (move_at ms k).to from ≡ false) × (count_at (changed f w counts) k ≡ count_at counts k))
+    ⊎ ((reads (move_at ms k).to from ≡ false) × (count_at (changed f w counts) k ≡ count_at counts k))
 count-changed f from ms counts None fine is many k lt = inr (is k lt, refl)
 count-changed f from ms counts (Some j) fine is many k lt = elim (set-count counts j k (f (count_at counts j)) (let lt' = is.0 in omega arith)) [
   | inl here ↦ inl (

@@ -1,24 +1,20 @@
 -- What a Shuffle leaves, and what Moves one after the other leave.
-use Rattle.std.proofs.Common.{◌≡◌, ◌≢◌, ℕ, suc, ◌-◌, ◌⊎◌, inl, inr, Option, Some, None, List, [], ◌∷◌, map, length, Bool, true, false, arith, refl, sym, ap, ◌∙◌, subst}
+use Rattle.std.proofs.Common.{◌≡◌, ◌≢◌, ℕ, suc, ◌-◌, ◌⊎◌, inl, inr, Option, Some, None, List, [], ◌∷◌, map, length, Bool, true, arith, refl, sym, ap, ◌∙◌, subst}
 use Rattle.std.specs.Prelude.{Contains}
-use Rattle.std.proofs.lemmas.Bool.{cases_Bool, false≢true}
 use Rattle.std.proofs.lemmas.List.{length-map}
 use Rattle.b3_base.specs.Observed.{Start}
-use Rattle.b3_base.specs.declared.word.Width.{Width}
 use Rattle.b3_ir.specs.declared.value.Reg.{Reg as Register}
 use Rattle.air_ir.specs.Meaning.{Effect, meaning, operation}
-use Rattle.air_ir.specs.Operands.{Held, Holds, Homes, Read, Target, and_word, put, put_all, read, same_home, targets, word_of, words}
+use Rattle.air_ir.specs.Operands.{Holds, Homes, Read, Target, and_word, put, put_all, read, targets, word_of, words}
 use Rattle.air_ir.specs.Related.{Alike, Copies, IsTarget, Refines}
 use Rattle.air_ir.specs.Steps.{Meaning, Outcome, Undefined, Goes, State, after_reading, carried_out, go_on, junk_words, step, steps}
 use Rattle.air_ir.specs.declared.operand.Home.{Home}
 use Rattle.air_ir.specs.declared.operand.Home.TheVariants.{Reg}
-use Rattle.air_ir.specs.declared.operand.Arg.{Arg}
 use Rattle.air_ir.specs.declared.operand.Arg.TheVariants.{At}
-use Rattle.air_ir.specs.declared.procedure.AirInst.{AirInst}
-use Rattle.air_ir.proofs.HomeLaws.{Refines-at, Refines-same, cases_home, copy-refines, put-other, put-same}
+use Rattle.air_ir.proofs.HomeLaws.{Refines-at, Refines-same, cases_home, copy-refines, put-same}
 use Rattle.air_ir.proofs.Meanings.{copying}
 use Rattle.air_ir.proofs.Writing.{put_all-other}
-use Rattle.air_shuffle.specs.Moves.{DoAtOnce, IsLeftAlike, IsSource, Move, is_self, move_of, pairs, reads, shuffle_of}
+use Rattle.air_shuffle.specs.Moves.{DoAtOnce, IsLeftAlike, Move, is_self, move_of, pairs, shuffle_of}
 use Rattle.air_shuffle.specs.Pending.{AreReady, Differ, Has, HasWord, Parallel, Runs, held, run, taken}
 use Rattle.air_shuffle.proofs.Steps.{reads-at}
 
@@ -202,12 +198,15 @@ module _ (scratch : Register) (all some : List Move) (without : IsWithoutSelf al
       let ready : AreReady all s.homes = are-ready s.homes all ws e in
       let p = shuffled-parallel scratch s.homes all ws e differ in
       let q = parallel s.homes in
-      rw (steps-run (meaning start) value traps done s junk (λ c. copying start (operation (move_of value traps c)) refl) (runs s.homes (λ c h. ready c (without.from c h))))
-      (refl, refl, record {
-        homes = both_refine s.homes (run done s.homes) (put_words s.homes all ws) ready p q;
-        same = λ h ne other. both_same s.homes (run done s.homes) (put_words s.homes all ws) p q h ne (λ c there. other c (has c there));
-        world = refl;
-      })
+      rw (steps-run (meaning start) value traps done s junk (λ c. copying start (operation (move_of value traps c)) refl) (runs s.homes (λ c h. ready c (without.from c h)))) (
+        refl,
+        refl,
+        record {
+          homes = both_refine s.homes (run done s.homes) (put_words s.homes all ws) ready p q;
+          same = λ h ne other. both_same s.homes (run done s.homes) (put_words s.homes all ws) p q h ne (λ c there. other c (has c there));
+          world = refl;
+        },
+      )
 
   pub do_at_once : (done : List Move) → Differ all → ((c : Move) → Has c all → Contains all c)
       → ((t : Homes) → Parallel scratch some t (run done t)) → ((t : Homes) → AreReady some t → Runs done t) → DoAtOnce scratch all done

@@ -1,5 +1,5 @@
 -- Each step of the ordering keeps what is done and pending, and takes from what the pending moves may cost.
-use Rattle.std.proofs.Common.{◌≡◌, ◌≢◌, ℕ, suc, ◌+◌, ◌*◌, ◌≤◌, ◌<◌, inl, inr, Bool, true, false, if◌then◌else◌, List, [], ◌∷◌, ◌++◌, length, arith, refl, sym, ap, ◌∙◌, subst}
+use Rattle.std.proofs.Common.{◌≡◌, ◌≢◌, ℕ, zero, suc, ◌+◌, ◌*◌, ◌≤◌, ◌<◌, inl, inr, Bool, true, false, if◌then◌else◌, List, [], ◌∷◌, ◌++◌, length, arith, refl, sym, ap, ◌∙◌, subst}
 use Rattle.std.proofs.lemmas.Bool.{cases_Bool, false≢true, false_from_ne_true}
 use Rattle.b3_ir.specs.declared.value.Reg.{Reg as Register}
 use Rattle.air_ir.specs.Operands.{Homes, put, same_home}
@@ -9,7 +9,7 @@ use Rattle.air_ir.specs.declared.operand.Arg.{Arg}
 use Rattle.air_ir.specs.declared.operand.Arg.TheVariants.{At, Imm, Addr, Index, FrameSlot}
 use Rattle.air_ir.proofs.HomeLaws.{same_home-false, same_home-refl, same_home-true}
 use Rattle.air_shuffle.specs.Moves.{IsSource, Move, reads}
-use Rattle.air_shuffle.specs.Pending.{AreReady, Differ, Going, Has, HasWord, Parallel, Runs, cost, costs, one_if, readers, run, saves, taken}
+use Rattle.air_shuffle.specs.Pending.{AreReady, Differ, Going, Has, HasWord, Parallel, Runs, Up, cost, costs, one_if, readers, run, saves, taken}
 use Rattle.air_shuffle.specs.Waiting.{from_scratch, saved}
 use Rattle.air_shuffle.proofs.Lists.{has-rest, has-more, has-one, length-one, Alone, pigeonhole}
 use Rattle.air_shuffle.proofs.Parallel.{parallel-first, parallel-saved, ready-first, ready-saved}
@@ -72,7 +72,7 @@ unfolding readers Has
 unread h [] f d has = absurd has
 unread h (c ∷ cs) f d (inl e) =
     false_from_ne_true (reads h d.from) (λ t.
-        let one : one_if (reads h c.from) ≡ 1 = ap one_if (sym (ap (λ (k : Move). reads h k.from) e) ∙ t) in absurd (omega arith))
+    let one : one_if (reads h c.from) ≡ 1 = ap one_if (sym (ap (λ (k : Move). reads h k.from) e) ∙ t) in absurd (omega arith))
 unread h (c ∷ cs) f d (inr has) = unread h cs (omega arith) d has
 
 pub reads-at : (h : Home) (a : Arg) → reads h a ≡ true → a ≡ At h
@@ -144,6 +144,14 @@ blocked-unread scratch cs d apart blocked m h =
     let r = cycles cs d blocked m h in
     false_from_ne_true (reads (Reg scratch) m.from) (λ t. apart r.0 r.1 (at-same r.0.to (Reg scratch) (sym r.2 ∙ reads-at (Reg scratch) m.from t)))
 
+-- and they don't all go up
+no-ascent : (rank : Home → ℕ) (cs : List Move) → Differ cs → AreBlocked cs → Up rank cs → (n : ℕ) (m : Move) → Has m cs → rank m.to < n → ⊥
+no-ascent rank cs d blocked up zero m h lt = omega arith
+no-ascent rank cs d blocked up (suc n) m h lt =
+    let r = cycles cs d blocked m h in
+    let less : rank r.0.to < rank m.to = up m h r.0.to r.2 in
+    no-ascent rank cs d blocked up n r.0 r.1 (omega arith)
+
 -- ---- the steps
 cost-some : (scratch : Register) (c : Move) → 1 ≤ cost scratch c
 cost-some scratch c = elim (cases_Bool (reads (Reg scratch) c.from)) [ inl t ↦ rw t (omega arith) | inr f ↦ rw f (omega arith) ]
@@ -164,6 +172,7 @@ going-first scratch whole d apart sources = record {
   runs = λ s ready. (tt, ready);
   bound = let m = costs-most scratch whole in omega arith;
   made = omega arith;
+  plain = λ rank up. (refl, up);
   differ = d;
   apart = apart;
   sources = sources;
@@ -192,6 +201,12 @@ going-move scratch whole done bs cs c free g =
       made =
           let m = g.made in let l = length-then done c in let e = length-one c bs cs in let n = saves-then scratch done c in
           let zero : one_if (same_home c.to (Reg scratch)) ≡ 0 = ap one_if (same_home-false c.to (Reg scratch) apart) in omega arith;
+      plain = λ rank up.
+          let r = g.plain rank up in
+          let n = saves-then scratch done c in
+          let none : one_if (same_home c.to (Reg scratch)) ≡ 0 = ap one_if (same_home-false c.to (Reg scratch) apart) in
+          let before = r.0 in
+          (omega arith, λ d h. r.1 d (has-more d c bs cs h));
       differ = differ-rest bs cs c g.differ;
       apart = λ d h. g.apart d (has-more d c bs cs h);
       sources = from;
@@ -217,6 +232,7 @@ going-saved scratch whole done bs cs c blocked g =
           let m = g.made in let l = length-then done (saved scratch c) in let e = length-one c bs cs in let e' = length-one c' bs cs in
           let n = saves-then scratch done (saved scratch c) in
           let more : one_if (same_home (Reg scratch) (Reg scratch)) ≡ 1 = ap one_if (same_home-refl (Reg scratch)) in omega arith;
+      plain = λ rank up. absurd (no-ascent rank (bs ++ c ∷ cs) g.differ blocked (g.plain rank up).1 (suc (rank c.to)) c (has-one c bs cs) (omega arith));
       differ = differ-same bs cs c c' refl g.differ;
       apart = λ d h. elim (has-rest d c' bs cs h) [
         | inl e ↦ λ same. g.apart c (has-one c bs cs) (sym (ap (λ (k : Move). k.to) e) ∙ same)

@@ -1,5 +1,5 @@
 -- What is left after a move was done, or its source saved.
-use Rattle.std.proofs.Common.{◌≡◌, ◌≢◌, ℕ, zero, suc, ◌+◌, ◌<◌, ◌⊎◌, inl, inr, Bool, true, false, Option, Some, None, List, [], ◌∷◌, ◌++◌, length, arith, refl, sym, ap, ◌∙◌, subst}
+use Rattle.std.proofs.Common.{◌≡◌, ◌≢◌, ℕ, suc, ◌+◌, ◌<◌, ◌⊎◌, inl, inr, Bool, true, false, Some, List, [], ◌∷◌, ◌++◌, length, arith, refl, sym, ap, ◌∙◌, subst}
 use Rattle.std.specs.Prelude.{Contains, slice_index_or, slice_set}
 use Rattle.std.proofs.lemmas.Bool.{cases_eq, false≢true, false_from_ne_true}
 use Rattle.std.proofs.lemmas.List.{get_or-set_other, get_or-set_same, length-set}
@@ -11,12 +11,12 @@ use Rattle.air_ir.specs.declared.operand.Arg.{Arg}
 use Rattle.air_ir.specs.declared.operand.Arg.TheVariants.{At}
 use Rattle.air_ir.proofs.HomeLaws.{same_home-false, same_home-refl}
 use Rattle.air_shuffle.specs.Moves.{IsSource, Move, reads}
-use Rattle.air_shuffle.specs.Pending.{Going, Has, one_if, readers}
+use Rattle.air_shuffle.specs.Pending.{Going, one_if, readers}
 use Rattle.air_shuffle.specs.Waiting.{HasFreeBut, IsCounted, IsKept, IsKeptBut, count_at, freed, from_scratch, is_left_at, left_of, lowered, move_at, pending_in, saved, writer_of}
 use Rattle.air_shuffle.specs.declared.pending.Pending.{Pending}
 use Rattle.air_shuffle.proofs.Lists.{length-one}
 use Rattle.air_shuffle.proofs.Left.{Splits, left_has, place_of, splits}
-use Rattle.air_shuffle.proofs.Releasing.{IsLess, Releases, WriterIs, count-some, released-counted, released-free, writer_is}
+use Rattle.air_shuffle.proofs.Releasing.{Releases, WriterIs, count-some, released-counted, released-free, writer_is}
 use Rattle.air_shuffle.proofs.Steps.{AreBlocked, blocked-unread, going-move, going-saved, readers-one}
 
 abbrev pub from_at : Pending → ℕ → Arg
@@ -227,7 +227,7 @@ popped-free p q k f moves left counts e = record {
       (subst (λ (ms : List Move). i < length ms) (sym moves) s.0, ap (λ (l : List ℕ). count_at l i) counts ∙ s.1);
   complete = λ i lt there z but.
       let all = f.complete i (subst (λ (ms : List Move). i < length ms) moves lt) (ap (λ (ls : List Bool). slice_index_or ls i false) (sym left) ∙ there)
-          (ap (λ (l : List ℕ). count_at l i) (sym counts) ∙ z) (λ x. x) in
+      (ap (λ (l : List ℕ). count_at l i) (sym counts) ∙ z) (λ x. x) in
       elim (Contains-push_cases q.free.items k i (subst (λ (l : List ℕ). Contains l i) e all)) [ inl old ↦ old | inr same ↦ absurd (but (sym same)) ];
 }
 

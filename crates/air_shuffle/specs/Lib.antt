@@ -1,3 +1,4 @@
 pub mod Moves
 pub mod Pending
 pub mod Waiting
+pub mod Tested

@@ -1,5 +1,5 @@
 -- Moves carried out one after the other, and all at once by a Shuffle.
-use Rattle.std.specs.Prelude.{◌≡◌, ◌≢◌, ℕ, Bool, true, false, List, [], ◌∷◌, map, Contains}
+use Rattle.std.specs.Prelude.{◌≡◌, ◌≢◌, ◌<◌, ℕ, Bool, true, false, List, [], ◌∷◌, map, Contains}
 use Rattle.b3_base.specs.Observed.{Start}
 use Rattle.b3_ir.specs.declared.value.Reg.{Reg as Register}
 use Rattle.air_ir.specs.Meaning.{meaning}
@@ -34,6 +34,10 @@ reads h (FrameSlot number) = false
 abbrev pub is_self : Move → Bool
 is_self c = reads c.to c.from
 
+-- homes have ranks, and each move but those from a home to itself goes up: then the moves make no cycle
+abbrev pub GoUp : (Home → ℕ) → List Move → Type 0
+GoUp rank cs = (c : Move) → Contains cs c → is_self c ≡ false → (h : Home) → c.from ≡ At h → rank h < rank c.to
+
 -- to this home
 abbrev pub writes : Home → Move → Bool
 writes h c = same_home c.to h
@@ -66,4 +70,4 @@ abbrev pub DoAtOnce : Register → List Move → List Move → Type 0
 DoAtOnce scratch cs done =
     (start : Start) (value : ℕ) (traps : Bool) (s : State) (junk : List ℕ)
     → Alike (IsLeftAlike scratch cs) (step (meaning start) (shuffle_of value traps cs) s junk)
-      (steps (meaning start) (map (move_of value traps) done) s junk)
+    (steps (meaning start) (map (move_of value traps) done) s junk)

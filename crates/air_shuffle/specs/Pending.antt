@@ -1,10 +1,11 @@
 -- No public clause cites this module. What is left to do while moves are put in order.
-use Rattle.std.specs.Prelude.{◌≡◌, ◌≢◌, ℕ, ◌+◌, ◌*◌, ◌≤◌, ◌⊎◌, Bool, if◌then◌else◌, List, [], ◌∷◌, length, Option, Some, None}
+use Rattle.std.specs.Prelude.{◌≡◌, ◌≢◌, ℕ, ◌+◌, ◌*◌, ◌<◌, ◌≤◌, ◌⊎◌, Bool, if◌then◌else◌, List, [], ◌∷◌, length, Option, Some, None}
 use Rattle.b3_base.specs.declared.word.Width.{Width}
 use Rattle.b3_ir.specs.declared.value.Reg.{Reg as Register}
 use Rattle.air_ir.specs.Operands.{Held, Empty, Holds, Homes, put, same_home, word_of}
 use Rattle.air_ir.specs.declared.operand.Home.{Home}
 use Rattle.air_ir.specs.declared.operand.Home.TheVariants.{Reg}
+use Rattle.air_ir.specs.declared.operand.Arg.TheVariants.{At}
 use Rattle.air_shuffle.specs.Moves.{IsSource, Move, reads}
 
 -- ---- moves by what homes hold
@@ -71,12 +72,17 @@ unfoldable pub costs : Register → List Move → ℕ
 costs scratch [] = 0
 costs scratch (c ∷ cs) = cost scratch c + costs scratch cs
 
+-- each goes up by the ranks of homes
+abbrev pub Up : (Home → ℕ) → List Move → Type 0
+Up rank cs = (c : Move) → Has c cs → (h : Home) → c.from ≡ At h → rank h < rank c.to
+
 -- the moves that are done and those that are pending do what the whole does
 pub record Going (scratch : Register) (whole done pending : List Move) : Type 0 where
   pub means : (s t : Homes) → Parallel scratch pending (run done s) t → Parallel scratch whole s t
   pub runs : (s : Homes) → AreReady whole s → Runs done s × AreReady pending (run done s)
   pub bound : length done + costs scratch pending ≤ 2 * length whole
   pub made : length done + length pending ≡ length whole + saves scratch done
+  pub plain : (rank : Home → ℕ) → Up rank whole → (saves scratch done ≡ 0) × Up rank pending
   pub differ : Differ pending
   pub apart : (c : Move) → Has c pending → c.to ≢ Reg scratch
   pub sources : (c : Move) → Has c pending → IsSource c.from

@@ -1,9 +1,10 @@
 //! Moves in order that do what moves do at once.
 
-ghost use Rattle.std.specs.Prelude.{◌≡◌, ◌≢◌, ◌+◌, ◌*◌, ◌≤◌, All, AllPairs, IfOk, length};
+ghost use Rattle.std.specs.Prelude.{◌≡◌, ◌≢◌, ℕ, ◌+◌, ◌*◌, ◌≤◌, All, AllPairs, IfOk, length};
 ghost use Rattle.std.specs.List.{count_by};
+ghost use Rattle.air_ir.specs.declared.operand.Home.{Home};
 ghost use Rattle.air_ir.specs.declared.operand.Home.TheVariants as home;
-ghost use Rattle.air_shuffle.specs.Moves.{DoAtOnce, IsSource, is_self, writes};
+ghost use Rattle.air_shuffle.specs.Moves.{DoAtOnce, GoUp, IsSource, is_self, writes};
 
 use crate::moves::{Move, Moves};
 use crate::pending::Pending;
@@ -19,6 +20,8 @@ pub fn sequence(alloc: Global, moves: &[Move], scratch: Reg) -> Result<Moves, No
     ensures at_once { IfOk result (DoAtOnce scratch moves.now) }
     ensures length { IfOk result (λ done. length done + count_by is_self moves.now
         ≡ length moves.now + count_by (writes (home.Reg scratch)) done) }
+    ensures straight { IfOk result (λ done. (rank : Home → ℕ) → GoUp rank moves.now
+        → count_by (writes (home.Reg scratch)) done ≡ 0) }
     ensures few { IfOk result (λ done. length done + 2 * count_by is_self moves.now ≤ 2 * length moves.now) }
 {
     let mut pending = Pending::new(alloc, moves, scratch)?;

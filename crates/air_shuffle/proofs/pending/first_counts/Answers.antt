@@ -1,9 +1,9 @@
-use Rattle.std.proofs.Common.{◌≡◌, ℕ, ◌+◌, ◌<◌, ◌^◌, true, false, Some, List, length, take, arith, refl, sym, ap, ◌∙◌, subst}
+use Rattle.std.proofs.Common.{◌≡◌, ℕ, ◌+◌, ◌<◌, ◌^◌, Some, List, length, take, arith, refl, sym, ap, ◌∙◌, subst}
 use Rattle.std.specs.Prelude.{slice_index_or}
-use Rattle.std.proofs.lemmas.List.{length-replicate, take_all}
+use Rattle.std.proofs.lemmas.List.{length-replicate}
 use Rattle.air_ir.specs.declared.operand.Arg.{Arg}
 use Rattle.air_shuffle.specs.Moves.{Move}
-use Rattle.air_shuffle.specs.Waiting.{AreCounts, count_at, left_of, move_at, writer_of}
+use Rattle.air_shuffle.specs.Waiting.{AreCounts, left_of, move_at, writer_of}
 use Rattle.air_shuffle.proofs.Counting.{count-most, counts-none, counts-step, left_no}
 use Rattle.air_shuffle.proofs.Left.{if_some}
 use Rattle.air_shuffle.proofs.Releasing.{WriterIs, writer_is}

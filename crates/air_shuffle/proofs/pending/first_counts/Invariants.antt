@@ -1,4 +1,4 @@
-use Rattle.std.proofs.Common.{◌≡◌, length, replicate, take}
+use Rattle.std.proofs.Common.{◌≡◌, replicate, take}
 use Rattle.air_shuffle.specs.Waiting.{AreCounts, left_of}
 use Rattle.air_shuffle.proofs.pending.first_counts.Given as goal
 

@@ -1,4 +1,4 @@
-use Rattle.std.proofs.Common.{◌≡◌, ℕ, ◌+◌, List, length, arith, sym, ap, ◌∙◌, subst}
+use Rattle.std.proofs.Common.{◌+◌, arith, sym, subst}
 use Rattle.air_shuffle.proofs.Counting.{FreeBelow, free-all, free-more, free-none, free-same}
 use Rattle.air_shuffle.proofs.pending.first_free.Goals as goal
 use Rattle.air_shuffle.proofs.pending.first_free.Goals.{then-counts-place-eq0+in_ok-push, else-counts-place-eq0}

@@ -1,5 +1,4 @@
-use Rattle.std.proofs.Common.{◌≡◌, ℕ, suc, ◌+◌, ◌*◌, ◌<◌, ◌≤◌, Bool, true, false, ◌∷◌, ◌++◌, [], List, length, length-append, arith, refl, sym, ap, ◌∙◌, subst}
-use Rattle.std.specs.Prelude.{slice_index_or}
+use Rattle.std.proofs.Common.{◌≡◌, ℕ, suc, ◌+◌, ◌*◌, ◌<◌, ◌≤◌, false, ◌∷◌, ◌++◌, [], List, length, length-append, arith, refl, sym, ap, ◌∙◌, subst}
 use Rattle.b3_ir.specs.declared.value.Reg.{Reg as Register}
 use Rattle.air_shuffle.specs.Moves.{Move}
 use Rattle.air_shuffle.specs.Pending.{Going}

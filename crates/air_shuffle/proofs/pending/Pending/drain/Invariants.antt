@@ -1,5 +1,4 @@
 use Rattle.std.proofs.Common.{◌≡◌, ℕ, ◌+◌, ◌*◌, true, List, length}
-use Rattle.std.specs.Prelude.{slice_index_or}
 use Rattle.air_shuffle.specs.Moves.{Move}
 use Rattle.air_shuffle.specs.Pending.{Going}
 use Rattle.air_shuffle.specs.Waiting.{IsKept, is_left_at, pending_in}
