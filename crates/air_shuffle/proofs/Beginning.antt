@@ -1,0 +1,88 @@
+-- What is left at first, and at last.
+use Rattle.std.proofs.Common.{◌≡◌, ◌≢◌, ℕ, ◌+◌, ◌<◌, ◌≤◌, inl, inr, Bool, true, false, List, [], ◌∷◌, length, All, arith, refl, sym, ap, ◌∙◌, subst}
+use Rattle.std.specs.Prelude.{AllPairs, not}
+use Rattle.std.specs.List.{count_by}
+use Rattle.std.proofs.lemmas.Bool.{cases_order}
+use Rattle.std.proofs.lemmas.List.{length-map}
+use Rattle.std.proofs.lemmas.List.Elements.{All-get_or}
+use Rattle.std.proofs.lemmas.List.Sums.{sum_by-cons}
+use Rattle.b3_ir.specs.declared.value.Reg.{Reg as Register}
+use Rattle.air_ir.specs.declared.operand.Home.{Home}
+use Rattle.air_ir.specs.declared.operand.Home.TheVariants.{Reg}
+use Rattle.air_shuffle.specs.Moves.{GoUp, IsSource, Move, is_self, writes}
+use Rattle.air_shuffle.specs.Pending.{Going, one_if, saves}
+use Rattle.air_shuffle.specs.Waiting.{AreCounts, AreFree, AreWriters, IsKept, IsSequenceable, is_left_at, left_of, move_at, no_move, pending_in}
+use Rattle.air_shuffle.specs.declared.pending.Pending.{Pending}
+use Rattle.air_shuffle.proofs.Left.{differ_left, has-contains, none_left, others, others-from, others-self, place_of}
+use Rattle.air_shuffle.proofs.Steps.{going-first}
+
+pub sequenceable : (ms : List Move) → All (λ (c : Move). IsSource c.from) ms → AllPairs (λ (c d : Move). c.to ≢ d.to) ms → IsSequenceable ms
+sequenceable ms sources differ = record {
+  sources = λ k lt. All-get_or (λ (c : Move). IsSource c.from) ms k no_move lt sources;
+  differ = λ i k lt lt' e. elim (cases_order i k) [
+    | inl same ↦ same
+    | inr (inl less) ↦ absurd (differ i k no_move less lt' e)
+    | inr (inr more) ↦ absurd (differ k i no_move more lt (sym e))
+  ];
+}
+
+pub apart-at : (scratch : Register) (ms : List Move) → All (λ (c : Move). c.to ≢ Reg scratch) ms → (k : ℕ) → k < length ms → (move_at ms k).to ≢ Reg scratch
+apart-at scratch ms apart k lt = All-get_or (λ (c : Move). c.to ≢ Reg scratch) ms k no_move lt apart
+
+-- what Pending::new gives
+pub record First (ms : List Move) (p : Pending) : Type 0 where
+  pub sound : IsSequenceable ms
+  pub apart : (k : ℕ) → k < length ms → (move_at ms k).to ≢ Reg p.scratch
+  pub writers : AreWriters ms p.writers
+  pub left : p.left.items ≡ others ms
+  pub counts : AreCounts ms (left_of ms p.left.items) p.counts.items
+  pub free : AreFree p.counts.items p.free.items
+
+pub first-kept : (p : Pending) → First p.moves.items p → IsKept p
+first-kept p f = record {
+  counted = record { many = ap length f.left ∙ length-map p.moves.items (λ (c : Move). not (is_self c)); sound = f.sound; apart = f.apart; writers = f.writers; counts = f.counts };
+  free = record {
+    sound = λ k has. let s = (f.free).sound k has in ((let lt = s.0 in let many = (f.counts).many in omega arith), s.1);
+    complete = λ k lt left z but. (f.free).complete k (let many = (f.counts).many in omega arith) z;
+  };
+}
+
+pub first-going : (scratch : Register) (ms : List Move) → IsSequenceable ms → ((k : ℕ) → k < length ms → (move_at ms k).to ≢ Reg scratch)
+    → Going scratch (left_of ms (others ms)) [] (left_of ms (others ms))
+first-going scratch ms fine apart =
+    going-first scratch (left_of ms (others ms)) (differ_left ms (others ms) fine)
+    (λ c has. let r = place_of ms (others ms) c has in λ e. apart r.at r.within (sym (ap (λ (m : Move). m.to) r.is) ∙ e))
+    (λ c has. let r = place_of ms (others ms) c has in subst (λ (m : Move). IsSource m.from) (sym r.is) (fine.sources r.at r.within))
+
+-- ---- numbers of moves
+
+count-cons : (p : Move → Bool) (c : Move) (cs : List Move) → count_by p (c ∷ cs) ≡ one_if (p c) + count_by p cs
+count-cons p c cs = sum_by-cons (λ (m : Move). one_if (p m)) c cs
+
+others-by : (c : Move) (cs : List Move) (b : Bool) → b ≡ is_self c → length (left_of cs (others cs)) + count_by is_self cs ≡ length cs
+    → length (left_of (c ∷ cs) (not b ∷ others cs)) + count_by is_self (c ∷ cs) ≡ length (c ∷ cs)
+unfolding left_of
+others-by c cs true e rest = let n = count-cons is_self c cs in let one : one_if (is_self c) ≡ 1 = ap one_if (sym e) in omega arith
+others-by c cs false e rest = let n = count-cons is_self c cs in let none : one_if (is_self c) ≡ 0 = ap one_if (sym e) in omega arith
+
+pub count-others : (ms : List Move) → length (left_of ms (others ms)) + count_by is_self ms ≡ length ms
+unfolding left_of
+count-others [] = refl
+count-others (c ∷ cs) = others-by c cs (is_self c) refl (count-others cs)
+
+pub count-saves : (scratch : Register) (done : List Move) → saves scratch done ≡ count_by (writes (Reg scratch)) done
+unfolding saves
+count-saves scratch [] = refl
+count-saves scratch (c ∷ cs) = let n = count-cons (writes (Reg scratch)) c cs in let rest = count-saves scratch cs in omega arith
+
+-- ---- at last
+
+-- nothing is left once each place was passed
+pub ended : (scratch : Register) (whole done : List Move) (p : Pending) (place n : ℕ) → n ≤ place → length p.moves.items ≡ n → ((k : ℕ) → k < place → is_left_at p k ≡ false)
+    → Going scratch whole done (pending_in p) → Going scratch whole done []
+ended scratch whole done p place n le many behind g = subst (Going scratch whole done) (none_left p.moves.items p.left.items (λ k lt. behind k (omega arith))) g
+
+-- nothing is saved where each move goes up
+pub straight : (scratch : Register) (ms done : List Move) → Going scratch (left_of ms (others ms)) done [] → (rank : Home → ℕ) → GoUp rank ms → count_by (writes (Reg scratch)) done ≡ 0
+straight scratch ms done g rank up =
+    sym (count-saves scratch done) ∙ (g.plain rank (λ c has h e. up c (has-contains c ms (others-from c ms has)) (others-self c ms has) h e)).0

@@ -1,0 +1,10 @@
+pub mod Lists
+pub mod Parallel
+pub mod Steps
+pub mod Shuffles
+pub mod Left
+pub mod Releasing
+pub mod Taking
+pub mod Counting
+pub mod Beginning
+pub mod Going

@@ -1,0 +1,254 @@
+-- What is left after a move was done, or its source saved.
+use Rattle.std.proofs.Common.{◌≡◌, ◌≢◌, ℕ, suc, ◌+◌, ◌<◌, ◌⊎◌, inl, inr, Bool, true, false, Some, List, [], ◌∷◌, ◌++◌, length, arith, refl, sym, ap, ◌∙◌, subst}
+use Rattle.std.specs.Prelude.{Contains, slice_index_or, slice_set}
+use Rattle.std.proofs.lemmas.Bool.{cases_eq, false≢true, false_from_ne_true}
+use Rattle.std.proofs.lemmas.List.{get_or-set_other, get_or-set_same, length-set}
+use Rattle.std.proofs.lemmas.List.Elements.{Contains-append_left, Contains-push, Contains-push_cases}
+use Rattle.b3_ir.specs.declared.value.Reg.{Reg as Register}
+use Rattle.air_ir.specs.declared.operand.Home.{Home}
+use Rattle.air_ir.specs.declared.operand.Home.TheVariants.{Reg}
+use Rattle.air_ir.specs.declared.operand.Arg.{Arg}
+use Rattle.air_ir.specs.declared.operand.Arg.TheVariants.{At}
+use Rattle.air_ir.proofs.HomeLaws.{same_home-false, same_home-refl}
+use Rattle.air_shuffle.specs.Moves.{IsSource, Move, reads}
+use Rattle.air_shuffle.specs.Pending.{Going, one_if, readers}
+use Rattle.air_shuffle.specs.Waiting.{HasFreeBut, IsCounted, IsKept, IsKeptBut, count_at, freed, from_scratch, is_left_at, left_of, lowered, move_at, pending_in, saved, writer_of}
+use Rattle.air_shuffle.specs.declared.pending.Pending.{Pending}
+use Rattle.air_shuffle.proofs.Lists.{length-one}
+use Rattle.air_shuffle.proofs.Left.{Splits, left_has, place_of, splits}
+use Rattle.air_shuffle.proofs.Releasing.{Releases, WriterIs, count-some, released-counted, released-free, writer_is}
+use Rattle.air_shuffle.proofs.Steps.{AreBlocked, blocked-unread, going-move, going-saved, readers-one}
+
+abbrev pub from_at : Pending → ℕ → Arg
+from_at p k = (move_at p.moves.items k).from
+
+-- a move of these is left
+pub record IsLeft (p : Pending) (k : ℕ) : Type 0 where
+  pub within : k < length p.moves.items
+  pub left : is_left_at p k ≡ true
+
+abbrev split_in : (p : Pending) (k : ℕ) → IsCounted p → IsLeft p k → Splits p.moves.items p.left.items k
+split_in p k g there = splits p.moves.items p.left.items k there.within g.many there.left
+
+-- ---- a move is done
+
+pub record IsGone (p q : Pending) (k : ℕ) : Type 0 where
+  pub moves : q.moves.items ≡ p.moves.items
+  pub left : q.left.items ≡ slice_set p.left.items k false
+
+pub record IsDone (p q : Pending) (k : ℕ) : Type 0 where
+  pub gone : IsGone p q k
+  pub scratch : q.scratch ≡ p.scratch
+  pub writers : q.writers ≡ p.writers
+  pub counts : q.counts.items ≡ lowered (writer_of p.writers (from_at p k)) p.counts.items
+
+done-pending : (p q : Pending) (k : ℕ) (g : IsCounted p) (there : IsLeft p k) → IsGone p q k → pending_in q ≡ (split_in p k g there).before ++ (split_in p k g there).after
+done-pending p q k g there d =
+    let r = split_in p k g there in
+    ap (λ (ms : List Move). left_of ms q.left.items) d.moves ∙ ap (left_of p.moves.items) d.left ∙ r.gone
+
+readers-less : (h : Home) (pend before after : List Move) (c : Move) → pend ≡ before ++ c ∷ after → readers h pend ≡ one_if (reads h c.from) + readers h (before ++ after)
+readers-less h pend before after c e = ap (readers h) e ∙ readers-one h before after c
+
+pub done-releases : (p q : Pending) (k : ℕ) → IsCounted p → IsLeft p k → IsDone p q k → Releases (from_at p k) p q
+done-releases p q k g there d =
+    let r = split_in p k g there in
+    let c : Move = move_at p.moves.items k in
+    let to : (i : ℕ) → move_at q.moves.items i ≡ move_at p.moves.items i = λ i. ap (λ (ms : List Move). move_at ms i) d.gone.moves in
+    record {
+      is = (g.sound).sources k there.within;
+      scratch = d.scratch;
+      less = record {
+        many = ap length d.gone.moves;
+        to = λ i. ap (λ (m : Move). m.to) (to i);
+        less = λ i lt. readers-less (move_at p.moves.items i).to (pending_in p) r.before r.after c r.whole
+            ∙ ap (λ (l : List Move). one_if (reads (move_at p.moves.items i).to c.from) + readers (move_at p.moves.items i).to l) (sym (done-pending p q k g there d.gone));
+      };
+      many = ap length d.gone.left ∙ length-set p.left.items k false;
+      sources = λ i lt. subst (λ (m : Move). IsSource m.from) (sym (to i)) ((g.sound).sources i lt);
+      writers = d.writers;
+      counts = d.counts;
+    }
+
+set-left : (ls : List Bool) (k i : ℕ) → k < length ls → slice_index_or (slice_set ls k false) i false ≡ true → (i ≢ k) × (slice_index_or ls i false ≡ true)
+set-left ls k i lt left = elim (cases_eq i k) [
+  | inl e ↦ absurd (false≢true (sym (ap (λ (j : ℕ). slice_index_or (slice_set ls k false) j false) e ∙ get_or-set_same ls k false false lt) ∙ left))
+  | inr ne ↦ (ne, sym (get_or-set_other ls k i false false ne) ∙ left)
+]
+
+pub still_left : (p q : Pending) (k i : ℕ) → IsCounted p → k < length p.moves.items → q.left.items ≡ slice_set p.left.items k false → is_left_at q i ≡ true
+    → (i ≢ k) × (is_left_at p i ≡ true)
+still_left p q k i g lt e left =
+    let many = g.many in
+    set-left p.left.items k i (omega arith) (ap (λ (ls : List Bool). slice_index_or ls i false) (sym e) ∙ left)
+
+pub done-kept : (p q : Pending) (k : ℕ) → IsKeptBut k p → IsLeft p k → IsDone p q k → q.free.items ≡ freed (writer_of p.writers (from_at p k)) q.counts.items p.free.items → IsKept q
+done-kept p q k kept there d e =
+    let g = kept.counted in
+    let r = done-releases p q k g there d in
+    let less = λ (i : ℕ) (left : is_left_at q i ≡ true). still_left p q k i g there.within d.gone.left left in
+    record {
+      counted = released-counted (from_at p k) p q g r;
+      free = released-free (from_at p k) (λ i. i ≡ k) p q g r kept.free (λ i left. (less i left).1) (λ i but left. (less i left).0 but) e;
+    }
+
+-- ---- a source is saved
+
+pub record IsMoved (p q : Pending) (k : ℕ) : Type 0 where
+  pub moves : q.moves.items ≡ slice_set p.moves.items k (from_scratch p.scratch (move_at p.moves.items k))
+  pub left : q.left.items ≡ p.left.items
+
+pub record IsSaved (p q : Pending) (k : ℕ) : Type 0 where
+  pub moved : IsMoved p q k
+  pub scratch : q.scratch ≡ p.scratch
+  pub writers : q.writers ≡ p.writers
+  pub counts : q.counts.items ≡ lowered (writer_of p.writers (from_at p k)) p.counts.items
+
+saved-pending : (p q : Pending) (k : ℕ) (g : IsCounted p) (there : IsLeft p k) → IsMoved p q k
+    → pending_in q ≡ (split_in p k g there).before ++ from_scratch p.scratch (move_at p.moves.items k) ∷ (split_in p k g there).after
+saved-pending p q k g there d =
+    let r = split_in p k g there in
+    ap (λ (ms : List Move). left_of ms q.left.items) d.moves ∙ ap (left_of (slice_set p.moves.items k (from_scratch p.scratch (move_at p.moves.items k)))) d.left
+    ∙ r.changed (from_scratch p.scratch (move_at p.moves.items k))
+
+set-move : (ms : List Move) (k i : ℕ) (c : Move) → k < length ms → ((i ≡ k) × (move_at (slice_set ms k c) i ≡ c)) ⊎ (move_at (slice_set ms k c) i ≡ move_at ms i)
+set-move ms k i c lt = elim (cases_eq i k) [
+  | inl e ↦ inl (e, ap (move_at (slice_set ms k c)) e ∙ get_or-set_same ms k c _ lt)
+  | inr ne ↦ inr (get_or-set_other ms k i c _ ne)
+]
+
+set-to : (scratch : Register) (ms : List Move) (k i : ℕ) → k < length ms → (move_at (slice_set ms k (from_scratch scratch (move_at ms k))) i).to ≡ (move_at ms i).to
+set-to scratch ms k i lt = elim (set-move ms k i (from_scratch scratch (move_at ms k)) lt) [
+  | inl here ↦ ap (λ (m : Move). m.to) here.1 ∙ ap (λ (j : ℕ). (move_at ms j).to) (sym here.0)
+  | inr there ↦ ap (λ (m : Move). m.to) there
+]
+
+set-source : (scratch : Register) (ms : List Move) (k i : ℕ) → k < length ms → IsSource (move_at ms i).from → IsSource (move_at (slice_set ms k (from_scratch scratch (move_at ms k))) i).from
+set-source scratch ms k i lt is = elim (set-move ms k i (from_scratch scratch (move_at ms k)) lt) [
+  | inl here ↦ subst (λ (m : Move). IsSource m.from) (sym here.1) tt
+  | inr there ↦ subst (λ (m : Move). IsSource m.from) (sym there) is
+]
+
+pub saved-releases : (p q : Pending) (k : ℕ) → IsCounted p → IsLeft p k → IsSaved p q k → Releases (from_at p k) p q
+saved-releases p q k g there d =
+    let r = split_in p k g there in
+    let c : Move = move_at p.moves.items k in
+    let c' : Move = from_scratch p.scratch c in
+    let same : (i : ℕ) → move_at q.moves.items i ≡ move_at (slice_set p.moves.items k c') i = λ i. ap (λ (ms : List Move). move_at ms i) d.moved.moves in
+    record {
+      is = (g.sound).sources k there.within;
+      scratch = d.scratch;
+      less = record {
+        many = ap length d.moved.moves ∙ length-set p.moves.items k c';
+        to = λ i. ap (λ (m : Move). m.to) (same i) ∙ set-to p.scratch p.moves.items k i there.within;
+        less = λ i lt.
+            let h : Home = (move_at p.moves.items i).to in
+            let now : readers h (pending_in q) ≡ one_if (reads h c'.from) + readers h (r.before ++ r.after) = readers-less h (pending_in q) r.before r.after c' (saved-pending p q k g there d.moved) in
+            let none : one_if (reads h c'.from) ≡ 0 = ap one_if (same_home-false (Reg p.scratch) h (λ e. g.apart i lt (sym e))) in
+            let was : readers h (pending_in p) ≡ one_if (reads h c.from) + readers h (r.before ++ r.after) = readers-less h (pending_in p) r.before r.after c r.whole in
+            omega arith;
+      };
+      many = ap length d.moved.left;
+      sources = λ i lt. subst (λ (m : Move). IsSource m.from) (sym (same i)) (set-source p.scratch p.moves.items k i there.within ((g.sound).sources i lt));
+      writers = d.writers;
+      counts = d.counts;
+    }
+
+pub saved-kept : (p q : Pending) (k : ℕ) → IsKept p → IsLeft p k → IsSaved p q k → q.free.items ≡ freed (writer_of p.writers (from_at p k)) q.counts.items p.free.items → IsKept q
+saved-kept p q k kept there d e =
+    let g = kept.counted in
+    let r = saved-releases p q k g there d in
+    record {
+      counted = released-counted (from_at p k) p q g r;
+      free = released-free (from_at p k) (λ i. ⊥) p q g r kept.free (λ i left. ap (λ (ls : List Bool). slice_index_or ls i false) (sym d.moved.left) ∙ left) (λ i but left. but) e;
+    }
+
+-- ---- what a release asks
+
+pub released-there : (p : Pending) (k j : ℕ) → IsCounted p → IsLeft p k → writer_of p.writers (from_at p k) ≡ Some j → (j < length p.counts.items) × (0 < count_at p.counts.items j)
+released-there p k j g there e =
+    let r = split_in p k g there in
+    let c : Move = move_at p.moves.items k in
+    let w : WriterIs p.moves.items c.from (Some j) = subst (WriterIs p.moves.items c.from) e (writer_is p.moves.items p.writers c.from g.writers ((g.sound).sources k there.within)) in
+    count-some c.from p.moves.items p.moves.items (pending_in p) (r.before ++ r.after) p.counts.items j w
+    (record { many = refl; to = λ i. refl; less = λ i lt. readers-less (move_at p.moves.items i).to (pending_in p) r.before r.after c r.whole }) g.counts
+
+-- ---- what is done and what is left
+
+pub done-going : (whole done : List Move) (p q : Pending) (k : ℕ) → IsCounted p → IsLeft p k → IsGone p q k → count_at p.counts.items k ≡ 0
+    → Going p.scratch whole done (pending_in p) → Going p.scratch whole (done ++ move_at p.moves.items k ∷ []) (pending_in q)
+done-going whole done p q k g there d free going =
+    let r = split_in p k g there in
+    let c : Move = move_at p.moves.items k in
+    let counted = (g.counts).are k there.within in
+    let less = readers-less c.to (pending_in p) r.before r.after c r.whole in
+    let none : readers c.to (r.before ++ r.after) ≡ 0 = omega arith in
+    subst (Going p.scratch whole (done ++ c ∷ [])) (sym (done-pending p q k g there d))
+    (going-move p.scratch whole done r.before r.after c none (subst (Going p.scratch whole done) r.whole going))
+
+-- where no move is free each destination is read
+pub blocked : (p : Pending) → IsKept p → p.free.items ≡ [] → AreBlocked (pending_in p)
+blocked p kept none = λ c has.
+    let r = place_of p.moves.items p.left.items c has in
+    let counted = (kept.counted.counts).are r.at r.within in
+    let same : readers c.to (pending_in p) ≡ readers (move_at p.moves.items r.at).to (pending_in p) = ap (λ (m : Move). readers m.to (pending_in p)) r.is in
+    elim (cases_eq (count_at p.counts.items r.at) 0) [
+      | inl z ↦ absurd (nothing (subst (λ (l : List ℕ). Contains l r.at) none ((kept.free).complete r.at r.within r.left z (λ x. x))))
+      | inr some ↦ omega (arith, counted, same, some)
+    ]
+  where
+    nothing : {k : ℕ} → Contains [] k → ⊥
+    nothing has = let lt = has.1 in omega arith
+
+pub saved-going : (whole done : List Move) (p q : Pending) (k : ℕ) → IsKept p → p.free.items ≡ [] → IsLeft p k → IsMoved p q k → Going p.scratch whole done (pending_in p)
+    → Going p.scratch whole (done ++ saved p.scratch (move_at p.moves.items k) ∷ []) (pending_in q)
+saved-going whole done p q k kept none there d going =
+    let g = kept.counted in
+    let r = split_in p k g there in
+    let c : Move = move_at p.moves.items k in
+    subst (Going p.scratch whole (done ++ saved p.scratch c ∷ [])) (sym (saved-pending p q k g there d))
+    (going-saved p.scratch whole done r.before r.after c (subst AreBlocked r.whole (blocked p kept none)) (subst (Going p.scratch whole done) r.whole going))
+
+-- once no move is free, none that is left reads the scratch
+pub scratch_unread : (whole done : List Move) (p : Pending) (k : ℕ) → IsKept p → p.free.items ≡ [] → Going p.scratch whole done (pending_in p) → k < length p.moves.items
+    → from_at p k ≡ At (Reg p.scratch) → is_left_at p k ≡ false
+scratch_unread whole done p k kept none going lt from = false_from_ne_true (is_left_at p k) (λ left.
+    let has = left_has p.moves.items p.left.items k lt (kept.counted).many left in
+    let f : reads (Reg p.scratch) (from_at p k) ≡ false = blocked-unread p.scratch (pending_in p) going.differ going.apart (blocked p kept none) (move_at p.moves.items k) has in
+    false≢true (sym f ∙ ap (reads (Reg p.scratch)) from ∙ same_home-refl (Reg p.scratch)))
+
+-- ---- a move is taken from those that are free
+
+pub popped-free : (p q : Pending) (k : ℕ) → HasFreeBut (λ i. ⊥) p → q.moves.items ≡ p.moves.items → q.left.items ≡ p.left.items → q.counts.items ≡ p.counts.items
+    → p.free.items ≡ q.free.items ++ k ∷ [] → HasFreeBut (λ i. i ≡ k) q
+popped-free p q k f moves left counts e = record {
+  sound = λ i has.
+      let s = f.sound i (subst (λ (l : List ℕ). Contains l i) (sym e) (Contains-append_left q.free.items (k ∷ []) i has)) in
+      (subst (λ (ms : List Move). i < length ms) (sym moves) s.0, ap (λ (l : List ℕ). count_at l i) counts ∙ s.1);
+  complete = λ i lt there z but.
+      let all = f.complete i (subst (λ (ms : List Move). i < length ms) moves lt) (ap (λ (ls : List Bool). slice_index_or ls i false) (sym left) ∙ there)
+      (ap (λ (l : List ℕ). count_at l i) (sym counts) ∙ z) (λ x. x) in
+      elim (Contains-push_cases q.free.items k i (subst (λ (l : List ℕ). Contains l i) e all)) [ inl old ↦ old | inr same ↦ absurd (but (sym same)) ];
+}
+
+-- one that is done is dropped
+pub dropped-free : (q : Pending) (k : ℕ) → is_left_at q k ≡ false → HasFreeBut (λ i. i ≡ k) q → HasFreeBut (λ i. ⊥) q
+dropped-free q k gone f = record {
+  sound = f.sound;
+  complete = λ i lt there z but. f.complete i lt there z (λ e. false≢true (sym gone ∙ ap (is_left_at q) (sym e) ∙ there));
+}
+
+pub popped-there : (p : Pending) (items : List ℕ) (k : ℕ) → HasFreeBut (λ i. ⊥) p → p.free.items ≡ items ++ k ∷ [] → (k < length p.moves.items) × (count_at p.counts.items k ≡ 0)
+popped-there p items k f e = f.sound k (subst (λ (l : List ℕ). Contains l k) (sym e) (Contains-push items k))
+
+-- one fewer is left
+pub done-shorter : (p q : Pending) (k : ℕ) → IsCounted p → IsLeft p k → IsGone p q k → length (pending_in p) ≡ suc (length (pending_in q))
+done-shorter p q k g there d =
+    let r = split_in p k g there in
+    ap length r.whole ∙ length-one (move_at p.moves.items k) r.before r.after ∙ ap (λ (l : List Move). suc (length l)) (sym (done-pending p q k g there d))
+
+-- what is saved is then taken from the scratch
+pub moved-from : (p q : Pending) (k : ℕ) → IsLeft p k → IsMoved p q k → from_at q k ≡ At (Reg p.scratch)
+moved-from p q k there d =
+    ap (λ (ms : List Move). (move_at ms k).from) d.moves
+    ∙ ap (λ (m : Move). m.from) (get_or-set_same p.moves.items k (from_scratch p.scratch (move_at p.moves.items k)) _ there.within)

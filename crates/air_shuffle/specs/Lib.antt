@@ -1,0 +1,4 @@
+pub mod Moves
+pub mod Pending
+pub mod Waiting
+pub mod Tested

@@ -1,0 +1,12 @@
+//! Parallel moves carried out one after the other, by way of one scratch register.
+#![tactic(auto)]
+
+mod moves;
+mod order;
+mod pending;
+#[cfg(test)]
+mod tests;
+mod writers;
+
+pub use moves::{Move, Moves};
+pub use order::sequence;

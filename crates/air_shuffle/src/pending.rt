@@ -1,0 +1,204 @@
+//! The moves that are left while they are put in order.
+
+ghost use Rattle.std.specs.Prelude.{◌≡◌, ◌≢◌, ◌<◌, ◌≤◌, ◌+◌, ◌^◌, ℕ, [], List, IfOk, IfSome, OnOk, length, map, not, slice_index_or, slice_set, true, false};
+ghost use Rattle.air_ir.specs.declared.operand.Home.TheVariants as home;
+ghost use Rattle.air_shuffle.specs.Moves.{Move, is_self};
+ghost use Rattle.air_shuffle.specs.Pending.{Going};
+ghost use Rattle.air_shuffle.specs.Waiting.{AreCounts, AreFree, AreWriters, IsKept, IsKeptBut, IsSequenceable, freed, from_scratch, left_of, lowered, move_at, pending_in, raised, saved, writer_of};
+
+use crate::moves::{Move, Moves, is_self};
+use crate::writers::{Writers, writer_of, writers_of};
+use air_ir::{Arg, Home};
+use b3_base::NoMemory;
+use b3_ir::Reg;
+use std::alloc::Global;
+
+/// Moves by their places, and which of them are left.
+#[derive(Drop)]
+pub(crate) struct Pending {
+    scratch: Reg,
+    /// All moves, each with the source that it has by now.
+    moves: Vec<Move>,
+    /// Which moves are left.
+    left: Vec<bool>,
+    /// How many of those that are left read the destination of each move.
+    counts: Vec<usize>,
+    /// Where the moves stand whose destination isn't read; some of them may be done.
+    free: Vec<usize>,
+    /// Which move writes a home.
+    writers: Writers,
+}
+
+/// Which moves aren't from a home to itself.
+fn first_left(alloc: Global, moves: &[Move]) -> Result<Vec<bool>, NoMemory>
+    ensures { IfOk result (λ left. left.items ≡ map (λ one. not (is_self one)) moves.now) }
+{
+    let mut left = Vec::new(alloc);
+    for one in moves {
+        left.push(!is_self(*one))?;
+    }
+    Ok(left)
+}
+
+/// A source is read by one move more.
+fn add_reader(counts: &mut Vec<usize>, writers: &Writers, from: Arg)
+    requires counted { IfSome (writer_of writers.now from) (λ j. j < length counts.old.items) }
+    requires few { IfSome (writer_of writers.now from) (λ j. slice_index_or counts.old.items j 0 < 2 ^ 63) }
+    ensures { counts.new.items ≡ raised (writer_of writers.now from) counts.old.items }
+{
+    if let Some(writer) = writer_of(writers, from) {
+        counts[writer] += 1;
+    }
+}
+
+/// How many of the moves that are left read the destination of each move.
+fn first_counts(
+    alloc: Global,
+    moves: &[Move],
+    left: &[bool],
+    writers: &Writers,
+) -> Result<Vec<usize>, NoMemory>
+    requires many { length left.now ≡ length moves.now }
+    requires sound { IsSequenceable moves.now }
+    requires writers { AreWriters moves.now writers.now }
+    ensures { IfOk result (λ counts. AreCounts moves.now (left_of moves.now left.now) counts.items) }
+{
+    let mut counts: Vec<usize> = Vec::new(alloc);
+    for _ in 0..moves.len() {
+        counts.push(0)?;
+    }
+    for place in 0..moves.len() {
+        if left[place] {
+            add_reader(&mut counts, writers, moves[place].from);
+        }
+    }
+    Ok(counts)
+}
+
+/// Where counts are 0.
+fn first_free(alloc: Global, counts: &[usize]) -> Result<Vec<usize>, NoMemory>
+    ensures { IfOk result (λ free. AreFree counts.now free.items) }
+{
+    let mut free = Vec::new(alloc);
+    for place in 0..counts.len() {
+        if counts[place] == 0 {
+            free.push(place)?;
+        }
+    }
+    Ok(free)
+}
+
+impl Pending {
+    /// All moves but those from a home to itself. It is refused for want of memory alone.
+    pub(crate) fn new(alloc: Global, moves: &[Move], scratch: Reg) -> Result<Pending, NoMemory>
+        requires sound { IsSequenceable moves.now }
+        requires apart { (k : ℕ) → k < length moves.now → (move_at moves.now k).to ≢ home.Reg scratch }
+        ensures kept { IfOk result IsKept }
+        ensures scratch { IfOk result (λ p. p.scratch ≡ scratch) }
+        ensures moves { IfOk result (λ p. p.moves.items ≡ moves.now) }
+        ensures left { IfOk result (λ p. p.left.items ≡ map (λ one. not (is_self one)) moves.now) }
+    {
+        let writers = writers_of(alloc, moves)?;
+        let left = first_left(alloc, moves)?;
+        let counts = first_counts(alloc, moves, left.as_slice(), &writers)?;
+        let free = first_free(alloc, counts.as_slice())?;
+        Ok(Pending {
+            scratch,
+            moves: Vec::from_slice(alloc, moves)?,
+            left,
+            counts,
+            free,
+            writers,
+        })
+    }
+
+    /// Whether a move is left.
+    pub(crate) fn is_left(&self, place: usize) -> bool
+        requires { place < length self.now.left.items }
+        ensures { result ≡ slice_index_or self.now.left.items place false }
+    {
+        self.left[place]
+    }
+
+    /// A source is read by one move less.
+    fn release(&mut self, from: Arg) -> Result<(), NoMemory>
+        requires counted { IfSome (writer_of self.old.writers from) (λ j. j < length self.old.counts.items) }
+        requires some { IfSome (writer_of self.old.writers from) (λ j. 0 < slice_index_or self.old.counts.items j 0) }
+        ensures scratch { self.new.scratch ≡ self.old.scratch }
+        ensures moves { self.new.moves ≡ self.old.moves }
+        ensures left { self.new.left ≡ self.old.left }
+        ensures writers { self.new.writers ≡ self.old.writers }
+        ensures counts { self.new.counts.items ≡ lowered (writer_of self.old.writers from) self.old.counts.items }
+        ensures free { OnOk result (self.new.free.items
+            ≡ freed (writer_of self.old.writers from) self.new.counts.items self.old.free.items) }
+        ensures few { length self.new.free.items ≤ length self.old.free.items + 1 }
+    {
+        if let Some(writer) = writer_of(&self.writers, from) {
+            self.counts[writer] -= 1;
+            if self.counts[writer] == 0 {
+                self.free.push(writer)?;
+            }
+        }
+        Ok(())
+    }
+
+    /// A move is no longer left.
+    fn finish(&mut self, place: usize) -> Result<(), NoMemory>
+        requires kept { IsKeptBut place self.old }
+        requires within { place < length self.old.left.items }
+        requires left { slice_index_or self.old.left.items place false ≡ true }
+        ensures scratch { self.new.scratch ≡ self.old.scratch }
+        ensures moves { self.new.moves ≡ self.old.moves }
+        ensures left { self.new.left.items ≡ slice_set self.old.left.items place false }
+        ensures few { length self.new.free.items ≤ length self.old.free.items + 1 }
+        ensures kept { OnOk result (IsKept self.new) }
+    {
+        let from = self.moves[place].from;
+        self.left[place] = false;
+        self.release(from)
+    }
+
+    /// Saves the source of a move that is left, and gives the move that does it.
+    pub(crate) fn save(&mut self, place: usize) -> Result<Move, NoMemory>
+        requires kept { IsKept self.old }
+        requires within { place < length self.old.moves.items }
+        requires left { slice_index_or self.old.left.items place false ≡ true }
+        ensures scratch { self.new.scratch ≡ self.old.scratch }
+        ensures moves { self.new.moves.items
+            ≡ slice_set self.old.moves.items place (from_scratch self.old.scratch (move_at self.old.moves.items place)) }
+        ensures left { self.new.left ≡ self.old.left }
+        ensures kept { OnOk result (IsKept self.new) }
+        ensures saved { IfOk result (λ one. one ≡ saved self.old.scratch (move_at self.old.moves.items place)) }
+    {
+        let one = self.moves[place];
+        let scratch = Home::Reg(self.scratch);
+        self.moves[place].from = Arg::At(scratch);
+        self.release(one.from)?;
+        Ok(Move {
+            from: one.from,
+            to: scratch,
+            width: one.width,
+        })
+    }
+
+    /// Carries out moves whose destination isn't read, as long as there are some.
+    pub(crate) fn drain(&mut self, done: &mut Moves) -> Result<(), NoMemory>
+        requires { IsKept self.old }
+        ensures scratch { self.new.scratch ≡ self.old.scratch }
+        ensures moves { self.new.moves ≡ self.old.moves }
+        ensures kept { OnOk result (IsKept self.new) }
+        ensures free { OnOk result (self.new.free.items ≡ []) }
+        ensures left { OnOk result ((k : ℕ) → slice_index_or self.new.left.items k false ≡ true
+            → slice_index_or self.old.left.items k false ≡ true) }
+        ensures going { OnOk result ((whole : List Move) → Going self.old.scratch whole done.old (pending_in self.old)
+            → Going self.old.scratch whole done.new (pending_in self.new)) }
+    {
+        while let Some(place) = self.free.pop() {
+            if self.left[place] {
+                done.push(self.moves[place])?;
+                self.finish(place)?;
+            }
+        }
+        Ok(())
+    }
+}
