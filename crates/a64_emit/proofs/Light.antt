@@ -147,7 +147,7 @@ light p f well built serves =
 
 -- ---- labels
 
-labels_few : (cases : List ℕ) → switch_labels cases ≤ length cases
+pub labels_few : (cases : List ℕ) → switch_labels cases ≤ length cases
 labels_few cases =
     let few = nodes_few (tree cases) in
     let same = ap (λ (xs : List ℕ). length xs) (tree_order cases) in
