@@ -17,6 +17,7 @@ use Rattle.air_ir.specs.declared.procedure.AirInst.{AirInst}
 use Rattle.air_ir.specs.declared.procedure.AirProc.{AirProc}
 use Rattle.air_ir.specs.WellFormed.{IsGoodInst, IsWellFormed}
 use Rattle.a64_emit.specs.Code.{source_at, source_of, width_at}
+use Rattle.a64_emit.specs.Switched.{AreDifferent}
 use Rattle.a64_emit.specs.Fitting.{FitsSource, IsFitting, IsFittingBlock, IsTested}
 
 word_fits : (immediates : Immediates) (width : Width) (arg : Arg) (scratch : ℕ) → IsWord immediates width arg
@@ -53,6 +54,11 @@ branch_fits (Compare cond) width os fits = second_fits OfSum width [] os fits
 branch_fits NonZero width os fits = tt
 branch_fits (Bit k) width os fits = bit_fits width k [] os fits
 
+switch_fits : (width : Width) (cases : List ℕ) (os : List Operand) → AllFit (home width ∷ []) os → AreDifferent width cases → AreDifferent (width_at os 0) cases
+unfolding AllFit
+switch_fits width cases [] fits differ = absurd fits
+switch_fits width cases (a ∷ os) fits differ = subst (λ w. AreDifferent w cases) (sym fits.0.1) differ
+
 pub fitting : (r : Returns) (o : AirOp) (os : List Operand) → HasOperands r o os → IsFitting o os
 fitting r (op.SetIf t) os has = test_fits t has.0 _ os has.2
 fitting r (op.SelectIf t) os has = test_fits t has.0 _ os has.2
@@ -61,6 +67,7 @@ fitting r op.Add os has = second_fits OfSum has.0 _ os has.2
 fitting r op.And os has = second_fits OfLogic has.0 _ os has.2
 fitting r op.Or os has = second_fits OfLogic has.0 _ os has.2
 fitting r op.Xor os has = second_fits OfLogic has.0 _ os has.2
+fitting r (op.Switch cases) os has = switch_fits has.0 cases os has.1 has.2
 fitting r o os has = tt
 
 fit_at : (p : AirProc) (i : AirInst) → IsGoodInst p i → IsFitting i.op i.operands

@@ -13,7 +13,11 @@ pub mod TestsRun
 pub mod Moves
 pub mod Copies
 pub mod Instructions
+pub mod Trees
+pub mod Sorting
+pub mod InOrder
 pub mod Positions
+pub mod LabelCounts
 pub mod Entering
 pub mod Leaving
 pub mod Branching
