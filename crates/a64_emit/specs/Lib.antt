@@ -2,6 +2,7 @@ pub mod Places
 pub mod Constants
 pub mod Computing
 pub mod Switched
+pub mod Accesses
 pub mod Code
 pub mod Fitting
 pub mod Built
