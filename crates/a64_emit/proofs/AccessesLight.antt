@@ -35,7 +35,8 @@ module _ (f : Frame) where
   address_most (Imm word) = omega arith
   address_most (FrameSlot n) = omega arith
 
-  loaded_most : (inst : Inst) (address to : Arg) → length (fetch_address f address ++ inst ∷ put_result f (result_reg to) to) ≤ 1 + arg_words address + arg_words to
+  loaded_most : (inst : Inst) (address to : Arg)
+      → length (fetch_address f address ++ inst ∷ put_result f (result_reg to) to) ≤ 1 + arg_words address + arg_words to
   loaded_most inst address to =
       let first = address_most address in
       let put = put_most f (result_reg to) to in
@@ -77,7 +78,8 @@ module _ (f : Frame) where
   unfolding below_x29
   x29_most reg bytes =
       elim (nat_le bytes 4095) as (λ b. length (if b then AddSubImm W64 true false reg 29 bytes false ∷ [] else
-      AddSubImm W64 true false reg 29 (upper bytes) true ∷ (if nat_eq (bytes % 4096) 0 then [] else AddSubImm W64 true false reg reg (bytes % 4096) false ∷ [])) ≤ 2) [
+      AddSubImm W64 true false reg 29 (upper bytes) true
+      ∷ (if nat_eq (bytes % 4096) 0 then [] else AddSubImm W64 true false reg reg (bytes % 4096) false ∷ [])) ≤ 2) [
         | true ↦ omega arith
         | false ↦ elim (nat_eq (bytes % 4096) 0) as (λ b. length (AddSubImm W64 true false reg 29 (upper bytes) true
             ∷ (if b then [] else AddSubImm W64 true false reg reg (bytes % 4096) false ∷ [])) ≤ 2) [ true ↦ omega arith | false ↦ omega arith ]

@@ -319,7 +319,8 @@ module _ (z : Setting) (set : IsSet z) (serves : IsFrameOf z.procedure z.frame) 
   pub store_runs : (i : AirInst) (s : State) (c : Machine) (a b : Operand) (kind : AccessKind) (extent : Extent) → i.operands ≡ a ∷ b ∷ []
       → inst_code z.frame i.op (a ∷ b ∷ []) ≡ store_code z.frame i.op (a ∷ b ∷ []) → access_kind i.op a.width ≡ kind → i.traps ≡ false
       → kind_of i.op ≡ Stores extent → IsStore kind extent a.width → a.role ≡ Use → b.role ≡ Use
-      → IsRelated z s c → IsUsable z a.arg → IsWord OnlyZero a.width a.arg → IsReachable z b.arg → IsAddress (machine.access_bytes kind) b.arg → InstRuns z i s c
+      → IsRelated z s c → IsUsable z a.arg → IsWord OnlyZero a.width a.arg → IsReachable z b.arg → IsAddress (machine.access_bytes kind) b.arg
+      → InstRuns z i s c
   store_runs i s c a b kind extent operands code same traps stores store role_a role_b rel usable is reachable fits =
       let n : ℕ = machine.access_bytes kind in
       let All : Option ℕ → Option ℕ → Option (List Read) = λ A B. and_word a.width A (and_word b.width B (Some [])) in

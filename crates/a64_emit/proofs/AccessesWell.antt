@@ -78,8 +78,10 @@ HasSmallHomes arg = Unit {0}
 
 pub access_well : (kind : AccessKind) (rt : ℕ) (address : Arg) → rt ≤ 31 → HasSmallHomes address → IsReached kind address
     → IsWellFormed (access_inst kind rt address)
-access_well kind rt (Addr base offset) le small fits = offset_well kind rt (reg_of (source_of 15 (At base))) offset le (home_reg_small 15 base (omega arith) small) fits
-access_well kind rt (Index base index shift) le small fits = (le, home_reg_small 15 base (omega arith) small.0, home_reg_small 16 index (omega arith) small.1)
+access_well kind rt (Addr base offset) le small fits =
+    offset_well kind rt (reg_of (source_of 15 (At base))) offset le (home_reg_small 15 base (omega arith) small) fits
+access_well kind rt (Index base index shift) le small fits =
+    (le, home_reg_small 15 base (omega arith) small.0, home_reg_small 16 index (omega arith) small.1)
 access_well kind rt (At home) le small fits = tt
 access_well kind rt (Imm word) le small fits = tt
 access_well kind rt (FrameSlot n) le small fits = tt

@@ -75,7 +75,8 @@ unfolding below_x29
 below_puts z c reg bytes base whole words le other at few most =
     let base_small : base < 2 ^ 64 = subst (λ n. n < 2 ^ 64) at (words.x 29) in
     elim (nat_le bytes 4095) as (λ b. Puts z c (if b then AddSubImm W64 true false reg 29 bytes false ∷ [] else
-    AddSubImm W64 true false reg 29 (upper bytes) true ∷ unless_zero (bytes % 4096) (AddSubImm W64 true false reg reg (bytes % 4096) false ∷ [])) reg (base - bytes)) [
+    AddSubImm W64 true false reg 29 (upper bytes) true ∷ unless_zero (bytes % 4096) (AddSubImm W64 true false reg reg (bytes % 4096) false ∷ [])) reg
+    (base - bytes)) [
       | true ↦ puts_by_one z c (AddSubImm W64 true false reg 29 bytes false) reg (base - bytes)
           (less_one z c reg 29 bytes bytes base false whole le other (omega arith) refl at base_small most) words (less_small base bytes base_small)
       | false ↦
@@ -95,7 +96,8 @@ below_puts z c reg bytes base whole words le other at few most =
                 let last : ℕ = base - high - bytes % 4096 in
                 let whole_d = whole_same z c d refl refl whole in
                 let small_d = less_small base high base_small in
-                let second = less_one z d reg reg (bytes % 4096) (bytes % 4096) (base - high) false whole_d le other le refl (put_same c reg (base - high)) small_d (omega arith) in
+                let second = less_one z d reg reg (bytes % 4096) (bytes % 4096) (base - high) false whole_d le other le refl
+                (put_same c reg (base - high)) small_d (omega arith) in
                 subst (λ n. Puts z c (AddSubImm W64 true false reg 29 (upper bytes) true ∷ AddSubImm W64 true false reg reg (bytes % 4096) false ∷ []) reg n)
                 (two_less base high (bytes % 4096) bytes parts)
                 (record {
@@ -117,7 +119,8 @@ below_puts z c reg bytes base whole words le other at few most =
 
 pub slot_there : (m : MachineStart) (bytes : ℕ) (offsets sizes : List ℕ) (n : ℕ) → length offsets ≡ length sizes → n < length sizes
     → All (IsGoodSlot bytes) (slot_rows offsets sizes)
-    → (slice_get (map (placement.slot_address m) (slot_rows offsets sizes)) n ≡ Some (frame_pointer_of m - get_or offsets n 0)) × (get_or offsets n 0 + 16 ≤ bytes)
+    → (slice_get (map (placement.slot_address m) (slot_rows offsets sizes)) n ≡ Some (frame_pointer_of m - get_or offsets n 0))
+    × (get_or offsets n 0 + 16 ≤ bytes)
 slot_there m bytes [] [] n same lt goods = absurd (omega arith)
 slot_there m bytes [] (size ∷ sizes) n same lt goods = absurd (omega arith)
 slot_there m bytes (offset ∷ offsets) [] n same lt goods = absurd (omega arith)

@@ -29,7 +29,8 @@ access_kind _ width = StrX
 abbrev pub offset_access : AccessKind → ℕ → ℕ → ℤ → Inst
 offset_access kind rt rn offset =
     let above : ℕ = cast_unsigned w64 offset in
-    if nat_eq (above % access_bytes kind) 0 && nat_le above (4095 * access_bytes kind) then Access kind rt rn (above / access_bytes kind) else
+    if nat_eq (above % access_bytes kind) 0 && nat_le above (4095 * access_bytes kind) then
+    Access kind rt rn (above / access_bytes kind) else
     AccessNear kind rt rn offset
 
 -- the upper 12 bits of a number of 24 bits
@@ -40,4 +41,5 @@ upper bytes = bytes / 4096 % 4096
 unfoldable pub below_x29 : ℕ → ℕ → List Inst
 below_x29 reg bytes =
     if nat_le bytes 4095 then AddSubImm W64 true false reg 29 bytes false ∷ [] else
-    AddSubImm W64 true false reg 29 (upper bytes) true ∷ unless_zero (bytes % 4096) (AddSubImm W64 true false reg reg (bytes % 4096) false ∷ [])
+    AddSubImm W64 true false reg 29 (upper bytes) true
+    ∷ unless_zero (bytes % 4096) (AddSubImm W64 true false reg reg (bytes % 4096) false ∷ [])

@@ -7,8 +7,8 @@ use Rattle.air_ir.specs.declared.procedure.AirBlock.{AirBlock}
 use Rattle.air_ir.specs.declared.procedure.AirInst.{AirInst}
 use Rattle.air_ir.specs.declared.procedure.AirProc.{AirProc}
 
--- the kinds of ops that are emitted: copies, what computes a word, accesses that don't trap, addresses in the frame, and
--- what ends a block
+-- the kinds of ops that are emitted: copies, what computes a word, accesses that don't trap, addresses in the frame,
+-- and what ends a block
 abbrev pub is_built_kind : Kind → Bool → Bool
 is_built_kind Copies traps = true
 is_built_kind Computes traps = true

@@ -131,12 +131,14 @@ fetch_address f _ = []
 abbrev pub access_inst : AccessKind → ℕ → Arg → Inst
 access_inst kind rt (Addr base offset) = offset_access kind rt (reg_of (source_of 15 (At base))) offset
 access_inst kind rt (Index base index shift) =
-    AccessIndex (not (is_store kind)) rt (reg_of (source_of 15 (At base))) (reg_of (source_of 16 (At index))) (nat_eq shift 3)
+    AccessIndex (not (is_store kind)) rt (reg_of (source_of 15 (At base))) (reg_of (source_of 16 (At index)))
+    (nat_eq shift 3)
 access_inst kind rt _ = Nop
 
 abbrev pub load_code : Frame → AirOp → List Operand → List Inst
 load_code f op os =
-    fetch_address f (arg_at os 0) ++ access_inst (access_kind op (width_at os 0)) (result_reg (arg_at os 1)) (arg_at os 0)
+    fetch_address f (arg_at os 0)
+    ++ access_inst (access_kind op (width_at os 0)) (result_reg (arg_at os 1)) (arg_at os 0)
     ∷ put_result f (result_reg (arg_at os 1)) (arg_at os 1)
 
 abbrev pub store_code : Frame → AirOp → List Operand → List Inst
