@@ -40,6 +40,14 @@ pub targets_result : (o : Operand) (home : Home) → IsWritten o home → target
 unfolding targets
 targets_result o home is = rw (is.role, is.arg) refl
 
+pub words_none : (homes : Homes) → words homes [] ≡ Some []
+unfolding words
+words_none homes = refl
+
+pub targets_none : targets [] ≡ []
+unfolding targets
+targets_none = refl
+
 home_there : (arg : Arg) → IsHome arg → (home : Home) × (arg ≡ At home)
 home_there (At home) h = (home, refl)
 home_there (Imm word) h = absurd h

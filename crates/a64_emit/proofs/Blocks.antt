@@ -23,7 +23,7 @@ use Rattle.a64_layout.specs.Run as run
 use Rattle.a64_layout.proofs.Least.{place_mono}
 use Rattle.a64_emit.specs.Built.{is_built}
 use Rattle.a64_emit.specs.Code.{inst_code, inst_items, insts_items}
-use Rattle.a64_emit.specs.Emitted.{CarriesOut, LeadsUnlessLost}
+use Rattle.a64_emit.specs.Emitted.{CarriesOut, Lands, LeadsUnlessLost}
 use Rattle.a64_emit.specs.Places.{plains}
 use Rattle.a64_emit.specs.Related.{IsRelated}
 use Rattle.a64_emit.specs.Setting.{IsSet, Setting}
@@ -32,7 +32,7 @@ use Rattle.a64_emit.proofs.Computes.{Carried}
 use Rattle.a64_emit.proofs.Endings.{Ends, ReachesUnlessLost, among_plains}
 use Rattle.a64_emit.proofs.Instructions.{AreOpen, inst_runs}
 use Rattle.a64_emit.proofs.Positions.{Among, among_first, among_rest, length_plains}
-use Rattle.a64_emit.proofs.Straight.{Runs, leads_by, leads_on, straight_runs}
+use Rattle.a64_emit.proofs.Straight.{Runs, leads_by, leads_on, straight_runs, Reaches, runs_more, runs_none}
 
 -- the items of an instruction that doesn't end its block
 inner_items : (f : Frame) (next label : ℕ) (targets : List ℕ) (o : AirOp) (os : List Operand) → target_count o ≡ None
@@ -47,7 +47,7 @@ inner_items f next label targets o os inner = refl
 
 -- an instruction that may stand before the last one
 pub record IsInner (z : Setting) (i : AirInst) : Type 0 where
-  pub built : is_built i.op ≡ true
+  pub built : is_built i.op i.traps ≡ true
   pub inner : target_count i.op ≡ None
   pub operands : HasOperands z.procedure.returns i.op i.operands
   pub opened : AreOpen z i.operands
@@ -70,6 +70,32 @@ leads_after : (z : Setting) (from : World) (next : air.Config) (k n : ℕ) (c d 
 leads_after z from air.Lost k n c d some runs rest = tt
 leads_after z from (air.At b s) k n c d some runs rest = leads_by z from (air.At b s) k n c d some runs rest
 leads_after z from (air.Stopped seen) k n c d some runs rest = leads_by z from (air.Stopped seen) k n c d some runs rest
+
+-- events and answers alone are compared
+lands_since : (z : Setting) (from to : World) (next : air.Config) (k : ℕ) (c : Machine) → from.events ≡ to.events → from.answers ≡ to.answers
+    → Lands z from next k c → Lands z to next k c
+lands_since z from to air.Lost k c events answers lands = tt
+lands_since z from to (air.At b s) k c events answers lands =
+    (lands.0, lands.1, lands.2, lands.3, lands.4 ∙ events, lands.5 ∙ answers, lands.6)
+lands_since z from to (air.Stopped seen) k c events answers lands = (lands.0, lands.1, lands.2, lands.3 ∙ events, lands.4)
+
+some_since : (z : Setting) (from to : World) (next : air.Config) (k : ℕ) (c : Machine) → from.events ≡ to.events → from.answers ≡ to.answers
+    → Reaches z from next k c → Reaches z to next k c
+some_since z from to next k c events answers r = record {
+  items = r.items;
+  at = r.at;
+  last = r.last;
+  forward = r.forward;
+  comes = r.comes;
+  proper = r.proper;
+  lands = lands_since z from to next r.at r.last events answers r.lands;
+}
+
+reaches_since : (z : Setting) (from to : World) (next : air.Config) (k : ℕ) (c : Machine) → from.events ≡ to.events → from.answers ≡ to.answers
+    → ReachesUnlessLost z from next k c → ReachesUnlessLost z to next k c
+reaches_since z from to air.Lost k c events answers reaches = tt
+reaches_since z from to (air.At b s) k c events answers reaches = some_since z from to (air.At b s) k c events answers reaches
+reaches_since z from to (air.Stopped seen) k c events answers reaches = some_since z from to (air.Stopped seen) k c events answers reaches
 
 -- what instructions up to the end of a block with these targets lead to
 pub record BlockEnds (z : Setting) (targets : List ℕ) (insts : List AirInst) (s : State) (k : ℕ) (c : Machine) : Type 0 where
@@ -131,7 +157,7 @@ module _ (z : Setting) (set : IsSet z) (serves : IsFrameOf z.procedure z.frame) 
         next = rest.next;
         is = λ junk. goes_first i (body ++ last ∷ []) s done.next junk (done.steps junk) ∙ rest.is junk;
         reaches = reaches_after z s.world rest.next k (length code) c done.after runs
-            (subst (λ w. ReachesUnlessLost z w rest.next (k + length code) runs.last) done.world rest.reaches);
+            (reaches_since z done.next.world s.world rest.next (k + length code) runs.last done.world.0 done.world.1 rest.reaches);
       })
       (inst_runs z set serves i s c z.procedure.returns mine.built mine.inner mine.operands mine.opened rel)
 

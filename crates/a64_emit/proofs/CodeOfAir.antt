@@ -98,10 +98,10 @@ module _ (z : Setting) (set : IsSet z) (serves : IsFrameOf z.procedure z.frame) 
   inst_open : (j : ℕ) (i : AirInst) → slice_get block.insts j ≡ Some i → AreOpen z i.operands
   inst_open j i at = operands_open z b block there j i at no_tmps (inst_good j i at)
 
-  inst_built : (j : ℕ) (i : AirInst) → slice_get block.insts j ≡ Some i → is_built i.op ≡ true
+  inst_built : (j : ℕ) (i : AirInst) → slice_get block.insts j ≡ Some i → is_built i.op i.traps ≡ true
   inst_built j i at =
-      all_at (λ (i : AirInst). is_built i.op ≡ true) block.insts j i at
-      (all_at (λ (b : AirBlock). All (λ (i : AirInst). is_built i.op ≡ true) b.insts) z.procedure.blocks b block there built)
+      all_at (λ (i : AirInst). is_built i.op i.traps ≡ true) block.insts j i at
+      (all_at (λ (b : AirBlock). All (λ (i : AirInst). is_built i.op i.traps ≡ true) b.insts) z.procedure.blocks b block there built)
 
   inner : (j : ℕ) (i : AirInst) → slice_get good.body j ≡ Some i → IsInner z i
   inner j i at = record {

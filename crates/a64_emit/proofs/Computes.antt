@@ -41,7 +41,7 @@ pub record Carried (z : Setting) (i : AirInst) (s : State) (c : Machine) : Type 
   pub steps : (junk : List ℕ) → step (meaning z.start) i s junk ≡ (Goes None next, junk)
   pub does : Does z c (inst_code z.frame i.op i.operands) after
   pub related : IsRelated z next after
-  pub world : next.world ≡ s.world
+  pub world : (next.world.events ≡ s.world.events) × (next.world.answers ≡ s.world.answers)
 
 -- or it is undefined
 abbrev pub InstRuns : Setting → AirInst → State → Machine → Type 0
@@ -129,7 +129,7 @@ module _ (z : Setting) (set : IsSet z) (serves : IsFrameOf z.procedure z.frame) 
             (does_both z c m last.after ((fetch z.frame 15 a.arg ++ []) ++ []) _
             (does_more z c m ((fetch z.frame 15 a.arg ++ [])) (does_more z c m (fetch z.frame 15 a.arg) first.0.does)) last.does)));
         related = last.related;
-        world = refl;
+        world = (refl, refl);
       }
 
   pub one_runs : (i : AirInst) (s : State) (c : Machine) (a d : Operand) (home : Home) → i.operands ≡ a ∷ d ∷ []
@@ -217,7 +217,7 @@ module _ (z : Setting) (set : IsSet z) (serves : IsFrameOf z.procedure z.frame) 
             (does_both z c two.between m (fetch z.frame 15 a.arg) (fetch z.frame 16 b.arg) two.first two.second))
             last.does)));
         related = last.related;
-        world = refl;
+        world = (refl, refl);
       }
 
   pub two_runs : (i : AirInst) (s : State) (c : Machine) (a b d : Operand) (home : Home) → i.operands ≡ a ∷ b ∷ d ∷ []
@@ -296,7 +296,7 @@ module _ (z : Setting) (set : IsSet z) (serves : IsFrameOf z.procedure z.frame) 
             (does_both z c two.between two.after (fetch z.frame 15 a.arg) (fetch z.frame 16 b.arg) two.first two.second) third.0.does)
             last.does)));
         related = last.related;
-        world = refl;
+        world = (refl, refl);
       }
 
   pub three_runs : (i : AirInst) (s : State) (c : Machine) (a b e d : Operand) (home : Home) → i.operands ≡ a ∷ b ∷ e ∷ d ∷ []

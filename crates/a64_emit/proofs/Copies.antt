@@ -195,6 +195,6 @@ module _ (z : Setting) (set : IsSet z) (serves : IsFrameOf z.procedure z.frame) 
                   (subst (λ insts. Does z c insts f.after) (sym code)
                   (subst (λ arg. Does z c (copy_code z.frame a.width a.arg arg) f.after) (sym is.arg) f.does));
               related = subst (λ w. IsRelated z (with_home s home (Holds w x)) f.after) (sym width) f.related;
-              world = refl;
+              world = (refl, refl);
             })
       ] refl

@@ -1,10 +1,14 @@
 -- The operands of an op are such as its code takes.
-use Rattle.std.proofs.Common.{ℕ, ◌<◌, List, [], ◌∷◌, ◌++◌, get_or, sym, subst}
+use Rattle.std.proofs.Common.{◌≡◌, ℕ, ◌<◌, List, [], ◌∷◌, ◌++◌, get_or, refl, sym, subst}
 use Rattle.std.specs.Prelude.{All}
 use Rattle.b3_base.specs.Word.{bits}
 use Rattle.b3_base.specs.declared.word.Width.{Width}
+use Rattle.b3_base.specs.declared.word.Width.TheVariants.{W32, W64}
 use Rattle.stackmap.specs.declared.site.Returns.{Returns}
-use Rattle.air_ir.specs.Forms.{AllFit, BitOf, HasOperands, Immediates, IsWord, OfSum, OfLogic, Takes, Word, home, test_takes}
+use Rattle.a64_inst.specs.StepMemory.{access_bytes}
+use Rattle.a64_inst.specs.declared.inst.AccessKind.{AccessKind}
+use Rattle.a64_inst.specs.declared.inst.AccessKind.TheVariants.{Strb, Ldrb, Ldrsb, Strh, Ldrh, Ldrsh, StrW, LdrW, StrX, LdrX}
+use Rattle.air_ir.specs.Forms.{AllFit, AreThese, BitOf, HasOperands, Immediates, IsAddress, IsWord, OfSum, OfLogic, Takes, Word, home, load, store, takes, test_takes}
 use Rattle.air_ir.specs.declared.op.AirOp.{AirOp}
 use Rattle.air_ir.specs.declared.op.AirOp.TheVariants as op
 use Rattle.air_ir.specs.declared.op.Test.{Test}
@@ -16,9 +20,10 @@ use Rattle.air_ir.specs.declared.operand.Operand.{Operand}
 use Rattle.air_ir.specs.declared.procedure.AirInst.{AirInst}
 use Rattle.air_ir.specs.declared.procedure.AirProc.{AirProc}
 use Rattle.air_ir.specs.WellFormed.{IsGoodInst, IsWellFormed}
+use Rattle.a64_emit.specs.Accesses.{access_kind}
 use Rattle.a64_emit.specs.Code.{source_at, source_of, width_at}
 use Rattle.a64_emit.specs.Switched.{AreDifferent}
-use Rattle.a64_emit.specs.Fitting.{FitsSource, IsFitting, IsFittingBlock, IsTested}
+use Rattle.a64_emit.specs.Fitting.{FitsSource, IsFitting, IsFittingBlock, IsTested, IsLoaded, IsReached, IsStored}
 
 word_fits : (immediates : Immediates) (width : Width) (arg : Arg) (scratch : ℕ) → IsWord immediates width arg
     → FitsSource immediates width (source_of scratch arg)
@@ -59,6 +64,36 @@ unfolding AllFit
 switch_fits width cases [] fits differ = absurd fits
 switch_fits width cases (a ∷ os) fits differ = subst (λ w. AreDifferent w cases) (sym fits.0.1) differ
 
+address_fits : (kind : AccessKind) (arg : Arg) → IsAddress (access_bytes kind) arg → IsReached kind arg
+address_fits kind (Addr base offset) is = is
+address_fits kind (Index base index shift) is = tt
+address_fits kind (At home) is = tt
+address_fits kind (Imm word) is = tt
+address_fits kind (FrameSlot n) is = tt
+
+-- a load whose address is of an access of this kind
+load_fits : (o : AirOp) (width : Width) (kind : AccessKind) (os : List Operand) → access_kind o width ≡ kind → AllFit (load width (access_bytes kind)) os → IsLoaded o os
+unfolding AllFit
+load_fits o width kind [] same fits = absurd fits
+load_fits o width kind (a ∷ os) same fits =
+    subst (λ w. IsReached (access_kind o w) a.arg) (sym fits.0.1) (subst (λ k. IsReached k a.arg) (sym same) (address_fits kind a.arg fits.0.2))
+
+store_fits : (o : AirOp) (width : Width) (kind : AccessKind) (os : List Operand) → access_kind o width ≡ kind → AllFit (store width (access_bytes kind)) os
+    → IsStored o os
+unfolding AllFit
+store_fits o width kind [] same fits = absurd fits
+store_fits o width kind (a ∷ []) same fits = absurd fits.1
+store_fits o width kind (a ∷ b ∷ os) same fits =
+    subst (λ w. IsReached (access_kind o w) b.arg) (sym fits.0.1) (subst (λ k. IsReached k b.arg) (sym same) (address_fits kind b.arg fits.1.0.2))
+
+word_load_fits : (width other : Width) (os : List Operand) → AreThese (takes op.Load width other) os → IsLoaded op.Load os
+word_load_fits W32 other os fits = load_fits op.Load W32 LdrW os refl fits
+word_load_fits W64 other os fits = load_fits op.Load W64 LdrX os refl fits
+
+word_store_fits : (width other : Width) (os : List Operand) → AreThese (takes op.Store width other) os → IsStored op.Store os
+word_store_fits W32 other os fits = store_fits op.Store W32 StrW os refl fits
+word_store_fits W64 other os fits = store_fits op.Store W64 StrX os refl fits
+
 pub fitting : (r : Returns) (o : AirOp) (os : List Operand) → HasOperands r o os → IsFitting o os
 fitting r (op.SetIf t) os has = test_fits t has.0 _ os has.2
 fitting r (op.SelectIf t) os has = test_fits t has.0 _ os has.2
@@ -68,6 +103,14 @@ fitting r op.And os has = second_fits OfLogic has.0 _ os has.2
 fitting r op.Or os has = second_fits OfLogic has.0 _ os has.2
 fitting r op.Xor os has = second_fits OfLogic has.0 _ os has.2
 fitting r (op.Switch cases) os has = switch_fits has.0 cases os has.1 has.2
+fitting r op.Load8Z os has = load_fits op.Load8Z W32 Ldrb os refl has.2
+fitting r op.Load8S os has = load_fits op.Load8S W32 Ldrsb os refl has.2
+fitting r op.Load16Z os has = load_fits op.Load16Z W32 Ldrh os refl has.2
+fitting r op.Load16S os has = load_fits op.Load16S W32 Ldrsh os refl has.2
+fitting r op.Load os has = word_load_fits has.0 has.1 os has.2
+fitting r op.Store8 os has = store_fits op.Store8 W32 Strb os refl has.2
+fitting r op.Store16 os has = store_fits op.Store16 W32 Strh os refl has.2
+fitting r op.Store os has = word_store_fits has.0 has.1 os has.2
 fitting r o os has = tt
 
 fit_at : (p : AirProc) (i : AirInst) → IsGoodInst p i → IsFitting i.op i.operands

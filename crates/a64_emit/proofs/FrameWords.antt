@@ -40,10 +40,10 @@ byte_above sp offset size q ends room above = grind (arith, nat_tests)
 
 -- ---- what is not seen
 
-or_false : (a b : Bool) → a ≡ false → b ≡ false → (a || b) ≡ false
+pub or_false : (a b : Bool) → a ≡ false → b ≡ false → (a || b) ≡ false
 or_false a b e f = rw (e, f) refl
 
-not_some : (z : Setting) → IsSet z → (q : ℕ) → in_frame (row z) z.entry q ≡ true → is_some (z.entry.memory q) ≡ false
+pub not_some : (z : Setting) → IsSet z → (q : ℕ) → in_frame (row z) z.entry q ≡ true → is_some (z.entry.memory q) ≡ false
 not_some z set q inside =
     elim (is_some (z.entry.memory q)) as (λ b. is_some (z.entry.memory q) ≡ b → b ≡ false) [
       | true ↦ λ some. let no = set.apart q some in cc

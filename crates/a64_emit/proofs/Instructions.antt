@@ -1,20 +1,25 @@
 -- Each instruction that doesn't end its block does what its code does.
-use Rattle.std.proofs.Common.{◌≡◌, ℕ, ◌≤◌, true, false, inl, inr, List, [], ◌∷◌, ◌++◌, Option, Some, None, refl, sym, ap, ◌∙◌, subst, arith}
-use Rattle.std.specs.Prelude.{if◌then◌else◌, slice_get}
+use Rattle.std.proofs.Common.{◌≡◌, ℕ, ◌<◌, ◌≤◌, Bool, length, true, false, inl, inr, List, [], ◌∷◌, ◌++◌, Option, Some, None, refl, sym, ap, ◌∙◌, subst, arith}
+use Rattle.std.specs.Prelude.{if◌then◌else◌, not, slice_get}
 use Rattle.b3_base.specs.declared.word.Width.{Width}
 use Rattle.b3_base.specs.declared.word.Width.TheVariants.{W32, W64}
 use Rattle.b3_meaning.specs.Opcodes.{truth}
+use Rattle.b3_meaning.specs.declared.role.Extent.{Extent}
+use Rattle.b3_meaning.specs.declared.role.Extent.TheVariants.{Byte, Half, Whole}
 use Rattle.stackmap.specs.declared.site.Returns.{Returns}
 use Rattle.a64_layout.specs.Machine.{Machine}
 use Rattle.a64_inst.specs.Step.{Registers}
+use Rattle.a64_inst.specs.StepMemory.{access_bytes}
+use Rattle.a64_inst.specs.declared.inst.AccessKind.{AccessKind}
+use Rattle.a64_inst.specs.declared.inst.AccessKind.TheVariants.{Strb, Ldrb, Ldrsb, Strh, Ldrh, Ldrsh, StrW, LdrW, StrX, LdrX}
 use Rattle.a64_inst.specs.declared.inst.Cond.{Cond}
 use Rattle.a64_inst.specs.declared.inst.Inst.TheVariants.{Select}
 use Rattle.a64_layout.specs.Branch.{opposite_cond}
 use Rattle.air_ir.specs.Words.{computed}
 use Rattle.air_ir.specs.declared.frame.Frame.{Frame}
 use Rattle.a64_emit.specs.declared.source.Source.{Source}
-use Rattle.air_ir.specs.Forms.{AllFit, AnyWord, AreThese, BitOf, Fits, HasOperands, Immediates, IsHome, IsWord, NoImmediate, OfLogic, OfSum, Result, Takes, Word, home, takes}
-use Rattle.air_ir.specs.Kinds.{Computes, kind_of, target_count}
+use Rattle.air_ir.specs.Forms.{Address, AllFit, AnyWord, AreThese, BitOf, Fits, HasOperands, Immediates, IsAddress, IsHome, IsSlot, IsWord, NoImmediate, OfLogic, OfSum, OnlyZero, Result, Slot, Takes, Word, home, load, store, takes}
+use Rattle.air_ir.specs.Kinds.{Computes, Loads, Stores, kind_of, target_count}
 use Rattle.a64_emit.specs.Built.{is_built}
 use Rattle.air_ir.specs.Operands.{Read, and_word, targets, word_of, words}
 use Rattle.air_ir.specs.Steps.{State}
@@ -30,15 +35,19 @@ use Rattle.air_ir.specs.declared.operand.Operand.{Operand}
 use Rattle.air_ir.specs.declared.operand.Role.TheVariants.{Use}
 use Rattle.air_ir.specs.declared.procedure.AirInst.{AirInst}
 use Rattle.air_frame.specs.Frames.{IsFrameOf}
-use Rattle.a64_emit.specs.Code.{compute_code, fetch, inst_code, put_result, result_reg, source_of}
+use Rattle.a64_emit.specs.Accesses.{access_kind}
+use Rattle.a64_emit.specs.Code.{compute_code, fetch, inst_code, load_code, put_result, result_reg, source_of, store_code}
 use Rattle.a64_emit.specs.Computing.{condition, reg_of, testing}
 use Rattle.a64_emit.specs.Fitting.{FitsSource, IsComputed, IsTested}
 use Rattle.a64_emit.specs.Related.{IsRelated}
 use Rattle.a64_emit.specs.Setting.{IsSet, Setting}
+use Rattle.a64_emit.proofs.AccessesReached.{IsReachable}
+use Rattle.a64_emit.proofs.AccessesRun.{IsLoad, IsStore, load_16s, load_16z, load_32, load_64, load_8s, load_8z, load_runs, store_16, store_32, store_64, store_8, store_runs}
 use Rattle.a64_emit.proofs.AirSteps.{IsWritten, computes_word, step_gives, step_lost, targets_result, targets_use, words_result, words_use, written_home}
 use Rattle.a64_emit.proofs.Computes.{InstRuns, one_runs, place_usable, source_most, three_runs, two_runs}
 use Rattle.a64_emit.proofs.Copies.{IsConstantOf, copy_runs}
 use Rattle.a64_emit.proofs.Fetching.{IsPlaceFor, IsUsable}
+use Rattle.a64_emit.proofs.FrameAddresses.{IsOwnSlot, pointer_runs, slot_runs}
 use Rattle.a64_emit.proofs.Ops.{IsRegister, IsWidthOf, second_width, takes_constant}
 use Rattle.a64_emit.proofs.Tests.{GivesSecond, passes}
 use Rattle.a64_emit.proofs.TestsRun.{ready_one, ready_two, select_end, set_end}
@@ -58,6 +67,8 @@ fit_nil (a ∷ os) fits = absurd fits
 -- what an operand names may be fetched where it is read, and written where it is written
 pub record IsOpen (z : Setting) (o : Operand) : Type 0 where
   pub reads : o.role ≡ Use → (width : Width) (immediates : Immediates) → IsWord immediates width o.arg → IsUsable z o.arg
+  pub reaches : o.role ≡ Use → (bytes : ℕ) → IsAddress bytes o.arg → IsReachable z o.arg
+  pub slots : o.role ≡ Use → IsSlot o.arg → IsOwnSlot z o.arg
   pub writes : (home : Home) → IsWritten o home → IsPlaceFor z home
 
 abbrev pub AreOpen : Setting → List Operand → Type 0
@@ -89,12 +100,35 @@ constant_of z immediates width (Addr base offset) usable is = tt
 constant_of z immediates width (Index base index shift) usable is = tt
 constant_of z immediates width (FrameSlot n) usable is = tt
 
+-- a slot of the procedure by its number
+slot_number : (z : Setting) (arg : Arg) → IsOwnSlot z arg → (n : ℕ) × (arg ≡ FrameSlot n) × (n < length z.procedure.slots)
+slot_number z (FrameSlot n) own = (n, refl, own)
+slot_number z (At home) own = absurd own
+slot_number z (Imm word) own = absurd own
+slot_number z (Addr base offset) own = absurd own
+slot_number z (Index base index shift) own = absurd own
+
+-- what isn't true is false
+is_false : (b : Bool) → not b ≡ true → b ≡ false
+is_false false e = refl
+is_false true e = absurd cc
+
 -- ---- ops of one instruction
 
 abbrev IsSimple : AirOp → Type 0
 IsSimple op.Move = ⊥
 IsSimple (op.SetIf test) = ⊥
 IsSimple (op.SelectIf test) = ⊥
+IsSimple op.Load8Z = ⊥
+IsSimple op.Load8S = ⊥
+IsSimple op.Load16Z = ⊥
+IsSimple op.Load16S = ⊥
+IsSimple op.Load = ⊥
+IsSimple op.Store8 = ⊥
+IsSimple op.Store16 = ⊥
+IsSimple op.Store = ⊥
+IsSimple op.SlotAddress = ⊥
+IsSimple op.FramePointer = ⊥
 IsSimple _ = Unit {0}
 
 -- a test of one word
@@ -153,6 +187,16 @@ module _ (z : Setting) (set : IsSet z) (serves : IsFrameOf z.procedure z.frame) 
   simple_code op.Move os simple = absurd simple
   simple_code (op.SetIf test) os simple = absurd simple
   simple_code (op.SelectIf test) os simple = absurd simple
+  simple_code op.Load8Z os simple = absurd simple
+  simple_code op.Load8S os simple = absurd simple
+  simple_code op.Load16Z os simple = absurd simple
+  simple_code op.Load16S os simple = absurd simple
+  simple_code op.Load os simple = absurd simple
+  simple_code op.Store8 os simple = absurd simple
+  simple_code op.Store16 os simple = absurd simple
+  simple_code op.Store os simple = absurd simple
+  simple_code op.SlotAddress os simple = absurd simple
+  simple_code op.FramePointer os simple = absurd simple
   simple_code o os simple = refl
 
   one_form : (i : AirInst) (s : State) (c : Machine) (o : AirOp) (wa wd : Width) → i.op ≡ o → IsSimple o → kind_of o ≡ Computes
@@ -227,6 +271,77 @@ module _ (z : Setting) (set : IsSet z) (serves : IsFrameOf z.procedure z.frame) 
       copy_runs z set serves i s c a.0 d.0 written.0 operands (ap (λ o. inst_code z.frame o (a.0 ∷ d.0 ∷ [])) e) (ap kind_of e) a.3.0 (d.3.1 ∙ sym a.3.1) written.1 rel
       usable (subst (λ w. IsConstantOf w a.0.arg) (sym a.3.1) (constant_of z AnyWord width a.0.arg usable a.3.2))
       ((opened 1 d.0 (ap (λ os. slice_get os 1) operands)).writes written.0 written.1)
+
+  -- ---- memory
+
+  load_form : (i : AirInst) (s : State) (c : Machine) (o : AirOp) (width : Width) (kind : AccessKind) (extent : Extent) (extends : Bool) → i.op ≡ o
+      → ((os : List Operand) → inst_code z.frame o os ≡ load_code z.frame o os) → access_kind o width ≡ kind → i.traps ≡ false
+      → kind_of o ≡ Loads extent extends → IsLoad kind extent extends width
+      → AllFit (load width (access_bytes kind)) i.operands → AreOpen z i.operands → IsRelated z s c → InstRuns z i s c
+  load_form i s c o width kind extent extends e code same traps loads is fits opened rel =
+      let a = fit_cons (Address width (access_bytes kind)) (Result width ∷ []) i.operands fits in
+      let d = fit_cons (Result width) [] a.1 a.4 in
+      let operands : i.operands ≡ a.0 ∷ d.0 ∷ [] = a.2 ∙ ap (λ os. a.0 ∷ os) (d.2 ∙ ap (λ os. d.0 ∷ os) (fit_nil d.1 d.4)) in
+      let written = written_home width d.0 d.3 in
+      let reachable = (opened 0 a.0 (ap (λ os. slice_get os 0) operands)).reaches a.3.0 (access_bytes kind) a.3.2 in
+      load_runs z set serves i s c a.0 d.0 written.0 kind extent extends operands
+      (subst (λ o. inst_code z.frame o (a.0 ∷ d.0 ∷ []) ≡ load_code z.frame o (a.0 ∷ d.0 ∷ [])) (sym e) (code (a.0 ∷ d.0 ∷ [])))
+      (subst (λ o. access_kind o a.0.width ≡ kind) (sym e) (ap (access_kind o) a.3.1 ∙ same)) traps (ap kind_of e ∙ loads)
+      (subst (IsLoad kind extent extends) (sym a.3.1) is) a.3.0 written.1 rel reachable a.3.2
+      ((opened 1 d.0 (ap (λ os. slice_get os 1) operands)).writes written.0 written.1)
+
+  word_load_form : (i : AirInst) (s : State) (c : Machine) (width other : Width) → i.op ≡ op.Load → i.traps ≡ false → AreThese (takes op.Load width other) i.operands
+      → AreOpen z i.operands → IsRelated z s c → InstRuns z i s c
+  unfolding inst_code
+  word_load_form i s c W32 other e traps fits opened rel =
+      load_form i s c op.Load W32 LdrW Whole false e (λ os. refl) refl traps refl load_32 fits opened rel
+  word_load_form i s c W64 other e traps fits opened rel =
+      load_form i s c op.Load W64 LdrX Whole false e (λ os. refl) refl traps refl load_64 fits opened rel
+
+  store_form : (i : AirInst) (s : State) (c : Machine) (o : AirOp) (width : Width) (kind : AccessKind) (extent : Extent) → i.op ≡ o
+      → ((os : List Operand) → inst_code z.frame o os ≡ store_code z.frame o os) → access_kind o width ≡ kind → i.traps ≡ false
+      → kind_of o ≡ Stores extent → IsStore kind extent width
+      → AllFit (store width (access_bytes kind)) i.operands → AreOpen z i.operands → IsRelated z s c → InstRuns z i s c
+  store_form i s c o width kind extent e code same traps stores is fits opened rel =
+      let a = fit_cons (Word width OnlyZero) (Address width (access_bytes kind) ∷ []) i.operands fits in
+      let b = fit_cons (Address width (access_bytes kind)) [] a.1 a.4 in
+      let operands : i.operands ≡ a.0 ∷ b.0 ∷ [] = a.2 ∙ ap (λ os. a.0 ∷ os) (b.2 ∙ ap (λ os. b.0 ∷ os) (fit_nil b.1 b.4)) in
+      let usable = (opened 0 a.0 (ap (λ os. slice_get os 0) operands)).reads a.3.0 width OnlyZero a.3.2 in
+      let reachable = (opened 1 b.0 (ap (λ os. slice_get os 1) operands)).reaches b.3.0 (access_bytes kind) b.3.2 in
+      store_runs z set serves i s c a.0 b.0 kind extent operands
+      (subst (λ o. inst_code z.frame o (a.0 ∷ b.0 ∷ []) ≡ store_code z.frame o (a.0 ∷ b.0 ∷ [])) (sym e) (code (a.0 ∷ b.0 ∷ [])))
+      (subst (λ o. access_kind o a.0.width ≡ kind) (sym e) (ap (access_kind o) a.3.1 ∙ same)) traps (ap kind_of e ∙ stores)
+      (subst (IsStore kind extent) (sym a.3.1) is) a.3.0 b.3.0 rel usable (subst (λ w. IsWord OnlyZero w a.0.arg) (sym a.3.1) a.3.2) reachable b.3.2
+
+  word_store_form : (i : AirInst) (s : State) (c : Machine) (width other : Width) → i.op ≡ op.Store → i.traps ≡ false → AreThese (takes op.Store width other) i.operands
+      → AreOpen z i.operands → IsRelated z s c → InstRuns z i s c
+  unfolding inst_code
+  word_store_form i s c W32 other e traps fits opened rel =
+      store_form i s c op.Store W32 StrW Whole e (λ os. refl) refl traps refl store_32 fits opened rel
+  word_store_form i s c W64 other e traps fits opened rel =
+      store_form i s c op.Store W64 StrX Whole e (λ os. refl) refl traps refl store_64 fits opened rel
+
+  slot_form : (i : AirInst) (s : State) (c : Machine) → i.op ≡ op.SlotAddress → AllFit (Slot ∷ Result W64 ∷ []) i.operands
+      → AreOpen z i.operands → IsRelated z s c → InstRuns z i s c
+  unfolding inst_code
+  slot_form i s c e fits opened rel =
+      let a = fit_cons Slot (Result W64 ∷ []) i.operands fits in
+      let d = fit_cons (Result W64) [] a.1 a.4 in
+      let operands : i.operands ≡ a.0 ∷ d.0 ∷ [] = a.2 ∙ ap (λ os. a.0 ∷ os) (d.2 ∙ ap (λ os. d.0 ∷ os) (fit_nil d.1 d.4)) in
+      let written = written_home W64 d.0 d.3 in
+      let slot = slot_number z a.0.arg ((opened 0 a.0 (ap (λ os. slice_get os 0) operands)).slots a.3.0 a.3.2) in
+      slot_runs z set serves i s c a.0 d.0 written.0 slot.0 operands slot.1 (ap (λ o. inst_code z.frame o (a.0 ∷ d.0 ∷ [])) e) (ap kind_of e) a.3.0 slot.2
+      written.1 rel ((opened 1 d.0 (ap (λ os. slice_get os 1) operands)).writes written.0 written.1)
+
+  pointer_form : (i : AirInst) (s : State) (c : Machine) → i.op ≡ op.FramePointer → AllFit (Result W64 ∷ []) i.operands
+      → AreOpen z i.operands → IsRelated z s c → InstRuns z i s c
+  unfolding inst_code
+  pointer_form i s c e fits opened rel =
+      let d = fit_cons (Result W64) [] i.operands fits in
+      let operands : i.operands ≡ d.0 ∷ [] = d.2 ∙ ap (λ os. d.0 ∷ os) (fit_nil d.1 d.4) in
+      let written = written_home W64 d.0 d.3 in
+      pointer_runs z set serves i s c d.0 written.0 operands (ap (λ o. inst_code z.frame o (d.0 ∷ [])) e) (ap kind_of e)
+      written.1 rel ((opened 0 d.0 (ap (λ os. slice_get os 0) operands)).writes written.0 written.1)
 
   -- ---- tests
 
@@ -427,8 +542,9 @@ module _ (z : Setting) (set : IsSet z) (serves : IsFrameOf z.procedure z.frame) 
   select_form i s c NonZero width other e fits opened rel = select_one i s c NonZero width other (home width) e fits (nonzero_test width) opened rel
   select_form i s c (Bit k) width other e fits opened rel = select_one i s c (Bit k) width other (BitOf width k) e fits (bit_test width k) opened rel
 
-  by_op : (i : AirInst) (s : State) (c : Machine) (returns : Returns) (o : AirOp) → i.op ≡ o → is_built o ≡ true → target_count o ≡ None → HasOperands returns o i.operands
+  by_op : (i : AirInst) (s : State) (c : Machine) (returns : Returns) (o : AirOp) → i.op ≡ o → is_built o i.traps ≡ true → target_count o ≡ None → HasOperands returns o i.operands
       → AreOpen z i.operands → IsRelated z s c → InstRuns z i s c
+  unfolding inst_code
   by_op i s c returns op.Move e built inner h opened rel = move_form i s c h.0 e h.2 opened rel
   by_op i s c returns op.Add e built inner h opened rel = two_form i s c op.Add h.0 h.0 h.0 OfSum e tt refl h.2 tt refl (λ n. absurd cc) (λ b usable is. fits_source z OfSum h.0 16 b usable is) opened rel
   by_op i s c returns op.Sub e built inner h opened rel = two_form i s c op.Sub h.0 h.0 h.0 NoImmediate e tt refl h.2 tt refl (λ n. refl) (λ b usable is. tt) opened rel
@@ -453,6 +569,16 @@ module _ (z : Setting) (set : IsSet z) (serves : IsFrameOf z.procedure z.frame) 
   by_op i s c returns op.UMulHigh e built inner h opened rel = two_form i s c op.UMulHigh W64 W64 W64 NoImmediate e tt refl h.2 refl refl (λ n. refl) (λ b usable is. tt) opened rel
   by_op i s c returns (op.SetIf t) e built inner h opened rel = set_form i s c t h.0 h.1 e h.2 opened rel
   by_op i s c returns (op.SelectIf t) e built inner h opened rel = select_form i s c t h.0 h.1 e h.2 opened rel
+  by_op i s c returns op.Load8Z e built inner h opened rel = load_form i s c op.Load8Z W32 Ldrb Byte false e (λ os. refl) refl (is_false i.traps built) refl (load_8z W32) h.2 opened rel
+  by_op i s c returns op.Load8S e built inner h opened rel = load_form i s c op.Load8S W32 Ldrsb Byte true e (λ os. refl) refl (is_false i.traps built) refl (load_8s W32) h.2 opened rel
+  by_op i s c returns op.Load16Z e built inner h opened rel = load_form i s c op.Load16Z W32 Ldrh Half false e (λ os. refl) refl (is_false i.traps built) refl (load_16z W32) h.2 opened rel
+  by_op i s c returns op.Load16S e built inner h opened rel = load_form i s c op.Load16S W32 Ldrsh Half true e (λ os. refl) refl (is_false i.traps built) refl (load_16s W32) h.2 opened rel
+  by_op i s c returns op.Load e built inner h opened rel = word_load_form i s c h.0 h.1 e (is_false i.traps built) h.2 opened rel
+  by_op i s c returns op.Store8 e built inner h opened rel = store_form i s c op.Store8 W32 Strb Byte e (λ os. refl) refl (is_false i.traps built) refl store_8 h.2 opened rel
+  by_op i s c returns op.Store16 e built inner h opened rel = store_form i s c op.Store16 W32 Strh Half e (λ os. refl) refl (is_false i.traps built) refl store_16 h.2 opened rel
+  by_op i s c returns op.Store e built inner h opened rel = word_store_form i s c h.0 h.1 e (is_false i.traps built) h.2 opened rel
+  by_op i s c returns op.SlotAddress e built inner h opened rel = slot_form i s c e h.2 opened rel
+  by_op i s c returns op.FramePointer e built inner h opened rel = pointer_form i s c e h.2 opened rel
   by_op i s c returns (op.BranchIf t) e built inner h opened rel = absurd cc
   by_op i s c returns op.Jump e built inner h opened rel = absurd cc
   by_op i s c returns (op.Switch cases) e built inner h opened rel = absurd cc
@@ -460,6 +586,6 @@ module _ (z : Setting) (set : IsSet z) (serves : IsFrameOf z.procedure z.frame) 
   by_op i s c returns op.Oops e built inner h opened rel = absurd cc
   by_op i s c returns o e built inner h opened rel = absurd cc
 
-  pub inst_runs : (i : AirInst) (s : State) (c : Machine) (returns : Returns) → is_built i.op ≡ true → target_count i.op ≡ None → HasOperands returns i.op i.operands
+  pub inst_runs : (i : AirInst) (s : State) (c : Machine) (returns : Returns) → is_built i.op i.traps ≡ true → target_count i.op ≡ None → HasOperands returns i.op i.operands
       → AreOpen z i.operands → IsRelated z s c → InstRuns z i s c
   inst_runs i s c returns built inner h opened rel = by_op i s c returns i.op refl built inner h opened rel

@@ -26,19 +26,21 @@ use Rattle.air_ir.specs.declared.op.Test.{Test}
 use Rattle.air_ir.specs.declared.op.Test.TheVariants.{Compare, NonZero, Bit}
 use Rattle.air_ir.specs.declared.operand.Arg.{Arg}
 use Rattle.air_ir.specs.declared.operand.Arg.TheVariants.{At, Imm, Addr, Index, FrameSlot}
+use Rattle.air_ir.specs.declared.operand.Home.{Home}
 use Rattle.air_ir.specs.declared.operand.Home.TheVariants.{Reg, Spill, Tmp}
 use Rattle.air_ir.specs.declared.operand.Operand.{Operand}
 use Rattle.air_ir.specs.declared.operand.Role.{Role}
 use Rattle.air_ir.specs.declared.operand.Role.TheVariants.{Use, LateUse, EarlyDef, Def, Clobber}
-use Rattle.air_ir.specs.WellFormed.{IsGoodBlock, IsGoodInst, NamesOwn, IsWellFormed as IsGoodProc}
+use Rattle.air_ir.specs.WellFormed.{IsGoodBlock, IsGoodInst, MayName, NamesOwn, IsWellFormed as IsGoodProc}
 use Rattle.a64_emit.proofs.Fits.{fitting}
 use Rattle.air_ir.specs.declared.procedure.AirBlock.{AirBlock}
 use Rattle.air_ir.specs.declared.procedure.AirInst.{AirInst}
 use Rattle.air_ir.specs.declared.procedure.AirProc.{AirProc}
-use Rattle.a64_emit.specs.Code.{arg_at, block_labels, blocks_items, branch_item, branches, compared, compute_code, copy_reg, bring, emitted, fetch, fetch_below, fetch_tested, inst_code, inst_items, insts_items, own_labels, put_result, result_at, result_reg, source_at, source_of, test_at, test_count, width_at}
+use Rattle.a64_emit.specs.Accesses.{access_kind, below_x29, upper}
+use Rattle.a64_emit.specs.Code.{arg_at, block_labels, blocks_items, branch_item, branches, compared, compute_code, copy_reg, bring, emitted, fetch, fetch_address, fetch_below, fetch_tested, frame_address, inst_code, inst_items, insts_items, load_code, put_result, result_at, result_reg, slot_offset, source_at, source_of, store_code, test_at, test_count, width_at, own_labels}
 use Rattle.a64_emit.specs.Computing.{computing, move_reg, reg_of, sum_with}
 use Rattle.a64_emit.specs.Constants.{constant, filling, half_count, half_move, half_moves, half_word, is_inverted}
-use Rattle.a64_emit.specs.Fitting.{IsComputed, IsFitting, IsTested}
+use Rattle.a64_emit.specs.Fitting.{IsComputed, IsFitting, IsLoaded, IsStored, IsTested}
 use Rattle.a64_emit.specs.Places.{above_sp, epilogue, leave, load_at, lower_sp, plains, prologue, restores, saves, spill_offset, store_at, unless_zero}
 use Rattle.a64_emit.specs.Switched.{case_items, case_of, cases_in_order, compare_word, is_sum_word, jump_to, search_items, sorted_words, switch_items}
 use Rattle.a64_emit.specs.Trees.{Leaf, Node, Tree, node_count, tree}
@@ -48,6 +50,7 @@ use Rattle.a64_emit.specs.declared.source.Source.TheVariants.{Constant}
 use Rattle.a64_emit.proofs.LabelCounts.{all_labels}
 use Rattle.a64_emit.proofs.Sorting.{each_map, search_labels, sorted_small}
 use Rattle.a64_emit.proofs.Trees.{Each, each_append, each_left, each_right, each_weaker, in_order, tree_order}
+use Rattle.a64_emit.proofs.AccessesWell.{HasSmallHomes, IsSmallHome, access_well}
 use Rattle.a64_emit.proofs.Shapes.{computing_plain, move_plain, sum_plain, testing_plain}
 
 -- ---- instructions
@@ -127,8 +130,8 @@ constant_well width reg word le = moves_well width (is_inverted width word) reg 
 
 -- the registers of an argument are those of the processor
 abbrev pub IsSmallArg : Arg → Type 0
-IsSmallArg (At (Reg r)) = r.0 ≤ 30
-IsSmallArg arg = Unit {0}
+IsSmallArg (At home) = IsSmallHome home
+IsSmallArg arg = HasSmallHomes arg
 
 abbrev pub AreSmall : List Operand → Type 0
 AreSmall os = (k : ℕ) → IsSmallArg (arg_at os k)
@@ -150,6 +153,9 @@ result_small (Imm word) small = omega arith
 result_small (Addr base offset) small = omega arith
 result_small (Index base index shift) small = omega arith
 result_small (FrameSlot n) small = omega arith
+
+unless_well : (n : ℕ) (insts : List Inst) → AllWell insts → AllWell (unless_zero n insts)
+unless_well n insts well = elim (nat_eq n 0) as (λ b. AllWell (if b then [] else insts)) [ true ↦ tt | false ↦ well ]
 
 module _ (f : Frame) (limit : f.bytes < 2 ^ 21) where
   pub fetch_well : (scratch : ℕ) (arg : Arg) → scratch ≤ 31 → AllWell (fetch f scratch arg)
@@ -229,6 +235,56 @@ module _ (f : Frame) (limit : f.bytes < 2 ^ 21) where
   compared_well NonZero os small fits = tt
   compared_well (Bit bit) os small fits = tt
 
+  address_well : (arg : Arg) → AllWell (fetch_address f arg)
+  unfolding fetch_address
+  address_well (Addr base offset) = fetch_well 15 (At base) (omega arith)
+  address_well (Index base index shift) =
+      well_append (fetch f 15 (At base)) (fetch f 16 (At index)) (fetch_well 15 (At base) (omega arith)) (fetch_well 16 (At index) (omega arith))
+  address_well (At home) = tt
+  address_well (Imm word) = tt
+  address_well (FrameSlot n) = tt
+
+  small_homes : (arg : Arg) → IsSmallArg arg → HasSmallHomes arg
+  small_homes (Addr base offset) small = small
+  small_homes (Index base index shift) small = small
+  small_homes (At home) small = tt
+  small_homes (Imm word) small = tt
+  small_homes (FrameSlot n) small = tt
+
+  load_code_well : (o : AirOp) (os : List Operand) → AreSmall os → IsLoaded o os → AllWell (load_code f o os)
+  load_code_well o os small fits =
+      let le = result_small (arg_at os 1) (small 1) in
+      well_append (fetch_address f (arg_at os 0)) _ (address_well (arg_at os 0)) (
+        access_well (access_kind o (width_at os 0)) (result_reg (arg_at os 1)) (arg_at os 0) le (small_homes (arg_at os 0) (small 0)) fits,
+        put_well (result_reg (arg_at os 1)) (arg_at os 1) le,
+      )
+
+  store_code_well : (o : AirOp) (os : List Operand) → AreSmall os → IsStored o os → AllWell (store_code f o os)
+  store_code_well o os small fits =
+      well_append (fetch_address f (arg_at os 1) ++ fetch f 17 (arg_at os 0)) _
+      (well_append (fetch_address f (arg_at os 1)) (fetch f 17 (arg_at os 0)) (address_well (arg_at os 1)) (fetch_well 17 (arg_at os 0) (omega arith))) (
+        access_well (access_kind o (width_at os 0)) (reg_of (source_of 17 (arg_at os 0))) (arg_at os 1) (source_small 17 (arg_at os 0) (omega arith) (small 0))
+            (small_homes (arg_at os 1) (small 1)) fits,
+        tt,
+      )
+
+  below_x29_well : (reg bytes : ℕ) → reg ≤ 31 → AllWell (below_x29 reg bytes)
+  unfolding below_x29
+  below_x29_well reg bytes le =
+      elim (nat_le bytes 4095) as (λ b. nat_le bytes 4095 ≡ b → AllWell (if b then AddSubImm W64 true false reg 29 bytes false ∷ [] else
+      AddSubImm W64 true false reg 29 (upper bytes) true ∷ unless_zero (bytes % 4096) (AddSubImm W64 true false reg reg (bytes % 4096) false ∷ []))) [
+        | true ↦ λ e. let few = le_of bytes 4095 e in ((le, omega arith, omega arith), tt)
+        | false ↦ λ e. (
+          (le, omega arith, omega arith),
+          unless_well (bytes % 4096) (AddSubImm W64 true false reg reg (bytes % 4096) false ∷ []) ((le, le, omega arith), tt),
+        )
+      ] refl
+
+  frame_address_well : (bytes : ℕ) (to : Arg) → IsSmallArg to → AllWell (frame_address f bytes to)
+  frame_address_well bytes to small =
+      let le = result_small to small in
+      well_append (below_x29 (result_reg to) bytes) (put_result f (result_reg to) to) (below_x29_well (result_reg to) bytes le) (put_well (result_reg to) to le)
+
   pub code_well : (o : AirOp) (os : List Operand) → AreSmall os → IsFitting o os → AllWell (inst_code f o os)
   unfolding inst_code
   code_well op.Move os small fits =
@@ -248,6 +304,16 @@ module _ (f : Frame) (limit : f.bytes < 2 ^ 21) where
       (well_append (fetch_tested f t os) (test_at t os ∷ first) (tested_well t os) (test_well t os small fits, fetch_well 15 (arg_at os n) (omega arith)))
       (fetch_well 16 (arg_at os (n + 1)) (omega arith)))
       ((le, source_small 15 (arg_at os n) (omega arith) (small n), source_small 16 (arg_at os (n + 1)) (omega arith) (small (n + 1))), put_well (result_reg (result_at os)) (result_at os) le)
+  code_well op.Load8Z os small fits = load_code_well op.Load8Z os small fits
+  code_well op.Load8S os small fits = load_code_well op.Load8S os small fits
+  code_well op.Load16Z os small fits = load_code_well op.Load16Z os small fits
+  code_well op.Load16S os small fits = load_code_well op.Load16S os small fits
+  code_well op.Load os small fits = load_code_well op.Load os small fits
+  code_well op.Store8 os small fits = store_code_well op.Store8 os small fits
+  code_well op.Store16 os small fits = store_code_well op.Store16 os small fits
+  code_well op.Store os small fits = store_code_well op.Store os small fits
+  code_well op.SlotAddress os small fits = frame_address_well (slot_offset f (arg_at os 0)) (arg_at os 1) (small 1)
+  code_well op.FramePointer os small fits = frame_address_well 0 (arg_at os 0) (small 0)
   code_well (op.BranchIf t) os small fits = compute_well (op.BranchIf t) os small tt
   code_well (op.Switch cases) os small fits = compute_well (op.Switch cases) os small tt
   code_well o os small fits = compute_well o os small fits
@@ -269,9 +335,6 @@ module _ (f : Frame) (limit : f.bytes < 2 ^ 21) where
       let high = (All-head (IsGoodSaved f.bytes) s rows goods).high in
       well_append (load_at s.reg.0 (above_sp f s.offset)) (restores f rows) (load_well s.reg.0 (above_sp f s.offset) (omega arith) (omega arith))
       (restores_well rows (All-tail (IsGoodSaved f.bytes) s rows goods))
-
-  unless_well : (n : ℕ) (insts : List Inst) → AllWell insts → AllWell (unless_zero n insts)
-  unless_well n insts well = elim (nat_eq n 0) as (λ b. AllWell (if b then [] else insts)) [ true ↦ tt | false ↦ well ]
 
   lower_well : (bytes : ℕ) → bytes < 2 ^ 21 → AllWell (lower_sp bytes)
   unfolding lower_sp
@@ -427,17 +490,20 @@ module _ (f : Frame) (limit : f.bytes < 2 ^ 21) (goods : All (IsGoodSaved f.byte
 allocatable_small : (r : ℕ) → (r ≤ 14) ⊎ ((19 ≤ r) × (r ≤ 28)) → r ≤ 30
 allocatable_small r is = ⊎_elim (λ (le : r ≤ 14). omega arith) (λ (h : (19 ≤ r) × (r ≤ 28)). omega (arith, h.1)) is
 
+home_small : (p : AirProc) (role : Role) (home : Home) → MayName p role home → IsSmallHome home
+home_small p EarlyDef (Reg r) named = named.0
+home_small p Clobber (Reg r) named = named.0
+home_small p Use (Reg r) named = allocatable_small r.0 named
+home_small p LateUse (Reg r) named = allocatable_small r.0 named
+home_small p Def (Reg r) named = allocatable_small r.0 named
+home_small p role (Spill n) named = tt
+home_small p role (Tmp n) named = tt
+
 named_small : (p : AirProc) (role : Role) (arg : Arg) → NamesOwn p role arg → IsSmallArg arg
-named_small p EarlyDef (At (Reg r)) named = named.0
-named_small p Clobber (At (Reg r)) named = named.0
-named_small p Use (At (Reg r)) named = allocatable_small r.0 named
-named_small p LateUse (At (Reg r)) named = allocatable_small r.0 named
-named_small p Def (At (Reg r)) named = allocatable_small r.0 named
-named_small p role (At (Spill n)) named = tt
-named_small p role (At (Tmp n)) named = tt
+named_small p role (At home) named = home_small p role home named
 named_small p role (Imm word) named = tt
-named_small p role (Addr base offset) named = tt
-named_small p role (Index base index shift) named = tt
+named_small p role (Addr base offset) named = home_small p role base named
+named_small p role (Index base index shift) named = (home_small p role base named.0, home_small p role index named.1)
 named_small p role (FrameSlot n) named = tt
 
 names_small : (p : AirProc) (os : List Operand) → All (λ (o : Operand). NamesOwn p o.role o.arg) os → AreSmall os

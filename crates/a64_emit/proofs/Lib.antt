@@ -4,6 +4,7 @@ pub mod Ops
 pub mod Tests
 pub mod Keeping
 pub mod FrameWords
+pub mod AccessesSeen
 pub mod Storing
 pub mod Fetching
 pub mod Shapes
@@ -12,6 +13,10 @@ pub mod Computes
 pub mod TestsRun
 pub mod Moves
 pub mod Copies
+pub mod AccessesReached
+pub mod AccessesDone
+pub mod AccessesRun
+pub mod FrameAddresses
 pub mod Instructions
 pub mod Trees
 pub mod Sorting
@@ -31,12 +36,14 @@ pub mod Blocks
 pub mod CodeOfAir
 pub mod Pushing
 pub mod Fits
+pub mod AccessesWell
 pub mod Labelled
 pub mod WellLabelled
 pub mod SwitchPushing
 pub mod BlockPushing
 pub mod Sizes
 pub mod Weights
+pub mod AccessesLight
 pub mod Light
 pub mod WholeCode
 pub mod Sample

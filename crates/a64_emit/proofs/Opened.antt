@@ -8,7 +8,7 @@ use Rattle.b3_base.specs.declared.word.Width.{Width}
 use Rattle.b3_base.specs.declared.word.Width.TheVariants.{W32, W64}
 use Rattle.stackmap.specs.declared.site.Returns.{Returns}
 use Rattle.stackmap.specs.declared.site.Returns.TheVariants as kind
-use Rattle.air_ir.specs.Forms.{AllFit, BitOf, HasOperands, Immediates, IsWord, NoImmediate, Takes, Word, home, operand_in, returned, test_takes}
+use Rattle.air_ir.specs.Forms.{AllFit, BitOf, HasOperands, Immediates, IsAddress, IsSlot, IsWord, NoImmediate, Takes, Word, home, operand_in, returned, test_takes}
 use Rattle.air_ir.specs.Kinds.{target_count}
 use Rattle.air_ir.specs.Operands.{Target, and_target, is_read, targets}
 use Rattle.air_ir.specs.WellFormed.{IsGoodInst, MayName, NamesOwn}
@@ -24,11 +24,13 @@ use Rattle.air_ir.specs.declared.operand.Operand.{Operand}
 use Rattle.air_ir.specs.declared.operand.Role.TheVariants.{Def, Use}
 use Rattle.air_ir.specs.declared.procedure.AirBlock.{AirBlock}
 use Rattle.air_ir.specs.declared.procedure.AirInst.{AirInst}
-use Rattle.air_frame.specs.Needs.{arg_names, block_names, block_writes, inst_names, inst_writes, is_register, names, writes}
+use Rattle.air_frame.specs.Needs.{arg_names, block_names, block_writes, inst_names, inst_writes, is_register, is_spill, names, writes}
 use Rattle.a64_emit.specs.Setting.{Setting}
+use Rattle.a64_emit.proofs.AccessesReached.{IsReachable}
 use Rattle.a64_emit.proofs.AirSteps.{IsWritten}
 use Rattle.a64_emit.proofs.BranchEnds.{AllUsable}
 use Rattle.a64_emit.proofs.Fetching.{IsPlaceFor, IsUsable}
+use Rattle.a64_emit.proofs.FrameAddresses.{IsOwnSlot}
 use Rattle.a64_emit.proofs.Instructions.{AreOpen, home_word}
 
 -- ---- lists
@@ -44,6 +46,13 @@ all_at P xs k x there each = subst P (get_or_from_slice_get xs k x x there) (eac
 own_spill : (n : ℕ) → arg_names n (At (Spill n)) ≡ true
 own_spill n = eq-eqb n n refl
 
+or_left : (a b : Bool) → a ≡ true → (a || b) ≡ true
+or_left a b e = rw e refl
+
+or_right : (a b : Bool) → b ≡ true → (a || b) ≡ true
+or_right true b e = refl
+or_right false b e = e
+
 usable_arg : (z : Setting) (arg : Arg) → z.procedure.tmps ≡ 0 → NamesOwn z.procedure Use arg → ((n : ℕ) → arg_names n arg ≡ true → names z.procedure n ≡ true)
     → (width : Width) (immediates : Immediates) → IsWord immediates width arg → IsUsable z arg
 usable_arg z (At (Tmp n)) none own named width immediates is = let lt : n < z.procedure.tmps = own in absurd (omega (arith, none))
@@ -53,6 +62,30 @@ usable_arg z (Imm word) none own named width immediates is = tt
 usable_arg z (Addr base offset) none own named width immediates is = absurd is
 usable_arg z (Index base index shift) none own named width immediates is = absurd is
 usable_arg z (FrameSlot n) none own named width immediates is = absurd is
+
+usable_home : (z : Setting) (home : Home) → z.procedure.tmps ≡ 0 → MayName z.procedure Use home
+    → ((n : ℕ) → is_spill n home ≡ true → names z.procedure n ≡ true) → IsUsable z (At home)
+usable_home z (Tmp n) none own named = let lt : n < z.procedure.tmps = own in absurd (omega (arith, none))
+usable_home z (Reg r) none own named = own
+usable_home z (Spill n) none own named = named n (own_spill n)
+
+reachable_arg : (z : Setting) (arg : Arg) → z.procedure.tmps ≡ 0 → NamesOwn z.procedure Use arg → ((n : ℕ) → arg_names n arg ≡ true → names z.procedure n ≡ true)
+    → (bytes : ℕ) → IsAddress bytes arg → IsReachable z arg
+reachable_arg z (Addr base offset) none own named bytes is = usable_home z base none own named
+reachable_arg z (Index base index shift) none own named bytes is = (
+  usable_home z base none own.0 (λ n same. named n (or_left (is_spill n base) (is_spill n index) same)),
+  usable_home z index none own.1 (λ n same. named n (or_right (is_spill n base) (is_spill n index) same)),
+)
+reachable_arg z (At home) none own named bytes is = absurd is
+reachable_arg z (Imm word) none own named bytes is = absurd is
+reachable_arg z (FrameSlot n) none own named bytes is = absurd is
+
+own_slot : (z : Setting) (arg : Arg) → NamesOwn z.procedure Use arg → IsSlot arg → IsOwnSlot z arg
+own_slot z (FrameSlot n) own is = own
+own_slot z (At home) own is = absurd is
+own_slot z (Imm word) own is = absurd is
+own_slot z (Addr base offset) own is = absurd is
+own_slot z (Index base index shift) own is = absurd is
 
 place_home : (z : Setting) (home : Home) → z.procedure.tmps ≡ 0 → MayName z.procedure Def home
     → ((n : ℕ) → arg_names n (At home) ≡ true → names z.procedure n ≡ true)
@@ -109,6 +142,8 @@ module _ (z : Setting) (b : ℕ) (block : AirBlock) (block_there : slice_get z.p
       → names z.procedure n ≡ true = λ n is. inst_named n (any_at (λ (o : Operand). arg_names n o.arg) i.operands j o at is) in
       record {
         reads = λ role width immediates is. usable_arg z o.arg none (subst (λ r. NamesOwn z.procedure r o.arg) role own) named width immediates is;
+        reaches = λ role bytes is. reachable_arg z o.arg none (subst (λ r. NamesOwn z.procedure r o.arg) role own) named bytes is;
+        slots = λ role is. own_slot z o.arg (subst (λ r. NamesOwn z.procedure r o.arg) role own) is;
         writes = λ home is. place_home z home none
             (subst (λ arg. NamesOwn z.procedure Def arg) is.arg (subst (λ r. NamesOwn z.procedure r o.arg) is.role own))
             (λ n same_reg. named n (ap (arg_names n) is.arg ∙ same_reg))

@@ -2,15 +2,16 @@
 use Rattle.std.proofs.Common.{◌≡◌, ℕ, ◌<◌, inl, [], ◌∷◌, None, length, refl, arith}
 use Rattle.std.proofs.lemmas.List.Elements.{All-cons, All-nil}
 use Rattle.b3_base.specs.declared.word.Width.TheVariants.{W64}
-use Rattle.air_ir.specs.Forms.{AllFit, AnyWord, Result, Word}
+use Rattle.air_ir.specs.Forms.{AllFit, AnyWord, Result, Slot, Word, load, store}
 use Rattle.air_ir.specs.Kinds.{target_count}
 use Rattle.air_ir.specs.WellFormed.{IsGoodBlock, IsGoodInst, IsWellFormed, NamesOwn}
 use Rattle.air_ir.specs.declared.op.AirOp.TheVariants as op
-use Rattle.air_ir.specs.declared.operand.Arg.TheVariants.{At, Imm}
+use Rattle.air_ir.specs.declared.operand.Arg.TheVariants.{At, Imm, FrameSlot}
 use Rattle.air_ir.specs.declared.operand.Home.TheVariants.{Spill}
 use Rattle.air_ir.specs.declared.operand.Operand.{Operand}
 use Rattle.air_ir.specs.declared.procedure.AirInst.{AirInst}
-use Rattle.a64_emit.specs.Sample.{entry, inst, last, made, procedure, used, x0}
+use Rattle.a64_emit.specs.Sample.{entry, inst, last, made, procedure, used, x0, above_x1, fills, loads, points, stores, x1}
+use Rattle.a64_emit.specs.Built.{IsBuilt, is_built}
 
 abbrev Names : Operand → Type 0
 Names o = NamesOwn procedure o.role o.arg
@@ -19,28 +20,48 @@ constant_fits : AllFit (Word W64 AnyWord ∷ Result W64 ∷ []) (used (Imm 7) �
 unfolding AllFit
 constant_fits = ((refl, refl, (omega arith, tt)), ((refl, refl, tt), tt))
 
-copy_fits : AllFit (Word W64 AnyWord ∷ Result W64 ∷ []) (used (At (Spill 0)) ∷ made x0 ∷ [])
+slot_fits : AllFit (Slot ∷ Result W64 ∷ []) (used (FrameSlot 0) ∷ made x1 ∷ [])
 unfolding AllFit
-copy_fits = ((refl, refl, tt), ((refl, refl, tt), tt))
+slot_fits = ((refl, refl, tt), ((refl, refl, tt), tt))
+
+store_fits : AllFit (store W64 8) (used (At (Spill 0)) ∷ used above_x1 ∷ [])
+unfolding AllFit
+store_fits = ((refl, refl, tt), ((refl, refl, refl), tt))
+
+load_fits : AllFit (load W64 8) (used above_x1 ∷ made x0 ∷ [])
+unfolding AllFit
+load_fits = ((refl, refl, refl), ((refl, refl, tt), tt))
 
 none_fit : AllFit [] []
 unfolding AllFit
 none_fit = tt
 
-constant_good : IsGoodInst procedure (inst op.Move (used (Imm 7) ∷ made (At (Spill 0)) ∷ []))
-constant_good = record {
+fills_good : IsGoodInst procedure fills
+fills_good = record {
   operands = (W64, W64, constant_fits);
   names = All-cons Names (used (Imm 7)) (made (At (Spill 0)) ∷ []) tt (All-cons Names (made (At (Spill 0))) [] tt (All-nil Names));
 }
 
+points_good : IsGoodInst procedure points
+points_good = record {
+  operands = (W64, W64, slot_fits);
+  names = All-cons Names (used (FrameSlot 0)) (made x1 ∷ []) (omega arith) (All-cons Names (made x1) [] (inl (omega arith)) (All-nil Names));
+}
+
+stores_good : IsGoodInst procedure stores
+stores_good = record {
+  operands = (W64, W64, store_fits);
+  names = All-cons Names (used (At (Spill 0))) (used above_x1 ∷ []) tt (All-cons Names (used above_x1) [] (inl (omega arith)) (All-nil Names));
+}
+
+loads_good : IsGoodInst procedure loads
+loads_good = record {
+  operands = (W64, W64, load_fits);
+  names = All-cons Names (used above_x1) (made x0 ∷ []) (inl (omega arith)) (All-cons Names (made x0) [] (inl (omega arith)) (All-nil Names));
+}
+
 jump_good : IsGoodInst procedure (inst op.Jump [])
 jump_good = record { operands = (W64, W64, none_fit); names = All-nil Names }
-
-copy_good : IsGoodInst procedure (inst op.Move (used (At (Spill 0)) ∷ made x0 ∷ []))
-copy_good = record {
-  operands = (W64, W64, copy_fits);
-  names = All-cons Names (used (At (Spill 0))) (made x0 ∷ []) tt (All-cons Names (made x0) [] (inl (omega arith)) (All-nil Names));
-}
 
 return_good : IsGoodInst procedure (inst op.Return (used x0 ∷ []))
 return_good = record { operands = refl; names = All-cons Names (used x0) [] (inl (omega arith)) (All-nil Names) }
@@ -53,25 +74,27 @@ IsTarget target = (0 < target) × (target < length procedure.blocks)
 
 entry_good : IsGoodBlock procedure entry
 entry_good = record {
-  body = inst op.Move (used (Imm 7) ∷ made (At (Spill 0)) ∷ []) ∷ [];
+  body = fills ∷ points ∷ stores ∷ [];
   last = inst op.Jump [];
   parts = refl;
-  inner = All-cons IsBody (inst op.Move (used (Imm 7) ∷ made (At (Spill 0)) ∷ [])) [] refl (All-nil IsBody);
+  inner = All-cons IsBody fills (points ∷ stores ∷ []) refl (All-cons IsBody points (stores ∷ []) refl (All-cons IsBody stores [] refl (All-nil IsBody)));
   ends = refl;
   targets = All-cons IsTarget 1 [] (omega arith, omega arith) (All-nil IsTarget);
-  insts = All-cons (IsGoodInst procedure) (inst op.Move (used (Imm 7) ∷ made (At (Spill 0)) ∷ [])) (inst op.Jump [] ∷ []) constant_good
-      (All-cons (IsGoodInst procedure) (inst op.Jump []) [] jump_good (All-nil (IsGoodInst procedure)));
+  insts = All-cons (IsGoodInst procedure) fills (points ∷ stores ∷ inst op.Jump [] ∷ []) fills_good
+      (All-cons (IsGoodInst procedure) points (stores ∷ inst op.Jump [] ∷ []) points_good
+      (All-cons (IsGoodInst procedure) stores (inst op.Jump [] ∷ []) stores_good
+      (All-cons (IsGoodInst procedure) (inst op.Jump []) [] jump_good (All-nil (IsGoodInst procedure)))));
 }
 
 last_good : IsGoodBlock procedure last
 last_good = record {
-  body = inst op.Move (used (At (Spill 0)) ∷ made x0 ∷ []) ∷ [];
+  body = loads ∷ [];
   last = inst op.Return (used x0 ∷ []);
   parts = refl;
-  inner = All-cons IsBody (inst op.Move (used (At (Spill 0)) ∷ made x0 ∷ [])) [] refl (All-nil IsBody);
+  inner = All-cons IsBody loads [] refl (All-nil IsBody);
   ends = refl;
   targets = All-nil IsTarget;
-  insts = All-cons (IsGoodInst procedure) (inst op.Move (used (At (Spill 0)) ∷ made x0 ∷ [])) (inst op.Return (used x0 ∷ []) ∷ []) copy_good
+  insts = All-cons (IsGoodInst procedure) loads (inst op.Return (used x0 ∷ []) ∷ []) loads_good
       (All-cons (IsGoodInst procedure) (inst op.Return (used x0 ∷ [])) [] return_good (All-nil (IsGoodInst procedure)));
 }
 
@@ -80,3 +103,24 @@ sample_good = record {
   entry = omega arith;
   blocks = All-cons (IsGoodBlock procedure) entry (last ∷ []) entry_good (All-cons (IsGoodBlock procedure) last [] last_good (All-nil (IsGoodBlock procedure)));
 }
+
+abbrev IsBuiltInst : AirInst → Type 0
+IsBuiltInst i = is_built i.op i.traps ≡ true
+
+abbrev IsBuiltBlock : AirBlock → Type 0
+IsBuiltBlock b = All IsBuiltInst b.insts
+
+pub sample_built : IsBuilt procedure
+sample_built =
+    All-cons IsBuiltBlock entry (last ∷ [])
+    (All-cons IsBuiltInst fills (points ∷ stores ∷ inst op.Jump [] ∷ []) refl
+    (All-cons IsBuiltInst points (stores ∷ inst op.Jump [] ∷ []) refl
+    (All-cons IsBuiltInst stores (inst op.Jump [] ∷ []) refl
+    (All-cons IsBuiltInst (inst op.Jump []) [] refl (All-nil IsBuiltInst)))))
+    (All-cons IsBuiltBlock last []
+    (All-cons IsBuiltInst loads (inst op.Return (used x0 ∷ []) ∷ []) refl
+    (All-cons IsBuiltInst (inst op.Return (used x0 ∷ [])) [] refl (All-nil IsBuiltInst)))
+    (All-nil IsBuiltBlock))
+
+pub sample_light : weight procedure < 2 ^ 24
+sample_light = omega arith

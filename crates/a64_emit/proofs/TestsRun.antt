@@ -183,7 +183,7 @@ module _ (z : Setting) (set : IsSet z) (serves : IsFrameOf z.procedure z.frame) 
             (opposite_cond (condition t)) ∷ put_result z.frame (result_reg arg) arg) last.after) (sym is.arg)
             (does_both z c m last.after insts _ ready.does (does_first z m f last.after (testing t width a b) _ one last.does)));
         related = last.related;
-        world = refl;
+        world = (refl, refl);
       }
 
   -- ---- SelectIf
@@ -234,5 +234,5 @@ module _ (z : Setting) (set : IsSet z) (serves : IsFrameOf z.procedure z.frame) 
             (does_both z c m two.between insts _ ready.does (does_first z m f two.between (testing t width a b) (fetch z.frame 15 p) one two.first)) two.second)
             last.does));
         related = last.related;
-        world = refl;
+        world = (refl, refl);
       }

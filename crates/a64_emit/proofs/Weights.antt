@@ -116,12 +116,12 @@ switch_most width reg next label cases targets =
 
 -- ---- lists of some operands
 
-of_one : (os : List Operand) → length os ≡ 1 → (a : Operand) × (os ≡ a ∷ [])
+pub of_one : (os : List Operand) → length os ≡ 1 → (a : Operand) × (os ≡ a ∷ [])
 of_one [] count = absurd (omega arith)
 of_one (a ∷ []) count = (a, refl)
 of_one (a ∷ b ∷ os) count = absurd (omega arith)
 
-of_two : (os : List Operand) → length os ≡ 2 → (a : Operand) × (b : Operand) × (os ≡ a ∷ b ∷ [])
+pub of_two : (os : List Operand) → length os ≡ 2 → (a : Operand) × (b : Operand) × (os ≡ a ∷ b ∷ [])
 of_two [] count = absurd (omega arith)
 of_two (a ∷ os) count = let rest = of_one os (omega arith) in (a, rest.0, ap (λ (xs : List Operand). a ∷ xs) rest.1)
 

@@ -1,9 +1,11 @@
 -- The code of a procedure.
-use Rattle.std.specs.Prelude.{ℕ, ◌+◌, ◌-◌, Bool, true, false, nat_eq, nat_lt, if◌then◌else◌, List, [], ◌∷◌, ◌++◌, length, get_or, sum_by}
+use Rattle.std.specs.Prelude.{ℕ, ◌+◌, ◌-◌, Bool, true, false, not, nat_eq, nat_lt, if◌then◌else◌, List, [], ◌∷◌, ◌++◌, length, get_or, sum_by}
 use Rattle.b3_base.specs.declared.word.Width.{Width}
 use Rattle.b3_base.specs.declared.word.Width.TheVariants.{W32, W64}
+use Rattle.a64_inst.specs.StepMemory.{is_store}
+use Rattle.a64_inst.specs.declared.inst.AccessKind.{AccessKind}
 use Rattle.a64_inst.specs.declared.inst.Inst.{Inst}
-use Rattle.a64_inst.specs.declared.inst.Inst.TheVariants.{Break, Select}
+use Rattle.a64_inst.specs.declared.inst.Inst.TheVariants.{AccessIndex, Break, Nop, Select}
 use Rattle.a64_inst.specs.declared.item.Item.{Item}
 use Rattle.a64_inst.specs.declared.item.Item.TheVariants.{If, IfBit, IfZero, Label, Plain}
 use Rattle.a64_layout.specs.Branch.{opposite_cond}
@@ -13,7 +15,7 @@ use Rattle.air_ir.specs.declared.op.AirOp.TheVariants as op
 use Rattle.air_ir.specs.declared.op.Test.{Test}
 use Rattle.air_ir.specs.declared.op.Test.TheVariants.{Compare, NonZero, Bit}
 use Rattle.air_ir.specs.declared.operand.Arg.{Arg}
-use Rattle.air_ir.specs.declared.operand.Arg.TheVariants.{At, Imm}
+use Rattle.air_ir.specs.declared.operand.Arg.TheVariants.{At, Imm, Addr, Index, FrameSlot}
 use Rattle.air_ir.specs.declared.operand.Home.TheVariants.{Reg, Spill}
 use Rattle.air_ir.specs.declared.operand.Operand.{Operand}
 use Rattle.air_ir.specs.declared.operand.Role.TheVariants.{Use}
@@ -22,6 +24,7 @@ use Rattle.air_ir.specs.declared.procedure.AirInst.{AirInst}
 use Rattle.air_ir.specs.declared.procedure.AirProc.{AirProc}
 use Rattle.a64_emit.specs.declared.source.Source.{Source}
 use Rattle.a64_emit.specs.declared.source.Source.TheVariants.{InReg, Constant}
+use Rattle.a64_emit.specs.Accesses.{access_kind, below_x29, offset_access}
 use Rattle.a64_emit.specs.Computing.{computing, condition, move_reg, reg_of, takes_two, testing}
 use Rattle.a64_emit.specs.Constants.{constant}
 use Rattle.a64_emit.specs.Places.{above_sp, epilogue, load_at, plains, prologue, spill_offset, store_at}
@@ -116,11 +119,59 @@ select_code f test os =
     ++ Select (width_at os n) false (result_reg (result_at os)) (reg_of (source_at os n 15)) (reg_of (source_at os (n + 1) 16)) (condition test)
     ∷ put_result f (result_reg (result_at os)) (result_at os)
 
+-- ---- memory
+
+-- the homes of an address are fetched
+unfoldable pub fetch_address : Frame → Arg → List Inst
+fetch_address f (Addr base offset) = fetch f 15 (At base)
+fetch_address f (Index base index shift) = fetch f 15 (At base) ++ fetch f 16 (At index)
+fetch_address f _ = []
+
+-- an access of a register at an address
+abbrev pub access_inst : AccessKind → ℕ → Arg → Inst
+access_inst kind rt (Addr base offset) = offset_access kind rt (reg_of (source_of 15 (At base))) offset
+access_inst kind rt (Index base index shift) =
+    AccessIndex (not (is_store kind)) rt (reg_of (source_of 15 (At base))) (reg_of (source_of 16 (At index)))
+    (nat_eq shift 3)
+access_inst kind rt _ = Nop
+
+abbrev pub load_code : Frame → AirOp → List Operand → List Inst
+load_code f op os =
+    fetch_address f (arg_at os 0)
+    ++ access_inst (access_kind op (width_at os 0)) (result_reg (arg_at os 1)) (arg_at os 0)
+    ∷ put_result f (result_reg (arg_at os 1)) (arg_at os 1)
+
+abbrev pub store_code : Frame → AirOp → List Operand → List Inst
+store_code f op os =
+    fetch_address f (arg_at os 1) ++ fetch f 17 (arg_at os 0)
+    ++ access_inst (access_kind op (width_at os 0)) (reg_of (source_of 17 (arg_at os 0))) (arg_at os 1) ∷ []
+
+-- how far below x29 a slot stands
+abbrev pub slot_offset : Frame → Arg → ℕ
+slot_offset f (FrameSlot n) = get_or f.slots n 0
+slot_offset f _ = 0
+
+-- the address so many bytes below x29, in a place
+abbrev pub frame_address : Frame → ℕ → Arg → List Inst
+frame_address f bytes to = below_x29 (result_reg to) bytes ++ put_result f (result_reg to) to
+
+-- ---- each op
+
 -- the code of an instruction that doesn't end its block
 unfoldable pub inst_code : Frame → AirOp → List Operand → List Inst
 inst_code f op.Move os = copy_code f (width_at os 0) (arg_at os 0) (arg_at os 1)
 inst_code f (op.SetIf test) os = set_code f test os
 inst_code f (op.SelectIf test) os = select_code f test os
+inst_code f op.Load8Z os = load_code f op.Load8Z os
+inst_code f op.Load8S os = load_code f op.Load8S os
+inst_code f op.Load16Z os = load_code f op.Load16Z os
+inst_code f op.Load16S os = load_code f op.Load16S os
+inst_code f op.Load os = load_code f op.Load os
+inst_code f op.Store8 os = store_code f op.Store8 os
+inst_code f op.Store16 os = store_code f op.Store16 os
+inst_code f op.Store os = store_code f op.Store os
+inst_code f op.SlotAddress os = frame_address f (slot_offset f (arg_at os 0)) (arg_at os 1)
+inst_code f op.FramePointer os = frame_address f 0 (arg_at os 0)
 inst_code f op os = compute_code f op os
 
 -- ---- terminals

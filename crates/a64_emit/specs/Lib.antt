@@ -3,6 +3,7 @@ pub mod Constants
 pub mod Computing
 pub mod Trees
 pub mod Switched
+pub mod Accesses
 pub mod Code
 pub mod Fitting
 pub mod Built

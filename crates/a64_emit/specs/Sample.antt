@@ -1,11 +1,11 @@
 -- No public clause cites this module. The procedure that the tests emit.
-use Rattle.std.specs.Prelude.{false, List, [], ◌∷◌}
+use Rattle.std.specs.Prelude.{pos, false, List, [], ◌∷◌}
 use Rattle.b3_base.specs.declared.word.Width.TheVariants.{W64}
 use Rattle.stackmap.specs.declared.site.Returns.TheVariants as returns
 use Rattle.air_ir.specs.declared.op.AirOp.{AirOp}
 use Rattle.air_ir.specs.declared.op.AirOp.TheVariants as op
 use Rattle.air_ir.specs.declared.operand.Arg.{Arg}
-use Rattle.air_ir.specs.declared.operand.Arg.TheVariants.{At, Imm}
+use Rattle.air_ir.specs.declared.operand.Arg.TheVariants.{At, Imm, Addr, FrameSlot}
 use Rattle.air_ir.specs.declared.operand.Home.TheVariants.{Reg, Spill}
 use Rattle.air_ir.specs.declared.operand.Operand.{Operand}
 use Rattle.air_ir.specs.declared.operand.Role.TheVariants.{Use, Def}
@@ -28,12 +28,31 @@ inst op operands = record { op = op; operands = operands; value = 0; traps = fal
 abbrev pub moves : Arg → Arg → AirInst
 moves from to = inst op.Move (used from ∷ made to ∷ [])
 
--- 7 is put in a spill place, and the second block returns it
+abbrev pub x1 : Arg
+x1 = At (Reg (record { 0 = 1 }))
+
+-- 8 bytes above x1
+abbrev pub above_x1 : Arg
+above_x1 = Addr (Reg (record { 0 = 1 })) (pos 8)
+
+abbrev pub fills : AirInst
+fills = moves (Imm 7) (At (Spill 0))
+
+abbrev pub points : AirInst
+points = inst op.SlotAddress (used (FrameSlot 0) ∷ made x1 ∷ [])
+
+abbrev pub stores : AirInst
+stores = inst op.Store (used (At (Spill 0)) ∷ used above_x1 ∷ [])
+
+abbrev pub loads : AirInst
+loads = inst op.Load (used above_x1 ∷ made x0 ∷ [])
+
+-- 7 is put in a spill place and from there in a slot, and the second block loads it and returns it
 abbrev pub entry : AirBlock
-entry = record { insts = inst op.Move (used (Imm 7) ∷ made (At (Spill 0)) ∷ []) ∷ inst op.Jump [] ∷ []; targets = 1 ∷ [] }
+entry = record { insts = fills ∷ points ∷ stores ∷ inst op.Jump [] ∷ []; targets = 1 ∷ [] }
 
 abbrev pub last : AirBlock
-last = record { insts = inst op.Move (used (At (Spill 0)) ∷ made x0 ∷ []) ∷ inst op.Return (used x0 ∷ []) ∷ []; targets = [] }
+last = record { insts = loads ∷ inst op.Return (used x0 ∷ []) ∷ []; targets = [] }
 
 abbrev pub procedure : AirProc
-procedure = record { blocks = entry ∷ last ∷ []; tmps = 0; slots = []; returns = returns.W64 }
+procedure = record { blocks = entry ∷ last ∷ []; tmps = 0; slots = 16 ∷ []; returns = returns.W64 }

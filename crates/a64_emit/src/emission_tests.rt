@@ -1,8 +1,11 @@
 //! That a procedure is emitted with ample memory.
 
-ghost use Rattle.std.specs.Prelude.{◌≡◌, IfOk};
+ghost use Rattle.std.specs.Prelude.{◌≡◌, true, [], ◌∷◌, IfOk};
+ghost use Rattle.air_ir.specs.Forms.{is_offset};
+ghost use Rattle.a64_inst.specs.StepMemory.{access_bytes};
 ghost use Rattle.a64_emit.specs.Sample as sample;
 
+use crate::accesses::offset_access;
 use crate::emit;
 use crate::switched::push_switch;
 use a64_inst::{AccessKind, Cond, Inst, Item, Labelled};
@@ -18,6 +21,14 @@ use std::test::Fail;
 
 const X0: Arg = Arg::At(Home::Reg(Reg(0)));
 
+const X1: Arg = Arg::At(Home::Reg(Reg(1)));
+
+/// 8 bytes above x1.
+const ABOVE_X1: Arg = Arg::Addr {
+    base: Home::Reg(Reg(1)),
+    offset: 8,
+};
+
 const SPILL_0: Arg = Arg::At(Home::Spill(0));
 
 fn used(arg: Arg) -> Operand
@@ -30,18 +41,25 @@ fn used(arg: Arg) -> Operand
     }
 }
 
-fn moves(alloc: Global, from: Arg, to: Arg) -> Result<AirInst, NoMemory>
-    ensures { IfOk result (λ i. i ≡ sample.moves from to) }
+fn made(arg: Arg) -> Operand
+    ensures { result ≡ sample.made arg }
 {
-    let mut operands = Operands::new(alloc);
-    operands.push(used(from))?;
-    operands.push(Operand {
+    Operand {
         role: Role::Def,
         width: Width::W64,
-        arg: to,
-    })?;
+        arg,
+    }
+}
+
+/// An instruction with two operands.
+fn two(alloc: Global, op: AirOp, a: Operand, b: Operand) -> Result<AirInst, NoMemory>
+    ensures { IfOk result (λ i. i ≡ sample.inst op (a ∷ b ∷ [])) }
+{
+    let mut operands = Operands::new(alloc);
+    operands.push(a)?;
+    operands.push(b)?;
     Ok(AirInst {
-        op: AirOp::Move,
+        op,
         operands,
         value: 0,
         traps: false,
@@ -52,7 +70,9 @@ fn entry(alloc: Global) -> Result<AirBlock, NoMemory>
     ensures { IfOk result (λ b. b ≡ sample.entry) }
 {
     let mut insts = AirInsts::new(alloc);
-    insts.push(moves(alloc, Arg::Imm(7), SPILL_0)?)?;
+    insts.push(two(alloc, AirOp::Move, used(Arg::Imm(7)), made(SPILL_0))?)?;
+    insts.push(two(alloc, AirOp::SlotAddress, used(Arg::FrameSlot(0)), made(X1))?)?;
+    insts.push(two(alloc, AirOp::Store, used(SPILL_0), used(ABOVE_X1))?)?;
     insts.push(AirInst {
         op: AirOp::Jump,
         operands: Operands::new(alloc),
@@ -68,7 +88,7 @@ fn last(alloc: Global) -> Result<AirBlock, NoMemory>
     ensures { IfOk result (λ b. b ≡ sample.last) }
 {
     let mut insts = AirInsts::new(alloc);
-    insts.push(moves(alloc, SPILL_0, X0)?)?;
+    insts.push(two(alloc, AirOp::Load, used(ABOVE_X1), made(X0))?)?;
     let mut operands = Operands::new(alloc);
     operands.push(used(X0))?;
     insts.push(AirInst {
@@ -83,17 +103,19 @@ fn last(alloc: Global) -> Result<AirBlock, NoMemory>
     })
 }
 
-/// 7 is put in a spill place, and the second block returns it.
+/// 7 is put in a spill place and from there in a slot, and the second block loads it and returns it.
 fn procedure(alloc: Global) -> Result<AirProc, NoMemory>
     ensures { IfOk result (λ p. p ≡ sample.procedure) }
 {
     let mut blocks = AirBlocks::new(alloc);
     blocks.push(entry(alloc)?)?;
     blocks.push(last(alloc)?)?;
+    let mut slots = Ids::new(alloc);
+    slots.push(16)?;
     Ok(AirProc {
         blocks,
         tmps: 0,
-        slots: Ids::new(alloc),
+        slots,
         returns: Returns::W64,
     })
 }
@@ -104,16 +126,24 @@ fn a_procedure_of_two_blocks_is_emitted(rt: HostRuntime) -> Result<(), Fail> {
     let frame = layout(rt.alloc(), &p)?;
     let emitted = emit(rt.alloc(), &p, &frame)?;
     // three instructions enter and three leave; the jump to the next block takes none
-    assert_eq!(rt; emitted.code.len(), 11);
+    assert_eq!(rt; emitted.code.len(), 14);
     assert_eq!(rt; *emitted.code.get(3), Item::Label(0));
-    assert_eq!(rt; *emitted.code.get(6), Item::Label(1));
+    // the word is fetched from its spill place, and stored 8 bytes above x1
+    let stores = Inst::Access {
+        kind: AccessKind::StrX,
+        rt: 17,
+        rn: 1,
+        units: 1,
+    };
+    assert_eq!(rt; *emitted.code.get(8), Item::Plain(stores));
+    assert_eq!(rt; *emitted.code.get(9), Item::Label(1));
     let loads = Inst::Access {
         kind: AccessKind::LdrX,
         rt: 0,
-        rn: 31,
+        rn: 1,
         units: 1,
     };
-    assert_eq!(rt; *emitted.code.get(7), Item::Plain(loads));
+    assert_eq!(rt; *emitted.code.get(10), Item::Plain(loads));
     assert!(rt; emitted.sites.is_empty());
     Ok(())
 }
@@ -158,5 +188,40 @@ fn a_switch_is_a_search_in_the_order_of_words(rt: HostRuntime) -> Result<(), Fai
     assert_eq!(rt; *code.get(8), Item::Label(6));
     assert_eq!(rt; *code.get(9), compared(50));
     assert_eq!(rt; *code.get(10), Item::If(Cond::Eq, 1));
+    Ok(())
+}
+
+/// One access of x0 at an offset from x1.
+fn at(kind: AccessKind, offset: i64) -> Inst
+    requires { is_offset (access_bytes kind) offset ≡ true }
+{
+    offset_access(kind, 0, 1, offset)
+}
+
+fn scaled(kind: AccessKind, units: u32) -> Inst {
+    Inst::Access {
+        kind,
+        rt: 0,
+        rn: 1,
+        units,
+    }
+}
+
+fn near(kind: AccessKind, offset: i32) -> Inst {
+    Inst::AccessNear {
+        kind,
+        rt: 0,
+        rn: 1,
+        offset,
+    }
+}
+
+#[test]
+fn offsets_are_scaled_where_they_can_be(rt: HostRuntime) -> Result<(), Fail> {
+    assert_eq!(rt; at(AccessKind::Ldrb, 4095), scaled(AccessKind::Ldrb, 4095));
+    assert_eq!(rt; at(AccessKind::Strh, 8190), scaled(AccessKind::Strh, 4095));
+    assert_eq!(rt; at(AccessKind::LdrW, 4096), scaled(AccessKind::LdrW, 1024));
+    assert_eq!(rt; at(AccessKind::LdrX, 255), near(AccessKind::LdrX, 255));
+    assert_eq!(rt; at(AccessKind::StrX, -256), near(AccessKind::StrX, -256));
     Ok(())
 }

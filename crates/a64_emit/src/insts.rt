@@ -6,6 +6,7 @@ ghost use Rattle.a64_emit.specs.Code.{arg_at, compute_code, copy_code, copy_reg,
 ghost use Rattle.a64_emit.specs.Fitting.{IsFitting, IsComputed, IsTested};
 ghost use Rattle.a64_emit.specs.Places.{plains};
 
+use crate::accesses::{push_frame_address, push_loaded, push_stored, slot_offset};
 use crate::computing::{computing, condition, move_reg, opposite, reg_of, takes_two, testing};
 use crate::constants::push_constant;
 use crate::places::{above_sp, push, push_load, push_store, spill_offset};
@@ -29,7 +30,7 @@ pub(crate) fn operand_at(operands: &Operands, k: usize) -> Operand
 }
 
 /// Where the word of an argument is once it is fetched with this scratch register.
-fn source_of(scratch: u8, arg: Arg) -> Source
+pub(crate) fn source_of(scratch: u8, arg: Arg) -> Source
     ensures { result ≡ source_of scratch arg }
 {
     match arg {
@@ -81,7 +82,7 @@ fn push_fetch_below(
 }
 
 /// The register in which a result is made.
-fn result_reg(arg: Arg) -> u8
+pub(crate) fn result_reg(arg: Arg) -> u8
     ensures { result ≡ result_reg arg }
 {
     match arg {
@@ -92,7 +93,12 @@ fn result_reg(arg: Arg) -> u8
 
 /// A result is stored where its place is a spill place.
 #[tactic(auto, unfolding(crate::specs::Code::put_result))]
-fn push_result(code: &mut Labelled, frame: &Frame, reg: u8, arg: Arg) -> Result<(), NoMemory>
+pub(crate) fn push_result(
+    code: &mut Labelled,
+    frame: &Frame,
+    reg: u8,
+    arg: Arg,
+) -> Result<(), NoMemory>
     ensures { OnOk result (code.new ≡ code.old ++ plains (put_result frame.now reg arg)) }
 {
     match arg {
@@ -299,6 +305,15 @@ pub(crate) fn push_inst(
         ),
         AirOp::SetIf(test) => push_set(code, frame, *test, operands),
         AirOp::SelectIf(test) => push_select(code, frame, *test, operands),
+        AirOp::Load8Z | AirOp::Load8S | AirOp::Load16Z | AirOp::Load16S | AirOp::Load => {
+            push_loaded(code, frame, op, operands)
+        }
+        AirOp::Store8 | AirOp::Store16 | AirOp::Store => push_stored(code, frame, op, operands),
+        AirOp::SlotAddress => {
+            let bytes = slot_offset(frame, operand_at(operands, 0).arg);
+            push_frame_address(code, frame, bytes, operand_at(operands, 1).arg)
+        }
+        AirOp::FramePointer => push_frame_address(code, frame, 0, operand_at(operands, 0).arg),
         _ => push_compute(code, frame, op, operands),
     }
 }

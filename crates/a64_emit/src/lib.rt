@@ -1,6 +1,7 @@
 //! Emission: a procedure of Air in registers and spill places becomes labelled code of AArch64.
 #![tactic(auto)]
 
+mod accesses;
 mod case;
 mod computing;
 mod constants;

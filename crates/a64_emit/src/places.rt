@@ -35,7 +35,7 @@ pub(crate) fn spill_offset(frame: &Frame, number: u32) -> u32
 }
 
 /// ADD or SUB of 64 bits, where `sub`, with up to 12 bits, times 4096 where `high`.
-fn move_address(rd: u8, rn: u8, sub: bool, imm12: u32, high: bool) -> Inst
+pub(crate) fn move_address(rd: u8, rn: u8, sub: bool, imm12: u32, high: bool) -> Inst
     ensures { result ≡ AddSubImm W64 sub false rd rn imm12 high }
 {
     Inst::AddSubImm {

@@ -1,5 +1,5 @@
 -- A procedure that is selected and rewritten is placed.
-use Rattle.std.proofs.Common.{◌≡◌, ℕ, suc, ◌+◌, ◌*◌, ◌≤◌, true, List, [], ◌∷◌, Some, length, refl, sym, ap, ◌∙◌, subst, arith}
+use Rattle.std.proofs.Common.{◌≡◌, ℕ, suc, ◌+◌, ◌*◌, ◌≤◌, Bool, true, List, [], ◌∷◌, Some, length, refl, sym, ap, ◌∙◌, subst, arith}
 use Rattle.std.specs.Prelude.{All, map, slice_get}
 use Rattle.std.proofs.lemmas.List.{length-map}
 use Rattle.std.proofs.lemmas.List.Elements.{All-cons, All-get_or, All-nil, All-weaker}
@@ -8,10 +8,13 @@ use Rattle.b3_ir.specs.Procedure.{Procedure, total}
 use Rattle.b3_ir.specs.declared.opcode.Ty.TheVariants.{Int32, Int64}
 use Rattle.b3_ir.specs.declared.procedure.SlotLine.{SlotLine}
 use Rattle.stackmap.specs.declared.site.Returns.TheVariants.{W32, W64}
+use Rattle.air_ir.specs.Kinds.{Kind, Copies, Computes, Branches, Jumps, Switches, Returns, Fails, kind_of}
 use Rattle.air_ir.specs.Run.{BlocksThrough, HasBlocksOf, HasSameBlocks}
 use Rattle.air_ir.specs.Weight.{weight}
 use Rattle.air_ir.specs.WellFormed.{IsSpillBelow, IsWellFormed, NamesSpillsBelow, SpillsBelow}
 use Rattle.air_ir.specs.declared.assignment.Assignment.{Assignment}
+use Rattle.air_ir.specs.declared.op.AirOp.{AirOp}
+use Rattle.air_ir.specs.declared.op.AirOp.TheVariants.{Shuffle}
 use Rattle.air_ir.specs.declared.operand.Arg.{Arg}
 use Rattle.air_ir.specs.declared.operand.Arg.TheVariants.{At, Addr, Index}
 use Rattle.air_ir.specs.declared.operand.Home.{Home}
@@ -23,8 +26,8 @@ use Rattle.air_ir.specs.declared.procedure.AirProc.{AirProc}
 use Rattle.air_frame.specs.Counts.{CountsBelow, NamesCounted}
 use Rattle.air_spill.specs.Rewritten.{home_by, rewritten, rewritten_block}
 use Rattle.air_spill.specs.Stays.{ComesFromEach}
-use Rattle.air_select.specs.Contract.{IsArithmetic, IsFew, ReturnsType, child_count, is_arithmetic}
-use Rattle.a64_emit.specs.Built.{IsBuilt, is_built}
+use Rattle.air_select.specs.Contract.{IsArithmetic, IsFew, ReturnsType, child_count, is_arithmetic, is_arithmetic_kind}
+use Rattle.a64_emit.specs.Built.{IsBuilt, is_built, is_built_kind}
 use Rattle.a64_object.specs.Made.{IsPlacedOf}
 
 -- ---- spill places
@@ -55,17 +58,32 @@ all_of P (x ∷ xs) each = All-cons P x xs (each 0 x refl) (all_of P xs (λ k y 
 pub one_in : {X : Type 0} (P : X → Type 0) (xs : List X) (k : ℕ) (x : X) → slice_get xs k ≡ Some x → All P xs → P x
 one_in P xs k x there all = subst P (get_or_from_slice_get xs k x x there) (All-get_or P xs k x (slice_get_within xs k x there) all)
 
+-- what is selected is emitted
+kind_built : (k : Kind) (traps : Bool) → is_arithmetic_kind k ≡ true → is_built_kind k traps ≡ true
+kind_built Copies traps is = refl
+kind_built Computes traps is = refl
+kind_built (Branches test) traps is = refl
+kind_built Jumps traps is = refl
+kind_built (Switches cases) traps is = refl
+kind_built Returns traps is = refl
+kind_built Fails traps is = refl
+kind_built _ traps is = absurd cc
+
+op_built : (o : AirOp) (traps : Bool) → is_arithmetic o ≡ true → is_built o traps ≡ true
+op_built Shuffle traps is = absurd cc
+op_built o traps is = kind_built (kind_of o) traps is
+
 built_of : (q r : AirProc) → ComesFromEach q r → IsArithmetic q → IsBuilt r
 built_of q r comes arithmetic =
-    all_of (λ (b : AirBlock). All (λ (i : AirInst). is_built i.op ≡ true) b.insts) r.blocks
-    (λ n block block_there. all_of (λ (i : AirInst). is_built i.op ≡ true) block.insts
+    all_of (λ (b : AirBlock). All (λ (i : AirInst). is_built i.op i.traps ≡ true) b.insts) r.blocks
+    (λ n block block_there. all_of (λ (i : AirInst). is_built i.op i.traps ≡ true) block.insts
     (λ k j inst_there.
     let from = comes n k j (record { of = block; block_there = block_there; inst_there = inst_there }) in
     let at = from.2 in
     let i = from.1 in
     let insts : All (λ (x : AirInst). is_arithmetic x.op ≡ true) at.of.insts = one_in (λ (b : AirBlock). All (λ (x : AirInst). is_arithmetic x.op ≡ true) b.insts) q.blocks n at.of at.block_there arithmetic in
     let op : is_arithmetic i.op ≡ true = one_in (λ (x : AirInst). is_arithmetic x.op ≡ true) at.of.insts from.0 i at.inst_there insts in
-    subst (λ o. is_built o ≡ true) (sym from.3.op) op))
+    subst (λ o. is_built o j.traps ≡ true) (sym from.3.op) (op_built i.op j.traps op)))
 
 -- ---- all of it
 pub placed_of : (p : Procedure) (q r : AirProc) (a : Assignment) → BlocksThrough → CountsBelow → NamesCounted
