@@ -27,10 +27,11 @@ use Rattle.air_ir.specs.Operands.{Read, word_of, words}
 use Rattle.air_ir.specs.Steps.{State}
 use Rattle.air_ir.specs.declared.operand.Arg.TheVariants.{At, Imm}
 use Rattle.air_ir.specs.declared.operand.Operand.{Operand}
-use Rattle.air_select.specs.Foldable.{condition_fits, constant_fits, fits, is_constant}
+use Rattle.air_fold.specs.Foldable.{condition_fits, constant_fits, fits, is_constant}
 use Rattle.air_select.specs.Selected.{Tables, arg_of, folds, use_of}
-use Rattle.air_select.specs.Tables.{home, known, width_at, word_in}
-use Rattle.air_select.specs.declared.known.Known.{Known}
+use Rattle.air_select.specs.Temporaries.{home}
+use Rattle.air_fold.specs.Values.{known, width_at, word_in}
+use Rattle.air_fold.specs.declared.known.Known.{Known}
 use Rattle.air_select.proofs.Facts.{Ran, body_below, constant_role}
 use Rattle.air_select.proofs.Instructions.{at_home, of_immediate, reads_use}
 use Rattle.air_select.proofs.Related.{Related, low_word}

@@ -30,10 +30,11 @@ use Rattle.air_ir.specs.declared.op.AirOp.TheVariants as op
 use Rattle.air_ir.specs.declared.operand.Arg.{Arg}
 use Rattle.air_ir.specs.declared.operand.Arg.TheVariants.{At, Imm}
 use Rattle.air_ir.specs.declared.operand.Home.{Home}
-use Rattle.air_select.specs.Foldable.{condition_fits}
+use Rattle.air_fold.specs.Foldable.{condition_fits}
 use Rattle.air_select.specs.Selected.{Tables, arg_of, computes, def_at, move, register_in}
-use Rattle.air_select.specs.Tables.{argument, home, location, width_at, word_in}
-use Rattle.air_select.specs.declared.known.Known.{Known}
+use Rattle.air_select.specs.Temporaries.{argument, home, location}
+use Rattle.air_fold.specs.Values.{width_at, word_in}
+use Rattle.air_fold.specs.declared.known.Known.{Known}
 use Rattle.air_select.proofs.Children.{child_word, readable, width_is}
 use Rattle.air_select.proofs.Does.{Does, Here, allows, are_words, at, gives_does, here, is_known, puts, result_small, rules, words_here}
 use Rattle.air_select.proofs.Facts.{child_ran}

@@ -36,10 +36,10 @@ use Rattle.air_ir.specs.declared.op.AirOp.TheVariants as op
 use Rattle.air_ir.specs.declared.op.Test.TheVariants.{Bit, Compare, NonZero}
 use Rattle.air_ir.specs.declared.operand.Operand.{Operand}
 use Rattle.air_ir.proofs.Conditions.{compares}
-use Rattle.air_select.specs.Foldable.{bit_of, condition_fits, is_and, is_bit, is_bit_test, is_comparison, is_constant}
+use Rattle.air_fold.specs.Foldable.{bit_of, condition_fits, is_and, is_bit, is_bit_test, is_comparison, is_constant}
 use Rattle.air_select.specs.Selected.{Condition, Tables, arg_of, condition, condition_of, folded_condition, folds, op_of, use_of}
-use Rattle.air_select.specs.Tables.{child, known, known_in, width_at}
-use Rattle.air_select.specs.declared.known.Known.{Known}
+use Rattle.air_fold.specs.Values.{child, known, known_in, width_at}
+use Rattle.air_fold.specs.declared.known.Known.{Known}
 use Rattle.air_select.proofs.Children.{child_word, fit_cases, known_word, readable, width_is, words_cons, words_nil}
 use Rattle.air_select.proofs.Does.{Here, at, here}
 use Rattle.air_select.proofs.Facts.{child_ran, grandchild_ran}

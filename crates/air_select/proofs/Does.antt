@@ -30,8 +30,9 @@ use Rattle.air_ir.specs.Meaning.{Over, To}
 use Rattle.air_ir.specs.Operands.{Holds, read}
 use Rattle.air_ir.specs.Steps.{Goes, Outcome as Ran, State}
 use Rattle.air_select.specs.Selected.{Tables, names_argument, targets_of}
-use Rattle.air_select.specs.Tables.{home, width_at}
-use Rattle.air_select.specs.declared.known.Known.{Known}
+use Rattle.air_select.specs.Temporaries.{home}
+use Rattle.air_fold.specs.Values.{width_at}
+use Rattle.air_fold.specs.declared.known.Known.{Known}
 use Rattle.air_select.proofs.Instructions.{with_home}
 use Rattle.air_select.proofs.Related.{Related, holds_word, word_related}
 use Rattle.air_select.proofs.Setting.{IsSound}

@@ -32,12 +32,13 @@ use Rattle.air_ir.specs.declared.operand.Arg.TheVariants.{At, Imm}
 use Rattle.air_ir.specs.declared.procedure.AirBlock.{AirBlock}
 use Rattle.air_ir.specs.declared.procedure.AirInst.{AirInst}
 use Rattle.air_select.specs.Contract.{CarriesBits, CarriesComparisons, CarriesConstants, HasSecond, IsFolded, IsMade, NoneIsMade, TestsBit, TestsComparison, carried_word, test_in}
-use Rattle.air_select.specs.Foldable.{bit_of, condition_fits, is_and, is_bit, is_bit_test, is_comparison, is_constant, is_foldable, is_immediate, second_immediates, uses}
+use Rattle.air_fold.specs.Foldable.{bit_of, condition_fits, is_and, is_bit, is_bit_test, is_comparison, is_constant, is_foldable, is_immediate, second_immediates, uses}
 use Rattle.air_select.specs.Selected.{Condition, Tables, argument_moves, argument_move, arg_of, block_code, branch_on, code_of, computes, condition, condition_of, entry_of, folds, inst, last_id, names_argument, negative_amount, op_of, result_of, return_of, rotate_by, select_on, selected, selected_by, tables, turned, use_at, use_of, value_code}
-use Rattle.air_select.specs.Tables.{Index, child, first_extra, ids_of, index_of, known, known_in, word_in}
-use Rattle.air_select.specs.declared.known.Known.{Known}
+use Rattle.air_select.specs.Temporaries.{first_extra}
+use Rattle.air_fold.specs.Values.{Index, child, ids_of, index_of, known, known_in, word_in}
+use Rattle.air_fold.specs.declared.known.Known.{Known}
 use Rattle.air_select.proofs.Children.{fit_cases}
-use Rattle.air_select.proofs.Places.{at_place, get_behind, get_front, get_within, in_blocks, known_is, place_is, row_get, split_at}
+use Rattle.air_fold.proofs.Places.{at_place, get_behind, get_front, get_within, in_blocks, known_is, place_is, row_get, split_at}
 use Rattle.air_select.proofs.Sites.{All-slice, all_one, all_three, all_two}
 use Rattle.air_select.proofs.Sound.{both_first, both_second, foldable_kind, sound}
 

@@ -20,10 +20,11 @@ use Rattle.air_ir.specs.declared.operand.Arg.{Arg}
 use Rattle.air_ir.specs.declared.operand.Arg.TheVariants.{At, Imm}
 use Rattle.air_ir.specs.declared.operand.Home.TheVariants.{Tmp}
 use Rattle.air_ir.specs.declared.operand.Operand.{Operand}
-use Rattle.air_select.specs.Foldable.{condition_fits, second_immediates}
+use Rattle.air_fold.specs.Foldable.{condition_fits, second_immediates}
 use Rattle.air_select.specs.Selected.{Tables, def_at, result_of, use_at, use_of}
-use Rattle.air_select.specs.Tables.{child, home}
-use Rattle.air_select.specs.declared.known.Known.{Known}
+use Rattle.air_select.specs.Temporaries.{home}
+use Rattle.air_fold.specs.Values.{child}
+use Rattle.air_fold.specs.declared.known.Known.{Known}
 use Rattle.air_select.proofs.Operands.{child_fits, immediates_at, one_of, two_of}
 use Rattle.air_select.proofs.Setting.{IsSound}
 

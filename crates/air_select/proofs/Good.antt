@@ -39,10 +39,11 @@ use Rattle.air_ir.specs.declared.operand.Home.{Home}
 use Rattle.air_ir.specs.declared.operand.Operand.{Operand}
 use Rattle.air_ir.specs.declared.procedure.AirInst.{AirInst}
 use Rattle.air_select.specs.Contract.{is_built}
-use Rattle.air_select.specs.Foldable.{condition_fits, is_bit_test, is_comparison, second_immediates}
+use Rattle.air_fold.specs.Foldable.{condition_fits, is_bit_test, is_comparison, second_immediates}
 use Rattle.air_select.specs.Selected.{Condition, Tables, arg_of, cases_in, chosen_rest, code_of, condition_of, def_at, folds, inst, negative_amount, op_of, phi_in, quotient_of, register, register_in, rest_into, result_of, return_of, returns_by, returns_child, returns_type, rotate_by, turned, use_at, use_of}
-use Rattle.air_select.specs.Tables.{Index, argument, child, first_extra, home, known, location, second_extra, width_at, word_in}
-use Rattle.air_select.specs.declared.known.Known.{Known}
+use Rattle.air_select.specs.Temporaries.{argument, first_extra, home, location, second_extra}
+use Rattle.air_fold.specs.Values.{Index, child, known, width_at, word_in}
+use Rattle.air_fold.specs.declared.known.Known.{Known}
 use Rattle.air_select.proofs.Facts.{body_below}
 use Rattle.air_select.proofs.Forms as forms
 use Rattle.air_select.proofs.Forms.{any_fits, fit_four, fit_none, fit_one, fit_three, fit_two, home_fits, result_fits}

@@ -40,9 +40,10 @@ use Rattle.air_ir.specs.declared.op.Test.{Test}
 use Rattle.air_ir.specs.declared.operand.Arg.TheVariants.{At}
 use Rattle.air_ir.specs.declared.procedure.AirInst.{AirInst}
 use Rattle.air_ir.proofs.Stepping.{steps-one}
-use Rattle.air_select.specs.Foldable.{condition_fits, is_bit_test, is_comparison}
+use Rattle.air_fold.specs.Foldable.{condition_fits, is_bit_test, is_comparison}
 use Rattle.air_select.specs.Selected.{Tables, arg_of, branch_on, cases_in, condition_of, inst, move, register, result_of, return_of, select_on, targets_of, use_at, use_of}
-use Rattle.air_select.specs.Tables.{child, home, width_at}
+use Rattle.air_select.specs.Temporaries.{home}
+use Rattle.air_fold.specs.Values.{child, width_at}
 use Rattle.air_select.proofs.Children.{child_word, readable, width_is, word_small, words_cons, words_nil}
 use Rattle.air_select.proofs.Copied.{moved, row_of_role}
 use Rattle.air_select.proofs.Deciding.{Decides, decides}

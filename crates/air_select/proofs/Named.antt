@@ -19,9 +19,10 @@ use Rattle.air_ir.specs.declared.operand.Operand.{Operand}
 use Rattle.air_ir.specs.declared.procedure.AirInst.{AirInst}
 use Rattle.air_ir.specs.declared.procedure.AirProc.{AirProc}
 use Rattle.air_ir.specs.WellFormed.{NamesOwn}
-use Rattle.air_select.specs.Foldable.{bit_of, is_comparison}
+use Rattle.air_fold.specs.Foldable.{bit_of, is_comparison}
 use Rattle.air_select.specs.Selected.{Condition, Tables, arg_of, argument_move, argument_moves, cases_in, chosen_rest, code_of, computes, condition, condition_of, def_at, entry_of, folded_condition, folds, inst, last_id, names_argument, negative_amount, op_of, phi_in, quotient_of, register, register_in, rest_into, result_of, return_of, rotate_by, select_on, turned, use_at, use_of, value_code}
-use Rattle.air_select.specs.Tables.{argument, child, first_extra, home, known, place, second_extra, tmp_count, width_at}
+use Rattle.air_select.specs.Temporaries.{argument, first_extra, home, second_extra, tmp_count}
+use Rattle.air_fold.specs.Values.{child, known, place, width_at}
 use Rattle.air_select.proofs.Sites.{all_of, all_one, all_three, all_two}
 
 place_most : (ids : List ℕ) (id : ℕ) → place_among ids id ≤ length ids

@@ -16,9 +16,9 @@ use Rattle.b3_rules.specs.Rules.{types_of}
 use Rattle.air_ir.specs.Meaning.{meaning}
 use Rattle.air_ir.specs.Steps.{Outcome as Ran, steps}
 use Rattle.air_select.specs.Contract.{is_built}
-use Rattle.air_select.specs.Foldable.{is_and, is_bit, is_constant}
+use Rattle.air_fold.specs.Foldable.{is_and, is_bit, is_constant}
 use Rattle.air_select.specs.Selected.{Tables, code_of, folds, value_code}
-use Rattle.air_select.specs.Tables.{child, known}
+use Rattle.air_fold.specs.Values.{child, known}
 use Rattle.air_select.proofs.Copied.{argument_does, constant_does, identity_does, phi_does, row_of_role}
 use Rattle.air_select.proofs.Deciding.{comparison_row}
 use Rattle.air_select.proofs.Does.{Does, Here, effect_is, gives_does, here, named, words_here}

@@ -22,10 +22,11 @@ use Rattle.b3_sound.proofs.Kept.{IsKept}
 use Rattle.b3_sound.proofs.Rows.{IsRow, row_by_role}
 use Rattle.air_ir.specs.Forms.{Fits, Immediates, NoImmediate, AnyWord, OfSum, OfLogic, OnlyZero, IsImmediate, IsWord, Word}
 use Rattle.air_ir.specs.declared.operand.Arg.TheVariants.{At, Imm}
-use Rattle.air_select.specs.Foldable.{condition_fits, constant_fits, is_constant, is_immediate, is_mask, is_named, second_immediates, some_below}
+use Rattle.air_fold.specs.Foldable.{condition_fits, constant_fits, is_constant, is_immediate, is_mask, is_named, second_immediates, some_below}
 use Rattle.air_select.specs.Selected.{Tables, arg_of, folds, use_of}
-use Rattle.air_select.specs.Tables.{home, known, known_in, width_at}
-use Rattle.air_select.specs.declared.known.Known.{Known}
+use Rattle.air_select.specs.Temporaries.{home}
+use Rattle.air_fold.specs.Values.{known, known_in, width_at}
+use Rattle.air_fold.specs.declared.known.Known.{Known}
 use Rattle.air_select.proofs.Children.{fit_cases}
 use Rattle.air_select.proofs.Facts.{body_below, constant_role}
 use Rattle.air_select.proofs.Returned.{id_found, named_of, stands_somewhere, contains_at}

@@ -25,10 +25,11 @@ use Rattle.air_ir.specs.Words.{computed}
 use Rattle.air_ir.specs.declared.op.AirOp.{AirOp}
 use Rattle.air_ir.specs.declared.operand.Operand.{Operand}
 use Rattle.air_ir.specs.declared.procedure.AirInst.{AirInst}
-use Rattle.air_select.specs.Foldable.{condition_fits}
+use Rattle.air_fold.specs.Foldable.{condition_fits}
 use Rattle.air_select.specs.Selected.{Tables, arg_of, computes, inst, op_of, result_of, use_of}
-use Rattle.air_select.specs.Tables.{Index, home, width_at}
-use Rattle.air_select.specs.declared.known.Known.{Known}
+use Rattle.air_select.specs.Temporaries.{home}
+use Rattle.air_fold.specs.Values.{Index, width_at}
+use Rattle.air_fold.specs.declared.known.Known.{Known}
 use Rattle.air_select.proofs.Children.{children_words, readable, typed, width_is, words_cons, words_nil}
 use Rattle.air_select.proofs.Does.{Does, Here, allows, are_typed, are_words, at, gives_does, here, puts, result_small, words_here}
 use Rattle.air_select.proofs.Facts.{child_ran}

@@ -29,9 +29,10 @@ use Rattle.air_ir.specs.declared.op.Test.TheVariants.{NonZero}
 use Rattle.air_ir.specs.declared.operand.Arg.{Arg}
 use Rattle.air_ir.specs.declared.operand.Arg.TheVariants.{At}
 use Rattle.air_ir.specs.declared.operand.Home.{Home}
-use Rattle.air_select.specs.Foldable.{condition_fits}
+use Rattle.air_fold.specs.Foldable.{condition_fits}
 use Rattle.air_select.specs.Selected.{Tables, arg_of, chosen_rest, def_at, quotient_of, remainder, rest_into, use_at, use_of}
-use Rattle.air_select.specs.Tables.{child, first_extra, home, place, second_extra, width_at}
+use Rattle.air_select.specs.Temporaries.{first_extra, home, second_extra}
+use Rattle.air_fold.specs.Values.{child, place, width_at}
 use Rattle.air_select.proofs.Children.{child_word, readable, width_is}
 use Rattle.air_select.proofs.Does.{Does, Here, allows, are_words, at, gives_does, here, named, puts, result_small, words_here}
 use Rattle.air_select.proofs.Facts.{child_ran}

@@ -4,9 +4,9 @@ use Rattle.std.specs.Prelude.{Contains, slice_get}
 use Rattle.b3_ir.specs.Naming.{type_of, value_named}
 use Rattle.b3_ir.specs.Procedure.{Procedure, values_of}
 use Rattle.b3_ir.specs.declared.value.Value.{Value}
-use Rattle.air_select.specs.Foldable.{fits, is_bit_test, is_comparison, is_constant}
+use Rattle.air_fold.specs.Foldable.{fits, is_bit_test, is_comparison, is_constant}
 use Rattle.air_select.specs.Selected.{Tables, folds}
-use Rattle.air_select.specs.Tables.{known, known_in, place}
+use Rattle.air_fold.specs.Values.{known, known_in, place}
 
 -- a folded value is a constant, a comparison or the test of a bit
 abbrev pub IsFoldedKind : Tables → ℕ → Value → Type 0

@@ -25,9 +25,10 @@ use Rattle.air_ir.specs.declared.procedure.AirBlock.{AirBlock}
 use Rattle.air_ir.specs.declared.procedure.AirInst.{AirInst}
 use Rattle.air_ir.specs.declared.procedure.AirProc.{AirProc}
 use Rattle.air_select.specs.Contract.{IsArithmetic, is_arithmetic, is_arithmetic_kind}
-use Rattle.air_select.specs.Foldable.{bit_of, is_comparison}
+use Rattle.air_fold.specs.Foldable.{bit_of, is_comparison}
 use Rattle.air_select.specs.Selected.{Condition, Tables, arg_of, argument_move, argument_moves, block_code, cases_in, chosen_rest, code_of, computes, condition, condition_of, copy_of, def_at, entry_of, folded_condition, folds, inst, last_id, move, names_argument, negative_amount, op_of, quotient_of, register, rest_into, result_of, return_of, rotate_by, select_on, selected, selected_by, tables, turned, use_at, use_of, value_code}
-use Rattle.air_select.specs.Tables.{Index, child, first_extra, home, known, place, second_extra, width_at}
+use Rattle.air_select.specs.Temporaries.{first_extra, home, second_extra}
+use Rattle.air_fold.specs.Values.{Index, child, known, place, width_at}
 
 -- ---- lists
 pub all_flat : {X Y : Type 0} (P : Y → Type 0) (f : X → List Y) → ((x : X) → All P (f x)) → (xs : List X) → All P (flat_map f xs)

@@ -16,11 +16,11 @@ use Rattle.b3_ir.specs.declared.opcode.Opcode.TheVariants as opcode
 use Rattle.b3_ir.specs.declared.value.Value.{Value}
 use Rattle.b3_rules.specs.Valid.{IsValidProcedure}
 use Rattle.b3_sound.proofs.Lists.{contains_cases, contains_head, contains_none, contains_tail}
-use Rattle.air_select.specs.Foldable.{Use, condition_fits, fits, fits_as, is_bit_test, is_comparison, is_constant, is_foldable, uses, uses_by, uses_from, uses_in, uses_of}
+use Rattle.air_fold.specs.Foldable.{Use, condition_fits, fits, fits_as, is_bit_test, is_comparison, is_constant, is_foldable, uses, uses_by, uses_from, uses_in, uses_of}
 use Rattle.air_select.specs.Selected.{folds, tables}
-use Rattle.air_select.specs.Tables.{Index, ids_of, index_of, known, known_from, known_in, unknown}
-use Rattle.air_select.specs.declared.known.Known.{Known}
-use Rattle.air_select.proofs.Places.{at_place, known_get, known_is, known_length, named, not_named, row_found, same_place, values_in}
+use Rattle.air_fold.specs.Values.{Index, ids_of, index_of, known, known_from, known_in, unknown}
+use Rattle.air_fold.specs.declared.known.Known.{Known}
+use Rattle.air_fold.proofs.Places.{at_place, known_get, known_is, known_length, named, not_named, row_found, same_place, values_in}
 use Rattle.air_select.proofs.Setting.{IsSound}
 
 -- ---- tests

@@ -24,9 +24,10 @@ use Rattle.air_ir.specs.Meaning.{meaning}
 use Rattle.air_ir.specs.Operands.{Empty, Held, Holds, read, word_of}
 use Rattle.air_ir.specs.Steps.{Goes, steps}
 use Rattle.air_ir.specs.declared.operand.Arg.TheVariants.{At}
-use Rattle.air_select.specs.Foldable.{condition_fits}
+use Rattle.air_fold.specs.Foldable.{condition_fits}
 use Rattle.air_select.specs.Selected.{Tables, arg_of, folds, move, phi_in}
-use Rattle.air_select.specs.Tables.{child, home, location, width_at}
+use Rattle.air_select.specs.Temporaries.{home, location}
+use Rattle.air_fold.specs.Values.{child, width_at}
 use Rattle.air_select.proofs.Children.{unfolded, width_is, word_small}
 use Rattle.air_select.proofs.Copied.{child_here, first_child, moved, place_of_child, row_of_role}
 use Rattle.air_select.proofs.Does.{Does, Here, allows, are_words, gives_does, here, puts, result_small, rules, words_here}

@@ -22,10 +22,11 @@ use Rattle.b3_sound.proofs.Kept.{IsKept}
 use Rattle.air_ir.specs.Forms.{AllFit, Fits, NoImmediate, OfSum, IsHome, IsWord, Word, BitOf, test_takes}
 use Rattle.air_ir.specs.declared.op.Test.TheVariants.{Bit, Compare, NonZero}
 use Rattle.air_ir.specs.declared.operand.Arg.TheVariants.{At, Imm}
-use Rattle.air_select.specs.Foldable.{bit_of, condition_fits, constant_fits, is_and, is_bit, is_bit_test, is_comparison, is_constant, second_immediates}
+use Rattle.air_fold.specs.Foldable.{bit_of, condition_fits, constant_fits, is_and, is_bit, is_bit_test, is_comparison, is_constant, second_immediates}
 use Rattle.air_select.specs.Selected.{Condition, Tables, condition, condition_of, folded_condition, folds, use_of}
-use Rattle.air_select.specs.Tables.{child, home, known, known_in, width_at}
-use Rattle.air_select.specs.declared.known.Known.{Known}
+use Rattle.air_select.specs.Temporaries.{home}
+use Rattle.air_fold.specs.Values.{child, known, known_in, width_at}
+use Rattle.air_fold.specs.declared.known.Known.{Known}
 use Rattle.air_select.proofs.Children.{fit_cases}
 use Rattle.air_select.proofs.Forms.{child_as, fit_one, fit_two}
 use Rattle.air_select.proofs.Operands.{constant_small, two_of}

@@ -28,9 +28,10 @@ use Rattle.air_ir.specs.declared.operand.Operand.{Operand}
 use Rattle.air_ir.specs.declared.procedure.AirBlock.{AirBlock}
 use Rattle.air_ir.specs.declared.procedure.AirInst.{AirInst}
 use Rattle.air_select.specs.Contract.{IsFew, IsWithinLimits, case_count, child_count}
-use Rattle.air_select.specs.Foldable.{bit_of, is_comparison}
+use Rattle.air_fold.specs.Foldable.{bit_of, is_comparison}
 use Rattle.air_select.specs.Selected.{Condition, Tables, arg_of, argument_move, argument_moves, block_code, cases_in, chosen_rest, code_of, computes, condition, condition_of, copy_of, def_at, entry_of, folded_condition, folds, inst, last_id, move, names_argument, negative_amount, op_of, phi_in, quotient_of, register, register_in, rest_into, result_of, return_of, rotate_by, select_on, selected, selected_by, tables, turned, use_at, use_of, value_code}
-use Rattle.air_select.specs.Tables.{Index, argument, child, first_extra, home, known, location, place, second_extra, width_at, word_in}
+use Rattle.air_select.specs.Temporaries.{argument, first_extra, home, location, second_extra}
+use Rattle.air_fold.specs.Values.{Index, child, known, place, width_at, word_in}
 use Rattle.air_select.proofs.Sites.{all_of, all_one, all_three, all_two}
 
 -- ---- operands

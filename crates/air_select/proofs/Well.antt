@@ -32,9 +32,10 @@ use Rattle.air_ir.specs.declared.operand.Arg.TheVariants.{At}
 use Rattle.air_ir.specs.declared.procedure.AirInst.{AirInst}
 use Rattle.air_ir.specs.declared.procedure.AirProc.{AirProc}
 use Rattle.air_select.specs.Contract.{IsBuilt, is_built}
-use Rattle.air_select.specs.Foldable.{is_and, is_comparison, is_constant}
+use Rattle.air_fold.specs.Foldable.{is_and, is_comparison, is_constant}
 use Rattle.air_select.specs.Selected.{Tables, arg_of, argument_move, argument_moves, block_code, cases_in, code_of, def_at, entry_of, folds, inst, last_id, move, names_argument, op_of, register, register_in, return_of, selected_by, targets_of, use_at, value_code}
-use Rattle.air_select.specs.Tables.{argument, child, tmp_count, width_at}
+use Rattle.air_select.specs.Temporaries.{argument, tmp_count}
+use Rattle.air_fold.specs.Values.{child, width_at}
 use Rattle.air_select.proofs.Forms.{fit_none, fit_two}
 use Rattle.air_select.proofs.Good.{Has, code_has}
 use Rattle.air_select.proofs.Named.{IsOwnInst, entry_own, value_own}

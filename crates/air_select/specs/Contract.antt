@@ -19,9 +19,9 @@ use Rattle.air_ir.specs.declared.operand.Operand.{Operand}
 use Rattle.air_ir.specs.declared.procedure.AirBlock.{AirBlock}
 use Rattle.air_ir.specs.declared.procedure.AirInst.{AirInst}
 use Rattle.air_ir.specs.declared.procedure.AirProc.{AirProc}
-use Rattle.air_select.specs.Foldable.{is_and, is_comparison, is_constant, is_foldable}
+use Rattle.air_fold.specs.Foldable.{is_and, is_comparison, is_constant, is_foldable}
 use Rattle.air_select.specs.Selected.{condition, tables, turned, use_of}
-use Rattle.air_select.specs.Tables.{word_in}
+use Rattle.air_fold.specs.Values.{word_in}
 
 -- the procedure at a place of a module
 abbrev pub procedure_at : List Kept → ℕ → Procedure

@@ -1,6 +1,4 @@
-pub mod Tables
-pub mod Foldable
-pub mod Indexed
-pub mod Tallied
+pub mod Temporaries
+pub mod Returning
 pub mod Selected
 pub mod Contract

@@ -35,8 +35,9 @@ use Rattle.air_ir.specs.declared.operand.Operand.{Operand}
 use Rattle.air_ir.specs.declared.procedure.AirBlock.{AirBlock}
 use Rattle.air_ir.specs.declared.procedure.AirInst.{AirInst}
 use Rattle.air_ir.specs.declared.procedure.AirProc.{AirProc}
-use Rattle.air_select.specs.Foldable.{bit_of, is_comparison, is_foldable}
-use Rattle.air_select.specs.Tables.{Index, argument, child, first_extra, home, ids_of, index_of, known, location, place, second_extra, tmp_count, width_at, word_in}
+use Rattle.air_fold.specs.Foldable.{bit_of, is_comparison, is_foldable}
+use Rattle.air_select.specs.Temporaries.{argument, first_extra, home, location, second_extra, tmp_count}
+use Rattle.air_fold.specs.Values.{Index, child, ids_of, index_of, known, place, width_at, word_in}
 
 -- what selection looks up: of each id its place and what is known of it, and whether its value is folded
 pub record Tables : Type 0 where

@@ -3,13 +3,11 @@
 
 mod code;
 mod entry;
-mod known;
 mod procedure;
 mod rows;
 mod tables;
 #[cfg(test)]
 mod tests;
-mod uses;
 mod values;
 
 pub use procedure::select;
