@@ -50,6 +50,16 @@ second_immediates opcode.RotL = AnyWord
 second_immediates opcode.RotR = AnyWord
 second_immediates op = if is_comparison op then OfSum else NoImmediate
 
+abbrev pub is_store : Opcode → Bool
+is_store opcode.Store8 = true
+is_store opcode.Store16 = true
+is_store opcode.Store = true
+is_store _ = false
+
+-- which immediates its first child may be: a store may store 0
+abbrev pub first_immediates : Opcode → Immediates
+first_immediates op = if is_store op then OnlyZero else NoImmediate
+
 -- ---- words
 
 -- whether a test passes for some number below n
@@ -113,8 +123,9 @@ uses_of us id = filter (λ (u : Use). nat_eq u.id id) us
 
 -- ---- which uses fit
 
--- a constant fits as the second child of a value that may have it as an immediate
+-- a constant fits as a child that a value may have as an immediate
 abbrev pub constant_fits : Opcode → ℕ → Width → ℕ → Bool
+constant_fits op zero width word = is_immediate (first_immediates op) width word
 constant_fits op (suc zero) width word = is_immediate (second_immediates op) width word
 constant_fits op at width word = false
 

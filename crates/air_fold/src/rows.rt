@@ -76,6 +76,21 @@ fn is_mask(width: Width, word: u64) -> bool
     bit_mask_from(width, word).is_some()
 }
 
+/// Whether a value of an opcode stores a word.
+fn is_store(opcode: Opcode) -> bool
+    ensures { result ≡ fold.is_store opcode }
+{
+    matches!(opcode, Opcode::Store8 | Opcode::Store16 | Opcode::Store)
+}
+
+/// Whether a word is an immediate that the first child of a value of an opcode may be: 0, where it is stored.
+pub(crate) fn is_first(opcode: Opcode, width: Width, word: u64) -> bool
+    ensures { result ≡ fold.is_immediate (fold.first_immediates opcode) width word }
+{
+    let _ = width;
+    is_store(opcode) && word == 0
+}
+
 /// Whether a word is an immediate that the second child of a value of an opcode may be.
 pub(crate) fn is_second(opcode: Opcode, width: Width, word: u64) -> bool
     ensures { result ≡ fold.is_immediate (fold.second_immediates opcode) width word }

@@ -7,9 +7,9 @@ ghost use Rattle.air_fold.specs.Foldable as fold;
 ghost use Rattle.air_fold.specs.Values as values;
 ghost use Rattle.air_fold.specs.Tallied as tallied;
 
-use crate::known::Known;
-use crate::rows::{is_bit, is_comparison, is_constant, is_second, width_of};
 use crate::index::Index;
+use crate::known::Known;
+use crate::rows::{is_bit, is_comparison, is_constant, is_first, is_second, width_of};
 use b3_base::{NoMemory, Seq};
 use b3_ir::{Opcode, Proc, Value};
 use std::alloc::Global;
@@ -45,7 +45,11 @@ impl Tally {
 fn constant_fits(known: Known, used: Used) -> bool
     ensures { result ≡ fold.constant_fits used.opcode used.at (types.width_of known.ty) known.word }
 {
-    used.at == 1 && is_second(used.opcode, width_of(known.ty), known.word)
+    match used.at {
+        0 => is_first(used.opcode, width_of(known.ty), known.word),
+        1 => is_second(used.opcode, width_of(known.ty), known.word),
+        _ => false,
+    }
 }
 
 /// Whether a value is the conjunction with a constant of one bit.

@@ -36,7 +36,7 @@ use Rattle.air_ir.specs.declared.op.AirOp.TheVariants as op
 use Rattle.air_ir.specs.declared.op.Test.TheVariants.{Bit, Compare, NonZero}
 use Rattle.air_ir.specs.declared.operand.Operand.{Operand}
 use Rattle.air_ir.proofs.Conditions.{compares}
-use Rattle.air_fold.specs.Foldable.{bit_of, condition_fits, is_and, is_bit, is_bit_test, is_comparison, is_constant}
+use Rattle.air_fold.specs.Foldable.{bit_of, condition_fits, constant_fits, is_and, is_bit, is_bit_test, is_comparison, is_constant}
 use Rattle.air_select.specs.Selected.{Condition, Tables, arg_of, condition, condition_of, folded_condition, folds, op_of, use_of}
 use Rattle.air_fold.specs.Values.{child, known, known_in, width_at}
 use Rattle.air_fold.specs.declared.known.Known.{Known}
@@ -285,14 +285,15 @@ module _ (p : Procedure) (t : Tables) (start : Start) (v : Value) (h : Here p t 
             bit_tested (and_is d.kind.opcode outer.0) inner.0 inner.1
 
   pub decides : (c w : ℕ) → slice_get v.children 0 ≡ Some c → Contains v.children c → h.st.words c ≡ Some w
+      → ((width : Width) (word : ℕ) → constant_fits v.kind.opcode 0 width word ≡ false)
       → ((k : Known) → condition_fits t.index v.kind.opcode 0 k ≡ true → (is_comparison k.opcode ≡ true) ⊎ (is_bit_test t.index k ≡ true))
       → Decides h.s.homes (condition_of t c) w
-  decides c w first has now kinds = go (folds t c) refl
+  decides c w first has now never kinds = go (folds t c) refl
     where
       folded : folds t c ≡ true → Decides h.s.homes (folded_condition t c) w
       folded f =
           elim (fit_cases t h.block v.kind.opcode 0 c (h.sound.uses_fit h.block 0 c v (here p t start v h) first f)) [
-            | inl constant ↦ absurd (let bad : false ≡ true = constant.fits in cc)
+            | inl constant ↦ absurd (let bad : true ≡ false = sym constant.fits ∙ never (width_at t.index c) (known t.index c).word in cc)
             | inr fitting ↦
                 let d = stands_before c has fitting.block in
                 subst (λ (q : ℕ). Decides h.s.homes (folded_condition t q) w) d.1

@@ -25,108 +25,27 @@ use Rattle.b3_rules.specs.Rules.{types_of}
 use Rattle.b3_rules.specs.Valid.{IsValidProcedure}
 use Rattle.b3_sound.proofs.FromValid.{is_kept}
 use Rattle.b3_sound.proofs.Kept.{EndsBlock}
+use Rattle.b3_meaning.specs.declared.role.Extent.{Extent}
+use Rattle.b3_meaning.specs.declared.role.Extent.TheVariants.{Byte, Half, Whole}
+use Rattle.air_ir.specs.Forms.{NoImmediate, OnlyZero}
+use Rattle.air_ir.specs.Kinds.{extent_bytes}
 use Rattle.air_ir.specs.declared.op.AirOp.{AirOp}
 use Rattle.air_ir.specs.declared.op.AirOp.TheVariants as op
 use Rattle.air_ir.specs.declared.op.Test.TheVariants.{Bit, Compare}
 use Rattle.air_ir.specs.declared.operand.Arg.TheVariants.{At, Imm}
 use Rattle.air_ir.specs.declared.procedure.AirBlock.{AirBlock}
 use Rattle.air_ir.specs.declared.procedure.AirInst.{AirInst}
-use Rattle.air_select.specs.Contract.{CarriesBits, CarriesComparisons, CarriesConstants, HasSecond, IsFolded, IsMade, NoneIsMade, TestsBit, TestsComparison, carried_word, test_in}
-use Rattle.air_fold.specs.Foldable.{bit_of, condition_fits, is_and, is_bit, is_bit_test, is_comparison, is_constant, is_foldable, is_immediate, second_immediates, uses}
-use Rattle.air_select.specs.Selected.{Condition, Tables, argument_moves, argument_move, arg_of, block_code, branch_on, code_of, computes, condition, condition_of, entry_of, folds, inst, last_id, names_argument, negative_amount, op_of, result_of, return_of, rotate_by, select_on, selected, selected_by, tables, turned, use_at, use_of, value_code}
+use Rattle.air_select.specs.Contract.{CarriesBits, CarriesComparisons, CarriesConstants, CarriesStored, HasFirst, HasSecond, IsFolded, IsMade, NoneIsMade, TestsBit, TestsComparison, carried_word, test_in}
+use Rattle.air_fold.specs.Foldable.{bit_of, condition_fits, first_immediates, is_and, is_bit, is_bit_test, is_comparison, is_constant, is_foldable, is_immediate, is_store, second_immediates, uses}
+use Rattle.air_select.specs.Selected.{Condition, Tables, access, address_of, argument_moves, argument_move, arg_of, before_access, block_code, branch_on, code_of, computes, condition, condition_of, entry_of, folds, inst, last_id, names_argument, negative_amount, op_of, result_of, return_of, rotate_by, select_on, selected, selected_by, store_of, tables, turned, use_at, use_of, value_code}
 use Rattle.air_select.specs.Temporaries.{first_extra}
-use Rattle.air_fold.specs.Values.{Index, child, ids_of, index_of, known, known_in, word_in}
+use Rattle.air_fold.specs.Values.{Index, child, ids_of, index_of, known, known_in, width_at, word_in}
 use Rattle.air_fold.specs.declared.known.Known.{Known}
 use Rattle.air_select.proofs.Children.{fit_cases}
 use Rattle.air_fold.proofs.Places.{at_place, get_behind, get_front, get_within, in_blocks, known_is, place_is, row_get, split_at}
-use Rattle.air_select.proofs.Sites.{All-slice, all_one, all_three, all_two}
+use Rattle.air_select.proofs.Pieces.{IsFor, code_is, entry_for, flat_found, flat_get, made_for, unfolded_by}
+use Rattle.air_select.proofs.Sites.{All-slice}
 use Rattle.air_select.proofs.Sound.{both_first, both_second, foldable_kind, sound}
-
--- ---- pieces of a list
-
--- an item of the piece of a part
-flat_get : {X Y : Type 0} (f : X → List Y) (xs : List X) (j : ℕ) (x : X) (n : ℕ) (y : Y) → slice_get xs j ≡ Some x → slice_get (f x) n ≡ Some y
-    → slice_get (flat_map f xs) (length (flat_map f (take j xs)) + n) ≡ Some y
-flat_get f [] j x n y there at = absurd cc
-flat_get f (z ∷ xs) zero x n y there at =
-    let same : x ≡ z = cc in
-    let first : 0 + n ≡ n = omega arith in
-    ap (slice_get (f z ++ flat_map f xs)) first ∙ get_front (f z) (flat_map f xs) n y (subst (λ w. slice_get (f w) n ≡ Some y) same at)
-flat_get f (z ∷ xs) (suc j) x n y there at =
-    let far : length (f z ++ flat_map f (take j xs)) + n ≡ length (f z) + (length (flat_map f (take j xs)) + n) =
-    omega (arith, length-append (f z) (flat_map f (take j xs))) in
-    ap (slice_get (f z ++ flat_map f xs)) far ∙ get_behind (f z) (flat_map f xs) (length (flat_map f (take j xs)) + n) ∙ flat_get f xs j x n y there at
-
-record IsPieceOf {X Y : Type 0} (f : X → List Y) (xs : List X) (y : Y) : Type 0 where
-  at : ℕ
-  part : X
-  there : slice_get xs at ≡ Some part
-  within : ℕ
-  here : slice_get (f part) within ≡ Some y
-
-flat_found : {X Y : Type 0} (f : X → List Y) (xs : List X) (k : ℕ) (y : Y) → slice_get (flat_map f xs) k ≡ Some y → IsPieceOf f xs y
-flat_found f [] k y e = absurd cc
-flat_found f (x ∷ xs) k y e =
-    elim (cases_lt k (length (f x))) [
-      | inl less ↦ record { at = 0; part = x; there = refl; within = k; here = get_within (f x) (flat_map f xs) k y less e }
-      | inr past ↦
-          let m : ℕ = k - length (f x) in
-          let split : length (f x) + m ≡ k = omega arith in
-          let more = flat_found f xs m y (sym (get_behind (f x) (flat_map f xs) m) ∙ ap (slice_get (flat_map f (x ∷ xs))) split ∙ e) in
-          record { at = suc more.at; part = more.part; there = more.there; within = more.within; here = more.here }
-    ]
-
--- ---- what an instruction is made for
-
-abbrev IsFor : ℕ → AirInst → Type 0
-IsFor id i = i.value ≡ id
-
-module _ (t : Tables) (v : Value) where
-  either_for : (b : Bool) (is other : List AirInst) → All (IsFor v.id) is → All (IsFor v.id) other → All (IsFor v.id) (if b then is else other)
-  either_for true is other h k = h
-  either_for false is other h k = k
-
-  return_for : (cs : List ℕ) → All (IsFor v.id) (return_of t v cs)
-  return_for [] = all_one (IsFor v.id) _ refl
-  return_for (c ∷ cs) = all_two (IsFor v.id) _ _ refl refl
-
-  code_for : (o : Opcode) → All (IsFor v.id) (code_of t o v)
-  code_for opcode.Nop = All-nil (IsFor v.id)
-  code_for opcode.Mod = either_for v.kind.chill _ _ (all_three (IsFor v.id) _ _ _ refl refl refl) (all_two (IsFor v.id) _ _ refl refl)
-  code_for opcode.UMod = either_for v.kind.chill _ _ (all_three (IsFor v.id) _ _ _ refl refl refl) (all_two (IsFor v.id) _ _ refl refl)
-  code_for opcode.RotL = either_for (folds t (child v.children 1)) _ _ (all_one (IsFor v.id) _ refl) (all_two (IsFor v.id) _ _ refl refl)
-  code_for opcode.Return = return_for v.children
-  code_for _ = all_one (IsFor v.id) _ refl
-
-  made_for : All (IsFor v.id) (value_code t v)
-  unfolding value_code
-  made_for = either_for (folds t v.id) [] (code_of t v.kind.opcode v) (All-nil (IsFor v.id)) (code_for v.kind.opcode)
-
-  -- a value that has an instruction is not folded
-  unfolded_by : (n : ℕ) (i : AirInst) → slice_get (value_code t v) n ≡ Some i → folds t v.id ≡ false
-  unfolding value_code
-  unfolded_by n i e = by (folds t v.id) e
-    where
-      by : (b : Bool) → slice_get (if b then [] else code_of t v.kind.opcode v) n ≡ Some i → b ≡ false
-      by true at = absurd cc
-      by false at = refl
-
-  code_is : folds t v.id ≡ false → value_code t v ≡ code_of t v.kind.opcode v
-  unfolding value_code
-  code_is e = rw e refl
-
-moves_for : (x : Index) (vs : List Value) (value n : ℕ) → All (IsFor value) (argument_moves x vs value n)
-moves_for x vs value zero = All-nil (IsFor value)
-moves_for x vs value (suc r) =
-    All-append (IsFor value) (argument_moves x vs value r) _ (moves_for x vs value r) (by (names_argument vs r))
-  where
-    by : (b : Bool) → All (IsFor value) (if b then argument_move x value r ∷ [] else [])
-    by true = all_one (IsFor value) _ refl
-    by false = All-nil (IsFor value)
-
-entry_for : (x : Index) (vs : List Value) → All (IsFor (last_id vs)) (entry_of x vs).insts
-unfolding entry_of
-entry_for x vs = All-append (IsFor (last_id vs)) (argument_moves x vs (last_id vs) 8) _ (moves_for x vs (last_id vs) 8) (all_one (IsFor (last_id vs)) _ refl)
 
 -- ---- opcodes
 
@@ -167,6 +86,17 @@ user_kind : (x : Index) (o : Opcode) (i : ℕ) (k : Known) → condition_fits x 
 user_kind x opcode.Branch i k e = record { constant = refl; comparison = refl; conjunction = refl }
 user_kind x opcode.Select i k e = record { constant = refl; comparison = refl; conjunction = refl }
 user_kind x _ i k e = absurd cc
+
+store_kind : (o : Opcode) → is_store o ≡ true → HasNoKind o
+store_kind opcode.Store8 e = record { constant = refl; comparison = refl; conjunction = refl }
+store_kind opcode.Store16 e = record { constant = refl; comparison = refl; conjunction = refl }
+store_kind opcode.Store e = record { constant = refl; comparison = refl; conjunction = refl }
+store_kind _ e = absurd cc
+
+-- a store stores 0 alone of constants
+zero_stored : (o : Opcode) (width : Width) (word : ℕ) → is_store o ≡ true → is_immediate (first_immediates o) width word ≡ true → word ≡ 0
+zero_stored o width word store fits =
+    eqb-true word 0 (subst (λ (b : Bool). is_immediate (if b then OnlyZero else NoImmediate) width word ≡ true) store fits)
 
 not_both : (b : Bool) → b ≡ true → b ≡ false → ⊥
 not_both b e f = let bad : true ≡ false = sym e ∙ f in cc
@@ -238,6 +168,28 @@ module _ (t : Tables) (v : Value) (id : ℕ) (folded : folds t id ≡ true) wher
   carries_second opcode.AboveEqual width word e at = computes_second (op_of opcode.AboveEqual) at
   carries_second opcode.BelowEqual width word e at = computes_second (op_of opcode.BelowEqual) at
   carries_second _ width word e at = absurd cc
+
+  -- a store carries the 0 that it stores
+  store_first : (air_op : AirOp) (extent : Extent) → slice_get v.children 0 ≡ Some id → (known t.index id).word ≡ 0
+      → HasInst (store_of t v air_op extent) (HasFirst 0)
+  store_first air_op extent at none =
+      let from = child v.children 0 in
+      let width = width_at t.index from in
+      let pointer = child v.children 1 in
+      let bytes = extent_bytes extent width in
+      let before = before_access t v pointer bytes in
+      let last : AirInst = access v air_op (use_of t from ∷ use_at width (address_of t v pointer bytes) ∷ []) in (
+        length before + 0,
+        last,
+        get_behind before (last ∷ []) 0,
+        (use_of t from, refl, ap (arg_of t) (child_is v.children 0 id at) ∙ arg_is ∙ ap Imm none),
+      )
+
+  carries_first : (o : Opcode) → is_store o ≡ true → slice_get v.children 0 ≡ Some id → (known t.index id).word ≡ 0 → HasInst (code_of t o v) (HasFirst 0)
+  carries_first opcode.Store8 e at none = store_first op.Store8 Byte at none
+  carries_first opcode.Store16 e at none = store_first op.Store16 Half at none
+  carries_first opcode.Store e at none = store_first op.Store Whole at none
+  carries_first _ e at none = absurd cc
 
   -- the condition of a comparison, and of a bit
   abbrev comparing : Known → Condition
@@ -437,6 +389,21 @@ module _ (p : Procedure) (valid : IsValidProcedure p) (fit : AllFit p.blocks) wh
             ]
           ])
 
+  stored : CarriesStored p (selected p)
+  stored b j c m v k at at_k store constant folded child_at =
+      let t = tables p in
+      let k_folds : folds t k.id ≡ true = folds_at c m k at_k ∙ folded in
+      let is = known_is p valid c m k at_k in
+      let fit = (sound p valid).uses_fit b 0 k.id v (contains_at (values_of p b) j v at) child_at k_folds in
+      let has : HasInst (code_of t v.kind.opcode v) (HasFirst 0) =
+      elim (fit_cases t b v.kind.opcode 0 k.id fit) [
+        | inl h ↦
+            carries_first t v k.id k_folds v.kind.opcode store child_at
+            (zero_stored v.kind.opcode (width_at index k.id) (known index k.id).word store h.fits)
+        | inr h ↦ absurd (not_both (is_constant (known index k.id).opcode) (ap (λ (w : Known). is_constant w.opcode) is ∙ constant) h.constant)
+      ] in
+      made b j v (HasFirst 0) at (user_unfolded b j v at (store_kind v.kind.opcode store)) has
+
   -- how a child that is no constant fits
   as_condition : (b j c m i : ℕ) (v k : Value) → StandsAt p b j v → StandsAt p c m k → (is_constant k.kind.opcode ≡ true → ⊥)
       → folds (tables p) k.id ≡ true → slice_get v.children i ≡ Some k.id → condition_fits index v.kind.opcode i (known index k.id) ≡ true
@@ -499,4 +466,4 @@ module _ (p : Procedure) (valid : IsValidProcedure p) (fit : AllFit p.blocks) wh
       )
 
   pub is_folded : IsFolded p (selected p)
-  is_folded = record { none = none_made; constants = constants; comparisons = comparisons; bits = bits }
+  is_folded = record { none = none_made; constants = constants; stored = stored; comparisons = comparisons; bits = bits }

@@ -40,7 +40,7 @@ use Rattle.air_ir.specs.declared.op.Test.{Test}
 use Rattle.air_ir.specs.declared.operand.Arg.TheVariants.{At}
 use Rattle.air_ir.specs.declared.procedure.AirInst.{AirInst}
 use Rattle.air_ir.proofs.Stepping.{steps-one}
-use Rattle.air_fold.specs.Foldable.{condition_fits, is_bit_test, is_comparison}
+use Rattle.air_fold.specs.Foldable.{condition_fits, constant_fits, is_bit_test, is_comparison}
 use Rattle.air_select.specs.Selected.{Tables, arg_of, branch_on, cases_in, condition_of, inst, move, register, result_of, return_of, select_on, targets_of, use_at, use_of}
 use Rattle.air_select.specs.Temporaries.{home}
 use Rattle.air_fold.specs.Values.{child, width_at}
@@ -95,6 +95,7 @@ module _ (p : Procedure) (t : Tables) (start : Start) (v : Value) (h : Here p t 
       ∙ ap (λ (q : Opcode). result q v.kind.chill v.ty ws (types_of p v)) (sym eo) ∙ g) in
       let d : Decides h.s.homes c three.wx =
       decides p t start v h (child v.children 0) three.wx three.x_at three.x_in three.x_now
+      (λ width word. ap (λ (q : Opcode). constant_fits q 0 width word) eo)
       (λ k fits. inl (sym (ap (λ (q : Opcode). condition_fits t.index q 0 k) eo) ∙ fits)) in
       let os = use_of t x ∷ use_of t y ∷ result_of t v ∷ [] in
       let more = (width_at t.index x, three.wy) ∷ (width_at t.index y, three.wz) ∷ [] in
@@ -170,6 +171,7 @@ module _ (p : Procedure) (t : Tables) (start : Start) (v : Value) (h : Here p t 
       let target = two_targets v.body (row_of_role p t start v h opcode.Branch eo).2 in
       let d : Decides h.s.homes c one.wx =
       decides p t start v h (child v.children 0) one.wx one.x_at one.x_in one.x_now
+      (λ width word. ap (λ (q : Opcode). constant_fits q 0 width word) eo)
       (λ k fits. or_cases (is_comparison k.opcode) (is_bit_test t.index k) (sym (ap (λ (q : Opcode). condition_fits t.index q 0 k) eo) ∙ fits)) in
       let i : AirInst = inst v (op.BranchIf c.test) c.over in
       let read_all : words h.s.homes c.over ≡ Some (d.reads ++ []) =
@@ -279,6 +281,7 @@ module _ (p : Procedure) (t : Tables) (start : Start) (v : Value) (h : Here p t 
       subst (λ (l : List ℕ). Does p t start v junk (b3.returns h.st l) (steps (meaning start) (return_of t v []) h.s junk)) (sym e) (
         Returned None,
         h.s,
+        junk,
         steps_last start (inst v op.Return []) h.s junk (Goes (Some (Over (Returned None))) h.s, junk)
             (one_leave start (inst v op.Return []) h.s junk [] (Over (Returned None)) (reads_none h.s.homes) (return_none v.id h.s.world) writes_none),
         same_seen (Returned None),
@@ -294,6 +297,7 @@ module _ (p : Procedure) (t : Tables) (start : Start) (v : Value) (h : Here p t 
       subst (λ (l : List ℕ). Does p t start v junk (b3.returns h.st l) (steps (meaning start) (return_of t v (c ∷ [])) h.s junk)) (sym e) (
         Returned (Some w),
         after,
+        junk,
         steps_first start copy (last ∷ []) h.s after junk
             (sym (steps-one (meaning start) copy h.s junk) ∙ moved p t start v h h.s junk width (arg_of t c) (register 0) w reads)
             ∙ steps_last start last after junk (Goes (Some (Over (Returned (Some w)))) after, junk)

@@ -1,3 +1,4 @@
+pub mod Accesses
 pub mod Beginning
 pub mod Children
 pub mod Coded
@@ -16,6 +17,8 @@ pub mod Named
 pub mod OneOp
 pub mod Opcodes
 pub mod Operands
+pub mod OneSite
+pub mod Pieces
 pub mod Plain
 pub mod Related
 pub mod Remainders

@@ -10,6 +10,10 @@ use Rattle.b3_ir.specs.declared.value.Value.{Value}
 use Rattle.b3_meaning.specs.Opcodes.{Outcome, result}
 use Rattle.b3_meaning.specs.Roles.{role_of}
 use Rattle.b3_meaning.specs.Run as b3
+use Rattle.b3_ir.specs.declared.opcode.Ty.TheVariants.{Int32}
+use Rattle.b3_ir.specs.declared.table.Takes.TheVariants.{Any, This}
+use Rattle.b3_meaning.specs.declared.role.Extent.TheVariants.{Byte, Half, Whole}
+use Rattle.air_ir.specs.declared.op.AirOp.TheVariants as op
 use Rattle.b3_meaning.specs.declared.role.Role.{Role}
 use Rattle.b3_meaning.specs.declared.role.Role.TheVariants as role
 use Rattle.b3_rules.specs.Rules.{types_of}
@@ -19,6 +23,7 @@ use Rattle.air_select.specs.Contract.{is_built}
 use Rattle.air_fold.specs.Foldable.{is_and, is_bit, is_constant}
 use Rattle.air_select.specs.Selected.{Tables, code_of, folds, value_code}
 use Rattle.air_fold.specs.Values.{child, known}
+use Rattle.air_select.proofs.Accesses.{frame_does, load_does, slot_does, store_does}
 use Rattle.air_select.proofs.Copied.{argument_does, constant_does, identity_does, phi_does, row_of_role}
 use Rattle.air_select.proofs.Deciding.{comparison_row}
 use Rattle.air_select.proofs.Does.{Does, Here, effect_is, gives_does, here, named, words_here}
@@ -85,16 +90,19 @@ module _ (p : Procedure) (t : Tables) (start : Start) (v : Value) (h : Here p t 
   plain_does opcode.Branch eo built = branch_does p t start v h junk eo
   plain_does opcode.Switch eo built = switch_does p t start v h junk eo
   plain_does opcode.Return eo built = return_does p t start v h junk eo
-  plain_does opcode.FramePointer eo built = absurd (cc)
-  plain_does opcode.SlotBase eo built = absurd (cc)
-  plain_does opcode.Load8Z eo built = absurd (cc)
-  plain_does opcode.Load8S eo built = absurd (cc)
-  plain_does opcode.Load16Z eo built = absurd (cc)
-  plain_does opcode.Load16S eo built = absurd (cc)
-  plain_does opcode.Load eo built = absurd (cc)
-  plain_does opcode.Store8 eo built = absurd (cc)
-  plain_does opcode.Store16 eo built = absurd (cc)
-  plain_does opcode.Store eo built = absurd (cc)
+  plain_does opcode.FramePointer eo built = frame_does p t start v h junk eo
+  plain_does opcode.SlotBase eo built = slot_does p t start v h junk eo
+  plain_does opcode.Load8Z eo built = load_does p t start v h junk opcode.Load8Z op.Load8Z Byte false eo refl refl refl (λ e. cc) (λ k w. refl) (λ ty ts a. a.children)
+  plain_does opcode.Load8S eo built = load_does p t start v h junk opcode.Load8S op.Load8S Byte true eo refl refl refl (λ e. cc) (λ k w. refl) (λ ty ts a. a.children)
+  plain_does opcode.Load16Z eo built = load_does p t start v h junk opcode.Load16Z op.Load16Z Half false eo refl refl refl (λ e. cc) (λ k w. refl) (λ ty ts a. a.children)
+  plain_does opcode.Load16S eo built = load_does p t start v h junk opcode.Load16S op.Load16S Half true eo refl refl refl (λ e. cc) (λ k w. refl) (λ ty ts a. a.children)
+  plain_does opcode.Load eo built = load_does p t start v h junk opcode.Load op.Load Whole false eo refl refl refl (λ e. cc) (λ k w. refl) (λ ty ts a. a.children)
+  plain_does opcode.Store8 eo built =
+      store_does p t start v h junk opcode.Store8 op.Store8 Byte (This Int32) eo refl refl refl (λ e. cc) (λ k w. refl) (λ ty ts a. a.children)
+  plain_does opcode.Store16 eo built =
+      store_does p t start v h junk opcode.Store16 op.Store16 Half (This Int32) eo refl refl refl (λ e. cc) (λ k w. refl) (λ ty ts a. a.children)
+  plain_does opcode.Store eo built =
+      store_does p t start v h junk opcode.Store op.Store Whole Any eo refl refl refl (λ e. cc) (λ k w. refl) (λ ty ts a. a.children)
   plain_does opcode.CCall eo built = absurd (cc)
   plain_does opcode.Patchpoint eo built = absurd (cc)
   plain_does opcode.Check eo built = absurd (cc)

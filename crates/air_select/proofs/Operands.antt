@@ -22,7 +22,7 @@ use Rattle.b3_sound.proofs.Kept.{IsKept}
 use Rattle.b3_sound.proofs.Rows.{IsRow, row_by_role}
 use Rattle.air_ir.specs.Forms.{Fits, Immediates, NoImmediate, AnyWord, OfSum, OfLogic, OnlyZero, IsImmediate, IsWord, Word}
 use Rattle.air_ir.specs.declared.operand.Arg.TheVariants.{At, Imm}
-use Rattle.air_fold.specs.Foldable.{condition_fits, constant_fits, is_constant, is_immediate, is_mask, is_named, second_immediates, some_below}
+use Rattle.air_fold.specs.Foldable.{condition_fits, constant_fits, is_constant, is_immediate, is_mask, first_immediates, is_named, second_immediates, some_below}
 use Rattle.air_select.specs.Selected.{Tables, arg_of, folds, use_of}
 use Rattle.air_select.specs.Temporaries.{home}
 use Rattle.air_fold.specs.Values.{known, known_in, width_at}
@@ -60,6 +60,7 @@ immediate_is OnlyZero width word e = eqb-true word 0 e
 
 -- which immediates a child may be
 abbrev pub immediates_at : Opcode → ℕ → Immediates
+immediates_at o zero = first_immediates o
 immediates_at o (suc zero) = second_immediates o
 immediates_at o at = NoImmediate
 

@@ -24,7 +24,7 @@ use Rattle.air_ir.specs.Meaning.{meaning}
 use Rattle.air_ir.specs.Operands.{Empty, Held, Holds, read, word_of}
 use Rattle.air_ir.specs.Steps.{Goes, steps}
 use Rattle.air_ir.specs.declared.operand.Arg.TheVariants.{At}
-use Rattle.air_fold.specs.Foldable.{condition_fits}
+use Rattle.air_fold.specs.Foldable.{condition_fits, constant_fits}
 use Rattle.air_select.specs.Selected.{Tables, arg_of, folds, move, phi_in}
 use Rattle.air_select.specs.Temporaries.{home, location}
 use Rattle.air_fold.specs.Values.{child, width_at}
@@ -108,7 +108,8 @@ module _ (p : Procedure) (t : Tables) (start : Start) (v : Value) (h : Here p t 
       ∙ ap (λ (q : Opcode). result q v.kind.chill v.ty ws (types_of p v)) (sym eo) ∙ g) in
       let un : folds t shape.x ≡ false =
       unfolded p h.valid t h.sound start h.block v (here p t start v h) 0 shape.x (place_of_child p t start v h v.children shape.x [] shape.are)
-      (λ k. ap (λ (q : Opcode). condition_fits t.index q 0 k) eo) (λ width word. refl) in
+      (λ k. ap (λ (q : Opcode). condition_fits t.index q 0 k) eo)
+      (λ width word. ap (λ (q : Opcode). constant_fits q 0 width word) eo) in
       let wide : width_at t.index shape.x ≡ W64 =
       width_is p h.valid t h.sound start h.passed h.block h.before (v ∷ h.rest) h.stands h.st h.reached h.s h.related shape.x ∙ ap width_of shape.x_taken in
       let in_home : read W64 (h.s.homes (home t.index shape.x)) ≡ Some shape.wx =

@@ -19,10 +19,10 @@ use Rattle.b3_ir.proofs.Typing.{allowed}
 use Rattle.b3_rules.specs.Rules.{types_of}
 use Rattle.b3_sound.proofs.Distinct.{stands}
 use Rattle.b3_sound.proofs.Kept.{IsKept}
-use Rattle.air_ir.specs.Forms.{AllFit, Fits, NoImmediate, OfSum, IsHome, IsWord, Word, BitOf, test_takes}
+use Rattle.air_ir.specs.Forms.{AllFit, Immediates, Fits, NoImmediate, OfSum, IsHome, IsWord, Word, BitOf, test_takes}
 use Rattle.air_ir.specs.declared.op.Test.TheVariants.{Bit, Compare, NonZero}
 use Rattle.air_ir.specs.declared.operand.Arg.TheVariants.{At, Imm}
-use Rattle.air_fold.specs.Foldable.{bit_of, condition_fits, constant_fits, is_and, is_bit, is_bit_test, is_comparison, is_constant, second_immediates}
+use Rattle.air_fold.specs.Foldable.{first_immediates, bit_of, condition_fits, constant_fits, is_and, is_bit, is_bit_test, is_comparison, is_constant, second_immediates}
 use Rattle.air_select.specs.Selected.{Condition, Tables, condition, condition_of, folded_condition, folds, use_of}
 use Rattle.air_select.specs.Temporaries.{home}
 use Rattle.air_fold.specs.Values.{child, known, known_in, width_at}
@@ -41,22 +41,23 @@ IsTested c = (width : Width) × AllFit (test_takes c.test width) c.over
 pub record IsPair (o : Opcode) : Type 0 where
   pub taken : (ty : Ty) (types : List Ty) → AllowsTypes o ty types → (a : Ty) × (a ≢ Void) × AreTaken a (Alike ∷ Alike ∷ []) NoMore types
   pub plain : (t : Tables) (i : ℕ) (k : Known) → condition_fits t.index o i k ≡ false
+  pub none_first : first_immediates o ≡ NoImmediate
 
 comparison_pair : (o : Opcode) → is_comparison o ≡ true → IsPair o
-comparison_pair opcode.Equal e = record { taken = λ ty types h. (h.alike, h.typed, h.children); plain = λ t i k. refl }
-comparison_pair opcode.NotEqual e = record { taken = λ ty types h. (h.alike, h.typed, h.children); plain = λ t i k. refl }
-comparison_pair opcode.LessThan e = record { taken = λ ty types h. (h.alike, h.typed, h.children); plain = λ t i k. refl }
-comparison_pair opcode.GreaterThan e = record { taken = λ ty types h. (h.alike, h.typed, h.children); plain = λ t i k. refl }
-comparison_pair opcode.LessEqual e = record { taken = λ ty types h. (h.alike, h.typed, h.children); plain = λ t i k. refl }
-comparison_pair opcode.GreaterEqual e = record { taken = λ ty types h. (h.alike, h.typed, h.children); plain = λ t i k. refl }
-comparison_pair opcode.Above e = record { taken = λ ty types h. (h.alike, h.typed, h.children); plain = λ t i k. refl }
-comparison_pair opcode.Below e = record { taken = λ ty types h. (h.alike, h.typed, h.children); plain = λ t i k. refl }
-comparison_pair opcode.AboveEqual e = record { taken = λ ty types h. (h.alike, h.typed, h.children); plain = λ t i k. refl }
-comparison_pair opcode.BelowEqual e = record { taken = λ ty types h. (h.alike, h.typed, h.children); plain = λ t i k. refl }
+comparison_pair opcode.Equal e = record { taken = λ ty types h. (h.alike, h.typed, h.children); plain = λ t i k. refl; none_first = refl }
+comparison_pair opcode.NotEqual e = record { taken = λ ty types h. (h.alike, h.typed, h.children); plain = λ t i k. refl; none_first = refl }
+comparison_pair opcode.LessThan e = record { taken = λ ty types h. (h.alike, h.typed, h.children); plain = λ t i k. refl; none_first = refl }
+comparison_pair opcode.GreaterThan e = record { taken = λ ty types h. (h.alike, h.typed, h.children); plain = λ t i k. refl; none_first = refl }
+comparison_pair opcode.LessEqual e = record { taken = λ ty types h. (h.alike, h.typed, h.children); plain = λ t i k. refl; none_first = refl }
+comparison_pair opcode.GreaterEqual e = record { taken = λ ty types h. (h.alike, h.typed, h.children); plain = λ t i k. refl; none_first = refl }
+comparison_pair opcode.Above e = record { taken = λ ty types h. (h.alike, h.typed, h.children); plain = λ t i k. refl; none_first = refl }
+comparison_pair opcode.Below e = record { taken = λ ty types h. (h.alike, h.typed, h.children); plain = λ t i k. refl; none_first = refl }
+comparison_pair opcode.AboveEqual e = record { taken = λ ty types h. (h.alike, h.typed, h.children); plain = λ t i k. refl; none_first = refl }
+comparison_pair opcode.BelowEqual e = record { taken = λ ty types h. (h.alike, h.typed, h.children); plain = λ t i k. refl; none_first = refl }
 comparison_pair _ e = absurd cc
 
 and_pair : (o : Opcode) → is_and o ≡ true → IsPair o
-and_pair opcode.BitAnd e = record { taken = λ ty types h. (h.alike, h.typed, h.children); plain = λ t i k. refl }
+and_pair opcode.BitAnd e = record { taken = λ ty types h. (h.alike, h.typed, h.children); plain = λ t i k. refl; none_first = refl }
 and_pair _ e = absurd cc
 
 comparison_immediates : (o : Opcode) → is_comparison o ≡ true → second_immediates o ≡ OfSum
@@ -127,7 +128,8 @@ module _ (p : Procedure) (kept : IsKept p) (t : Tables) (sound : IsSound p t) wh
       let b = child_as p kept t sound s.block w s.there o op_is 1 cs.1 row.0 (ap (λ (l : List ℕ). slice_get l 1) cs.2) (pair.plain t 1) cs.4 row.1 in
       record {
         width = width_of row.0;
-        first = subst (λ n. Fits (Word (width_of row.0) NoImmediate) (use_of t n)) (sym x) a;
+        first = subst (λ n. Fits (Word (width_of row.0) NoImmediate) (use_of t n)) (sym x)
+            (subst (λ (m : Immediates). Fits (Word (width_of row.0) m) (use_of t cs.0)) pair.none_first a);
         second = subst (λ n. Fits (Word (width_of row.0) (second_immediates o)) (use_of t n)) (sym y) b;
         second_typed = λ e. row.1 (sym cs.4 ∙ sym (ap (type_of p) y) ∙ e);
         second_width = ap width_of (sound.types (known t.index c).second ∙ ap (type_of p) y ∙ cs.4);

@@ -6,15 +6,19 @@ use Rattle.std.proofs.lemmas.List.{append-nil, append_assoc, length-map}
 use Rattle.std.proofs.lemmas.List.Concat.{flat_map-cons}
 use Rattle.std.proofs.lemmas.List.Elements.{All-append, All-cons, All-contains, All-map, All-nil, All-weaker}
 use Rattle.b3_base.specs.declared.word.Width.TheVariants.{W64}
-use Rattle.b3_ir.specs.Fits.{HasCases, HasTargets, IsBody, IsPlain, reported_count}
+use Rattle.b3_ir.specs.Fits.{HasCases, HasTargets, IsBody, IsPlain, IsSlot, reported_count}
 use Rattle.b3_ir.specs.Procedure.{AllFit as ValuesFit, Block, Procedure, StandsAt, no_block, values_of}
 use Rattle.b3_ir.specs.Table.{is_terminal, row_of}
 use Rattle.b3_ir.specs.declared.opcode.Opcode.{Opcode}
 use Rattle.b3_ir.specs.declared.opcode.Opcode.TheVariants as opcode
 use Rattle.b3_ir.specs.declared.opcode.Ty.{Ty}
+use Rattle.b3_ir.specs.declared.procedure.SlotLine.{SlotLine}
 use Rattle.b3_ir.specs.declared.value.Body.{Body}
-use Rattle.b3_ir.specs.declared.value.Body.TheVariants.{Plain, Argument, Targets, Cases}
+use Rattle.b3_ir.specs.declared.value.Body.TheVariants.{Plain, Argument, Slot, Targets, Cases}
 use Rattle.b3_ir.specs.declared.value.Value.{Value}
+use Rattle.b3_ir.specs.Types.{width_of}
+use Rattle.b3_meaning.specs.declared.role.Extent.{Extent}
+use Rattle.b3_meaning.specs.declared.role.Extent.TheVariants.{Byte, Half, Whole}
 use Rattle.b3_rules.specs.Paths.{successors_in}
 use Rattle.b3_rules.specs.Rules.{IsArgumentIn}
 use Rattle.std.proofs.lemmas.Option.{get_or_from_slice_get, slice_get_within}
@@ -22,18 +26,19 @@ use Rattle.b3_rules.specs.Valid.{IsValidProcedure, ValueAt}
 use Rattle.b3_rules.specs.declared.rule.Rule.TheVariants as rule
 use Rattle.b3_sound.proofs.Distinct.{stands}
 use Rattle.b3_sound.proofs.FromValid.{is_kept}
-use Rattle.b3_sound.proofs.Kept.{EndsBlock, IsKept}
+use Rattle.b3_sound.proofs.Kept.{EndsBlock, IsKept, NamesSlot}
 use Rattle.b3_sound.proofs.Lists.{contains_head, contains_tail}
-use Rattle.air_ir.specs.Forms.{AnyWord, Result, Word}
-use Rattle.air_ir.specs.Kinds.{target_count}
+use Rattle.air_ir.specs.Forms.{AnyWord, Result, Word, is_offset}
+use Rattle.air_ir.specs.Kinds.{extent_bytes, target_count}
 use Rattle.air_ir.specs.WellFormed.{IsGoodBlock, IsGoodInst, IsWellFormed}
+use Rattle.air_ir.specs.declared.op.AirOp.{AirOp}
 use Rattle.air_ir.specs.declared.op.AirOp.TheVariants as op
 use Rattle.air_ir.specs.declared.operand.Arg.TheVariants.{At}
 use Rattle.air_ir.specs.declared.procedure.AirInst.{AirInst}
 use Rattle.air_ir.specs.declared.procedure.AirProc.{AirProc}
 use Rattle.air_select.specs.Contract.{IsBuilt, is_built}
 use Rattle.air_fold.specs.Foldable.{is_and, is_comparison, is_constant}
-use Rattle.air_select.specs.Selected.{Tables, arg_of, argument_move, argument_moves, block_code, cases_in, code_of, def_at, entry_of, folds, inst, last_id, move, names_argument, op_of, register, register_in, return_of, selected_by, targets_of, use_at, value_code}
+use Rattle.air_select.specs.Selected.{Tables, arg_of, argument_move, argument_moves, before_access, block_code, cases_in, code_of, def_at, entry_of, far_sum, folds, inst, last_id, load_of, move, names_argument, offset_in, op_of, register, register_in, return_of, selected_by, slot_in, store_of, targets_of, use_at, value_code}
 use Rattle.air_select.specs.Temporaries.{argument, tmp_count}
 use Rattle.air_fold.specs.Values.{child, width_at}
 use Rattle.air_select.proofs.Forms.{fit_none, fit_two}
@@ -55,6 +60,20 @@ pick : {X : Type 0} (P : X → Type 0) (b : Bool) (x y : X) → P x → P y → 
 pick P true x y p q = p
 pick P false x y p q = q
 
+inner_before : (t : Tables) (v : Value) (pointer bytes : ℕ) → All IsInner (before_access t v pointer bytes)
+inner_before t v pointer bytes =
+    pick (All IsInner) (is_offset bytes (offset_in v.body)) [] (far_sum t v pointer) (All-nil IsInner) (all_two IsInner _ _ refl refl)
+
+inner_load : (t : Tables) (v : Value) (air_op : AirOp) (extent : Extent) → target_count air_op ≡ None → All IsInner (load_of t v air_op extent)
+inner_load t v air_op extent e =
+    let bytes = extent_bytes extent (width_of v.ty) in
+    All-append IsInner (before_access t v (child v.children 0) bytes) _ (inner_before t v (child v.children 0) bytes) (all_one IsInner _ e)
+
+inner_store : (t : Tables) (v : Value) (air_op : AirOp) (extent : Extent) → target_count air_op ≡ None → All IsInner (store_of t v air_op extent)
+inner_store t v air_op extent e =
+    let bytes = extent_bytes extent (width_at t.index (child v.children 0)) in
+    All-append IsInner (before_access t v (child v.children 1) bytes) _ (inner_before t v (child v.children 1) bytes) (all_one IsInner _ e)
+
 inner_code : (t : Tables) (v : Value) (o : Opcode) → is_terminal o ≡ false → All IsInner (code_of t o v)
 inner_code t v opcode.Nop e = All-nil IsInner
 inner_code t v opcode.Const32 e = all_one IsInner _ refl
@@ -63,6 +82,16 @@ inner_code t v opcode.ArgumentReg e = all_one IsInner _ refl
 inner_code t v opcode.Trunc e = all_one IsInner _ refl
 inner_code t v opcode.Upsilon e = all_one IsInner _ refl
 inner_code t v opcode.Phi e = all_one IsInner _ refl
+inner_code t v opcode.FramePointer e = all_one IsInner _ refl
+inner_code t v opcode.SlotBase e = all_one IsInner _ refl
+inner_code t v opcode.Load8Z e = inner_load t v op.Load8Z Byte refl
+inner_code t v opcode.Load8S e = inner_load t v op.Load8S Byte refl
+inner_code t v opcode.Load16Z e = inner_load t v op.Load16Z Half refl
+inner_code t v opcode.Load16S e = inner_load t v op.Load16S Half refl
+inner_code t v opcode.Load e = inner_load t v op.Load Whole refl
+inner_code t v opcode.Store8 e = inner_store t v op.Store8 Byte refl
+inner_code t v opcode.Store16 e = inner_store t v op.Store16 Half refl
+inner_code t v opcode.Store e = inner_store t v op.Store Whole refl
 inner_code t v opcode.Mod e = pick (All IsInner) v.kind.chill _ _ (all_three IsInner _ _ _ refl refl refl) (all_two IsInner _ _ refl refl)
 inner_code t v opcode.UMod e = pick (All IsInner) v.kind.chill _ _ (all_three IsInner _ _ _ refl refl refl) (all_two IsInner _ _ refl refl)
 inner_code t v opcode.RotL e = pick (All IsInner) (folds t (child v.children 1)) _ _ (all_one IsInner _ refl) (all_two IsInner _ _ refl refl)
@@ -223,6 +252,21 @@ module _ (p : Procedure) (valid : IsValidProcedure p) (fit : ValuesFit p.blocks)
   register_below o (Argument reg) argument is = let le = argument is in omega (arith, le)
   register_below o _ argument is = omega arith
 
+  slots_are : length q.slots ≡ length p.slots
+  unfolding q selected_by
+  slots_are = length-map p.slots (λ (slot : SlotLine). slot.bytes)
+
+  slot_below : (body : Body) → IsSlot body → NamesSlot p body → slot_in body < length q.slots
+  slot_below (Slot number) is names = omega (arith, names, slots_are)
+  slot_below _ is names = absurd is
+
+  -- what a SlotBase names is a slot
+  slot_named : (b : ℕ) (v : Value) → Contains (values_of p b) v → v.kind.opcode ≡ opcode.SlotBase → slot_in v.body < length q.slots
+  slot_named b v here is =
+      let st = stands p b v here in
+      let rules = kept.rules b st.0 v st.1 in
+      slot_below v.body (subst (λ (o : Opcode). IsBody (row_of o).carries v.ty (reported_count v) v.body) is rules.fits.body) rules.slot
+
   abbrev IsBuiltValue : Value → Type 0
   IsBuiltValue v = is_built v.kind.opcode ≡ true
 
@@ -237,7 +281,8 @@ module _ (p : Procedure) (valid : IsValidProcedure p) (fit : ValuesFit p.blocks)
       pick (All (Has p valid fit t sound)) (folds t v.id) [] (code_of t v.kind.opcode v) (All-nil (Has p valid fit t sound))
       (code_has p valid fit t sound b at.0 v at.1 v.kind.opcode refl is_built) in
       let named : All (IsOwnInst q t tmps_are) (value_code t v) =
-      value_own q t tmps_are v (register_below v.kind.opcode v.body (λ is. (valid rule.Arguments (ValueAt b at.0 v) at.1 is).1)) in
+      value_own q t tmps_are v (register_below v.kind.opcode v.body (λ is. (valid rule.Arguments (ValueAt b at.0 v) at.1 is).1))
+      (slot_named b v in_values) in
       λ k d lt. record { operands = operands k d lt; names = named k d lt }
 
   -- ---- blocks

@@ -1,6 +1,7 @@
 //! Selection: the procedure of Air for a procedure of B3.
 #![tactic(auto)]
 
+mod access;
 mod code;
 mod entry;
 mod procedure;

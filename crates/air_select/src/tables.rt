@@ -1,12 +1,14 @@
 //! What selection looks up.
 
 ghost use Rattle.std.specs.Prelude.{◌≡◌, ◌+◌, ◌*◌};
+ghost use Rattle.air_fold.specs.Values as values;
 ghost use Rattle.air_select.specs.Selected as code;
 ghost use Rattle.air_select.specs.Temporaries as temporaries;
 
-use air_fold::Index;
+use air_fold::{Index, child, width_of};
 use air_ir::{Arg, Home, Operand, Role};
 use b3_base::{Seq, Width};
+use b3_ir::Value;
 use std::marker::Model;
 
 /// What selection looks up: of each id its place and what is known of it, and whether its value is folded.
@@ -107,4 +109,18 @@ pub(crate) fn def_at(width: Width, to: Home) -> Operand
         width,
         arg: Arg::At(to),
     }
+}
+
+/// The operand of a child of a value.
+pub(crate) fn use_child(t: &Tables, v: &Value, at: usize) -> Operand
+    ensures { result ≡ code.use_of t.now (values.child v.now.children at) }
+{
+    t.use_of(child(&v.children, at))
+}
+
+/// The result of a value.
+pub(crate) fn result_of(t: &Tables, v: &Value) -> Operand
+    ensures { result ≡ code.result_of t.now v.now }
+{
+    def_at(width_of(v.ty), home(&t.index, v.id))
 }

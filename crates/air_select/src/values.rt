@@ -4,28 +4,18 @@ ghost use Rattle.std.specs.Prelude.{◌≡◌, ◌++◌, ◌∷◌, [], map, OnO
 ghost use Rattle.air_select.specs.Selected as code;
 ghost use Rattle.air_fold.specs.Values as values;
 
+use crate::access::{push_frame_pointer, push_load, push_slot, push_store};
 use crate::code::{four, one, push, push_move, three, two};
 use crate::rows::{condition, op_of, turned};
-use crate::tables::{Tables, argument, def_at, first_extra, home, second_extra, use_at};
+use crate::tables::{
+    Tables, argument, def_at, first_extra, home, result_of, second_extra, use_at, use_child,
+};
 use air_fold::{bit_of, child, is_comparison, width_of, word_in};
 use air_ir::{AirInsts, AirOp, Arg, Home, Operand, Operands, Test};
 use b3_base::{NoMemory, Width, Words};
 use b3_ir::{Body, Opcode, Reg, Value};
+use b3_meaning::Extent;
 use std::alloc::Global;
-
-/// The operand of a child of a value.
-fn use_child(t: &Tables, v: &Value, at: usize) -> Operand
-    ensures { result ≡ code.use_of t.now (values.child v.now.children at) }
-{
-    t.use_of(child(&v.children, at))
-}
-
-/// The result of a value.
-fn result_of(t: &Tables, v: &Value) -> Operand
-    ensures { result ≡ code.result_of t.now v.now }
-{
-    def_at(width_of(v.ty), home(&t.index, v.id))
-}
 
 /// The test of a condition.
 fn test_of(t: &Tables, id: u32) -> Test
@@ -339,6 +329,16 @@ fn push_code(alloc: Global, insts: &mut AirInsts, t: &Tables, v: &Value) -> Resu
         | Opcode::Trunc
         | Opcode::Upsilon
         | Opcode::Phi => push_copy(alloc, insts, t, v),
+        Opcode::FramePointer => push_frame_pointer(alloc, insts, t, v),
+        Opcode::SlotBase => push_slot(alloc, insts, t, v),
+        Opcode::Load8Z => push_load(alloc, insts, t, v, AirOp::Load8Z, Extent::Byte),
+        Opcode::Load8S => push_load(alloc, insts, t, v, AirOp::Load8S, Extent::Byte),
+        Opcode::Load16Z => push_load(alloc, insts, t, v, AirOp::Load16Z, Extent::Half),
+        Opcode::Load16S => push_load(alloc, insts, t, v, AirOp::Load16S, Extent::Half),
+        Opcode::Load => push_load(alloc, insts, t, v, AirOp::Load, Extent::Whole),
+        Opcode::Store8 => push_store(alloc, insts, t, v, AirOp::Store8, Extent::Byte),
+        Opcode::Store16 => push_store(alloc, insts, t, v, AirOp::Store16, Extent::Half),
+        Opcode::Store => push_store(alloc, insts, t, v, AirOp::Store, Extent::Whole),
         Opcode::Mod => push_remainder(alloc, insts, t, v, AirOp::Div),
         Opcode::UMod => push_remainder(alloc, insts, t, v, AirOp::UDiv),
         Opcode::RotL => push_rotate_left(alloc, insts, t, v),

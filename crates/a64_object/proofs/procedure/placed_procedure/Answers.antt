@@ -1,8 +1,12 @@
 use Rattle.std.proofs.Common.{arith, subst, sym}
 use Rattle.air_flow.specs.Proper.{IsProper}
 use Rattle.air_select.specs.Contract.{procedure_at}
+use Rattle.a64_object.proofs.Making.{built}
 use Rattle.a64_object.proofs.Placed.{placed_of, spills_below}
 use Rattle.a64_object.proofs.procedure.placed_procedure.Goals as goal
+
+pub select-requires-clause-built : goal.select-requires-clause-built
+select-requires-clause-built c = built (procedure_at c.args.valid.now c.args.proc) c.requires.taken.built
 
 pub rewrite-requires-clause-proper : goal.rewrite-requires-clause-proper
 rewrite-requires-clause-proper c =
@@ -18,6 +22,6 @@ returns c =
     record {
       placed = placed_of (procedure_at c.args.valid.now c.args.proc) c.in_ok-selected.selected c.in_ok-placed.placed c.in_ok-assignment.assignment
           c.same_blocks_laws.ensures.onward c.spill_counts.ensures.below c.spill_counts.ensures.named
-          q.same q.light q.few q.kept q.returns_32 q.returns_64 q.arithmetic
+          q.same q.light q.few q.kept q.returns_32 q.returns_64 (q.arithmetic c.requires.taken.built)
           r.is r.same r.well r.no_tmps r.kept r.spills r.lighter r.comes;
     }
