@@ -9,7 +9,7 @@ use Rattle.air_fold.specs.declared.uses.Tally.{Tally}
 use Rattle.air_fold.specs.declared.uses.Used.{Used}
 
 abbrev pub use_of : ℕ → Used → Use
-use_of id used = record { id = id; block = used.block; opcode = used.opcode; at = used.at }
+use_of id used = record { id = id; block = used.block; user = used.user; opcode = used.opcode; at = used.at }
 
 abbrev pub no_use : Tally
 no_use = record { count = 0; fit = true }
@@ -20,17 +20,17 @@ none values = replicate values no_use
 abbrev pub with_use : Tally → Bool → Tally
 with_use t fits = record { count = if nat_lt t.count 2 then t.count + 1 else 2; fit = t.fit && fits }
 
--- the tallies with one more use: that of the value that is used
-unfoldable pub with_one : Index → List Tally → Use → List Tally
-with_one x tallies u =
+-- the tallies with one more use: that of the value that is used. f says which sums are pointers
+unfoldable pub with_one : Index → List Bool → List Tally → Use → List Tally
+with_one x f tallies u =
     if nat_lt (place x u.id) (length tallies)
-    then slice_set tallies (place x u.id) (with_use (slice_index_or tallies (place x u.id) no_use) (fits x u))
+    then slice_set tallies (place x u.id) (with_use (slice_index_or tallies (place x u.id) no_use) (fits x f u))
     else tallies
 
 -- and with some more
-abbrev pub with_all : Index → List Tally → List Use → List Tally
-with_all x tallies [] = tallies
-with_all x tallies (u ∷ us) = with_all x (with_one x tallies u) us
+abbrev pub with_all : Index → List Bool → List Tally → List Use → List Tally
+with_all x f tallies [] = tallies
+with_all x f tallies (u ∷ us) = with_all x f (with_one x f tallies u) us
 
 -- the uses in the block at a place
 abbrev pub block_uses : Procedure → ℕ → List Use

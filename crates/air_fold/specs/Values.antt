@@ -1,5 +1,5 @@
 -- What is known of the values of a procedure, by their ids.
-use Rattle.std.specs.Prelude.{ℕ, suc, List, [], ◌∷◌, ◌++◌, map, slice_index_or}
+use Rattle.std.specs.Prelude.{ℕ, ℤ, pos, suc, List, [], ◌∷◌, ◌++◌, map, slice_index_or}
 use Rattle.b3_base.specs.declared.word.Width.{Width}
 use Rattle.b3_ir.specs.Naming.{all_values}
 use Rattle.b3_ir.specs.Procedure.{Block, Procedure, place_among}
@@ -7,7 +7,7 @@ use Rattle.b3_ir.specs.Types as types
 use Rattle.b3_ir.specs.declared.opcode.Opcode.TheVariants.{Nop}
 use Rattle.b3_ir.specs.declared.opcode.Ty.TheVariants.{Void}
 use Rattle.b3_ir.specs.declared.value.Body.{Body}
-use Rattle.b3_ir.specs.declared.value.Body.TheVariants.{Constant}
+use Rattle.b3_ir.specs.declared.value.Body.TheVariants.{Constant, Offset}
 use Rattle.b3_ir.specs.declared.value.Value.{Value}
 use Rattle.air_fold.specs.declared.known.Known.{Known}
 
@@ -17,6 +17,11 @@ use Rattle.air_fold.specs.declared.known.Known.{Known}
 abbrev pub word_in : Body → ℕ
 word_in (Constant word) = word
 word_in _ = 0
+
+-- the offset of an access, in bytes
+abbrev pub offset_in : Body → ℤ
+offset_in (Offset offset) = offset
+offset_in _ = pos 0
 
 -- a child of a value, 0 where it has none at this place
 abbrev pub child : List ℕ → ℕ → ℕ
@@ -31,6 +36,7 @@ known_in block v = record {
   word = word_in v.body;
   first = child v.children 0;
   second = child v.children 1;
+  offset = offset_in v.body;
 }
 
 -- what is known of the values of blocks, the first of which has this number
@@ -40,7 +46,7 @@ known_from block (b ∷ bs) = map (known_in block) b.values ++ known_from (suc b
 
 -- what is known where an id names no value
 abbrev pub unknown : Known
-unknown = record { ty = Void; opcode = Nop; block = 0; word = 0; first = 0; second = 0 }
+unknown = record { ty = Void; opcode = Nop; block = 0; word = 0; first = 0; second = 0; offset = pos 0 }
 
 -- the ids of all values, in order, and beside each what is known of its value
 pub record Index : Type 0 where

@@ -5,8 +5,8 @@ ghost use Rattle.air_fold.specs.Values as values;
 
 use b3_ir::{Body, Children, Opcode, Ty, Value};
 
-/// What is looked up of a value: its type, its opcode, the block in which it stands, the word of a constant, and
-/// its first two children.
+/// What is looked up of a value: its type, its opcode, the block in which it stands, the word of a constant,
+/// its first two children, and the offset of an access.
 #[derive(Clone, Copy)]
 pub struct Known {
     pub ty: Ty,
@@ -15,6 +15,7 @@ pub struct Known {
     pub word: u64,
     pub first: u32,
     pub second: u32,
+    pub offset: i64,
 }
 
 /// What is known where an id names no value.
@@ -28,6 +29,7 @@ pub(crate) fn unknown() -> Known
         word: 0,
         first: 0,
         second: 0,
+        offset: 0,
     }
 }
 
@@ -42,6 +44,7 @@ pub(crate) fn known_in(block: u32, value: &Value) -> Known
         word: word_in(&value.body),
         first: child(&value.children, 0),
         second: child(&value.children, 1),
+        offset: offset_in(&value.body),
     }
 }
 
@@ -63,5 +66,15 @@ pub fn child(children: &Children, at: usize) -> u32
         *children.get(at)
     } else {
         0
+    }
+}
+
+/// The offset of an access, in bytes.
+pub fn offset_in(body: &Body) -> i64
+    ensures { result ≡ values.offset_in body.now }
+{
+    match body {
+        Body::Offset(offset) => i64::from(*offset),
+        _ => 0,
     }
 }

@@ -20,7 +20,7 @@ pub fn width_of(ty: Ty) -> Width
 }
 
 /// Whether a value of an opcode is a constant.
-pub(crate) fn is_constant(opcode: Opcode) -> bool
+pub fn is_constant(opcode: Opcode) -> bool
     ensures { result ≡ fold.is_constant opcode }
 {
     matches!(opcode, Opcode::Const32 | Opcode::Const64)
@@ -74,6 +74,13 @@ fn is_mask(width: Width, word: u64) -> bool
     ensures { result ≡ fold.is_mask width word }
 {
     bit_mask_from(width, word).is_some()
+}
+
+/// Whether a value of an opcode is a sum.
+pub(crate) fn is_add(opcode: Opcode) -> bool
+    ensures { result ≡ fold.is_add opcode }
+{
+    matches!(opcode, Opcode::Add)
 }
 
 /// Whether a value of an opcode stores a word.

@@ -1,5 +1,5 @@
 -- Loads and stores, the addresses of slots and the frame pointer.
-use Rattle.std.proofs.Common.{◌≡◌, ℕ, ℤ, pos, ◌+◌, ◌*◌, ◌%◌, ◌^◌, ◌<◌, ◌≤◌, Bool, true, false, List, [], ◌∷◌, ◌++◌, map, Option, Some, None, refl, sym, ap, ◌∙◌, subst, arith}
+use Rattle.std.proofs.Common.{◌≡◌, ℕ, ℤ, pos, ◌+◌, ◌*◌, ◌%◌, ◌^◌, ◌<◌, ◌≤◌, Bool, true, false, ◌||◌, List, [], ◌∷◌, ◌++◌, map, Option, Some, None, refl, sym, ap, ◌∙◌, subst, arith}
 use Rattle.std.specs.Prelude.{Contains, IfSome, if◌then◌else◌, is_some, slice_get}
 use Rattle.std.specs.Int.{cast_unsigned, w64}
 use Rattle.b3_base.specs.Arithmetic.{low}
@@ -41,7 +41,6 @@ use Rattle.air_ir.specs.Forms.{is_offset}
 use Rattle.air_ir.specs.Kinds.{Kind, Loads, Stores, extent_bytes, kind_of}
 use Rattle.air_ir.specs.Meaning as air
 use Rattle.air_ir.specs.Meaning.{Over, World, effect_of, gives, gives_word, meaning}
-use Rattle.air_ir.specs.Operands as operands
 use Rattle.air_ir.specs.Operands.{read, word_of, words}
 use Rattle.air_ir.specs.Steps.{Goes, State, step, steps}
 use Rattle.air_ir.specs.declared.op.AirOp.{AirOp}
@@ -51,18 +50,21 @@ use Rattle.air_ir.specs.declared.operand.Arg.TheVariants.{Addr, At, FrameSlot, I
 use Rattle.air_ir.specs.declared.operand.Home.{Home}
 use Rattle.air_ir.specs.declared.procedure.AirInst.{AirInst}
 use Rattle.air_ir.proofs.Stepping.{steps-one}
-use Rattle.air_fold.specs.Foldable.{condition_fits, constant_fits, first_immediates, is_immediate, second_immediates}
-use Rattle.air_fold.specs.Values.{child, place, width_at}
+use Rattle.air_fold.specs.Foldable.{pointers, value_fits}
+use Rattle.air_fold.specs.Values.{child, known, offset_in, place, width_at}
+use Rattle.air_fold.specs.declared.known.Known.{Known}
 use Rattle.air_select.specs.Selected as code
-use Rattle.air_select.specs.Selected.{Tables, address_of, arg_of, before_access, def_at, far_sum, folds, frame_of, inst, load_of, move, offset_in, result_of, slot_in, slot_of, store_of, use_at, use_of}
+use Rattle.air_select.specs.Selected.{Tables, address_of, arg_of, before_access, def_at, far_sum, folds, frame_of, inst, load_of, move, result_of, slot_in, slot_of, store_of, use_at, use_of, home_address, sum_address}
 use Rattle.air_select.specs.Temporaries.{first_extra, home, second_extra}
-use Rattle.air_select.proofs.Children.{unfolded, width_is}
+use Rattle.air_select.proofs.Addresses.{of_address, sum_word}
+use Rattle.air_select.proofs.Children.{child_word, readable, width_is}
 use Rattle.air_select.proofs.Copied.{moved, row_of_role}
-use Rattle.air_select.proofs.Does.{Does, Here, allows, are_words, below_is, gives_does, here, named, puts, words_here}
+use Rattle.air_select.proofs.Does.{Does, Here, allows, are_words, at, below_is, gives_does, here, named, puts, words_here}
+use Rattle.air_select.proofs.Facts.{child_ran}
 use Rattle.air_select.proofs.Instructions.{at_home, of_immediate, one_end, one_quiet, one_word, reads_def, reads_none, reads_use, steps_first, steps_last, with_home, writes_def, writes_none, writes_use}
-use Rattle.air_select.proofs.Plain.{computing, has_condition, no_condition}
+use Rattle.air_select.proofs.Plain.{computing}
+use Rattle.air_select.proofs.Pointers.{PointerAt}
 use Rattle.air_select.proofs.Related.{Related, extra_related, holds_word, put_here}
-use Rattle.air_select.proofs.Remainders.{child_in}
 use Rattle.air_select.proofs.Rotations.{reads_two, writes_two}
 use Rattle.air_select.proofs.Shapes.{one_child, one_here, two_children, two_here}
 use Rattle.air_select.proofs.Sites.{All-slice}
@@ -103,11 +105,6 @@ no_offset x lt = omega arith
 pub of_slot : (s : State) (width : Width) (number : ℕ) → word_of s.homes width (FrameSlot number) ≡ Some number
 unfolding word_of
 of_slot s width number = refl
-
-pub of_address : (s : State) (width : Width) (base : Home) (offset : ℤ) (word : ℕ) → read W64 (s.homes base) ≡ Some word
-    → word_of s.homes width (Addr base offset) ≡ Some (offset_address word offset)
-unfolding word_of
-of_address s width base offset word e = ap (operands.moved offset) e
 
 module _ (p : Procedure) (t : Tables) (start : Start) (v : Value) (h : Here p t start v) (junk : List ℕ) where
   -- ---- slots and the frame pointer
@@ -167,16 +164,19 @@ module _ (p : Procedure) (t : Tables) (start : Start) (v : Value) (h : Here p t 
     pub related : Related p t start h.st s
     pub reads : (width : Width) → word_of s.homes width at ≡ Some address
 
-  module _ (o : Opcode) (eo : v.kind.opcode ≡ o) (plain : has_condition o ≡ false) (no_phi : o ≡ opcode.Phi → ⊥)
-      (i pointer word : ℕ) (there : slice_get v.children i ≡ Some pointer) (has : Contains v.children pointer)
-      (now : h.st.words pointer ≡ Some word) (typed : type_of p pointer ≡ Int64) (unfolded : folds t pointer ≡ false) where
+  module _ (no_phi : v.kind.opcode ≡ opcode.Phi → ⊥) (pointer word : ℕ) (now : h.st.words pointer ≡ Some word) (typed : type_of p pointer ≡ Int64)
+      (unfolded : folds t pointer ≡ false) where
     pointer_width : width_at t.index pointer ≡ W64
-    pointer_width =
-        width_is p h.valid t h.sound start h.passed h.block h.before (v ∷ h.rest) h.stands h.st h.reached h.s h.related pointer
-        ∙ ap width_of typed
+    pointer_width = ap width_of (h.sound.types pointer ∙ typed)
 
     pointer_reads : (s : State) → Related p t start h.st s → read W64 (s.homes (home t.index pointer)) ≡ Some word
     pointer_reads s r = ap (λ (k : Width). read k (s.homes (home t.index pointer))) (sym pointer_width) ∙ r.words pointer word now unfolded
+
+    -- it is read at its width
+    pointer_word : (s : State) → Related p t start h.st s → word_of s.homes (width_at t.index pointer) (arg_of t pointer) ≡ Some word
+    pointer_word s r =
+        subst (λ (f : Bool). word_of s.homes (width_at t.index pointer) (if f then Imm (known t.index pointer).word else At (home t.index pointer)) ≡ Some word)
+        (sym unfolded) (at_home s.homes (width_at t.index pointer) (home t.index pointer) word (r.words pointer word now unfolded))
 
     abbrev offset : ℤ
     offset = offset_in v.body
@@ -200,15 +200,14 @@ module _ (p : Procedure) (t : Tables) (start : Start) (v : Value) (h : Here p t 
         let add : AirInst = inst v op.Add (use_of t pointer ∷ use_at W64 (At first) ∷ def_at W64 second ∷ []) in
         let s1 = with_home h.s first W64 (low W64 k) in
         let s2 = with_home s1 second W64 all in
-        let phi : v.kind.opcode ≡ opcode.Phi → ⊥ = λ e. no_phi (sym eo ∙ e) in
-        let r1 : Related p t start h.st s1 = extra_related p t h.sound start h.st h.s h.related v.id v (named p t start v h) 1 _ (omega arith) (omega arith) phi in
-        let r2 : Related p t start h.st s2 = extra_related p t h.sound start h.st s1 r1 v.id v (named p t start v h) 2 _ (omega arith) (omega arith) phi in
+        let r1 : Related p t start h.st s1 = extra_related p t h.sound start h.st h.s h.related v.id v (named p t start v h) 1 _ (omega arith) (omega arith) no_phi in
+        let r2 : Related p t start h.st s2 = extra_related p t h.sound start h.st s1 r1 v.id v (named p t start v h) 2 _ (omega arith) (omega arith) no_phi in
         let put_step : step (meaning start) put h.s junk ≡ (Goes None s1, junk) =
         sym (steps-one (meaning start) put h.s junk) ∙ moved p t start v h h.s junk W64 (Imm k) first (low W64 k) (of_immediate h.s.homes W64 k) in
         let add_step : step (meaning start) add s1 junk ≡ (Goes None s2, junk) =
         one_word start add s1 junk ((x, word) ∷ (W64, low W64 k) ∷ []) second W64 all
         (reads_two p t start v h junk s1 x W64 (arg_of t pointer) (At first) word (low W64 k) W64 second
-        (child_in p t start v h junk s1 r1 o eo plain i pointer word there has now)
+        (pointer_word s1 r1)
         (at_home s1.homes W64 first (low W64 k) (ap (read W64) (put_here h.s.homes (3 * place t.index v.id + 1) _) ∙ holds_word W64 (low W64 k) (low_small k))))
         (computing p t start v h op.Add v.id ((x, word) ∷ (W64, low W64 k) ∷ []) s1.world all refl
         (ap (λ (w : Width). Some (sum w word (low W64 k))) pointer_width ∙ ap Some (sum_is word k)))
@@ -223,8 +222,9 @@ module _ (p : Procedure) (t : Tables) (start : Start) (v : Value) (h : Here p t 
               ∙ ap Some (no_offset all (sum_small word k));
         }
 
-    pub points : (bytes : ℕ) → Points (before_access t v pointer bytes) (address_of t v pointer bytes) (offset_address word (offset_in v.body))
-    points bytes = by (is_offset bytes (offset_in v.body))
+    home_points : (bytes : ℕ) → Points (if is_offset bytes (offset_in v.body) then [] else far_sum t v pointer) (home_address t v pointer bytes)
+        (offset_address word (offset_in v.body))
+    home_points bytes = by (is_offset bytes (offset_in v.body))
       where
         by : (near : Bool)
             → Points (if near then [] else far_sum t v pointer)
@@ -232,6 +232,23 @@ module _ (p : Procedure) (t : Tables) (start : Start) (v : Value) (h : Here p t 
             (offset_address word (offset_in v.body))
         by true = near_points
         by false = far_points
+
+  -- the address of an access, in its home or a sum
+  points : (o : Opcode) (eo : v.kind.opcode ≡ o) (no_phi : o ≡ opcode.Phi → ⊥) (i bytes : ℕ) → PointerAt p t v o i bytes → (pointer word : ℕ)
+      → slice_get v.children i ≡ Some pointer → Contains v.children pointer → h.st.words pointer ≡ Some word → type_of p pointer ≡ Int64
+      → Points (before_access t v pointer bytes) (address_of t v pointer bytes) (offset_address word (offset_in v.body))
+  points o eo no_phi i bytes pointed pointer word there has now typed = by (folds t pointer) refl
+    where
+      by : (f : Bool) → folds t pointer ≡ f
+          → Points (if f || is_offset bytes (offset_in v.body) then [] else far_sum t v pointer)
+          (if f then sum_address t v (known t.index pointer) else home_address t v pointer bytes) (offset_address word (offset_in v.body))
+      by false un = home_points (λ e. no_phi (sym eo ∙ e)) pointer word now typed un bytes
+      by true gone = record {
+        s = h.s;
+        runs = λ is. refl;
+        related = h.related;
+        reads = sum_word p t start v h o eo i bytes pointed pointer word there has now typed gone;
+      }
 
   -- ---- what an access does, in a related state
 
@@ -378,20 +395,21 @@ module _ (p : Procedure) (t : Tables) (start : Start) (v : Value) (h : Here p t 
   offset_is (Offset bytes) is = refl
   offset_is _ is = absurd is
 
-  -- a pointer stands in its home
-  pointer_unfolded : (o : Opcode) → v.kind.opcode ≡ o → has_condition o ≡ false → (i pointer : ℕ) → slice_get v.children i ≡ Some pointer
-      → ((width : Width) (word : ℕ) → constant_fits o i width word ≡ false) → folds t pointer ≡ false
-  pointer_unfolded o eo plain i pointer there never =
-      unfolded p h.valid t h.sound start h.block v (here p t start v h) i pointer there
-      (λ k. ap (λ (q : Opcode). condition_fits t.index q i k) eo ∙ no_condition t.index o i k plain)
-      (λ width word. ap (λ (q : Opcode). constant_fits q i width word) eo ∙ never width word)
+  -- the word that is stored
+  stored_word : (o : Opcode) → v.kind.opcode ≡ o → ((k : Known) → value_fits t.index (pointers p) o 0 v.id k ≡ false)
+      → (s : State) → Related p t start h.st s → (c w : ℕ) → slice_get v.children 0 ≡ Some c → Contains v.children c → h.st.words c ≡ Some w
+      → word_of s.homes (width_at t.index c) (arg_of t c) ≡ Some w
+  stored_word o eo none s r c w there has now =
+      child_word p h.valid t h.sound start h.passed h.block h.before (v ∷ h.rest) h.stands h.st h.reached s r c w
+      (child_ran p h.valid h.passed h.block h.before h.st h.reached v (at p t start v h) c has)
+      (readable p h.valid t h.sound start h.block v (here p t start v h) 0 c there
+      (λ k. ap (λ (q : Opcode). value_fits t.index (pointers p) q 0 v.id k) eo ∙ none k)) now
 
   pub load_does : (o : Opcode) (air_op : AirOp) (extent : Extent) (extends : Bool) → v.kind.opcode ≡ o → roles.role_of o ≡ role.Load extent extends
-      → kind_of air_op ≡ Loads extent extends → has_condition o ≡ false → (o ≡ opcode.Phi → ⊥)
-      → ((width : Width) (word : ℕ) → constant_fits o 0 width word ≡ false)
+      → kind_of air_op ≡ Loads extent extends → (o ≡ opcode.Phi → ⊥) → PointerAt p t v o 0 (extent_bytes extent (width_of v.ty))
       → ((ty : Ty) (types : List Ty) (a : AllowsTypes o ty types) → AreTaken a.alike (This Int64 ∷ []) NoMore types)
       → Does p t start v junk (b3.loads start h.st v extent extends v.body (words_here p t start v h)) (steps (meaning start) (load_of t v air_op extent) h.s junk)
-  load_does o air_op extent extends eo is kind plain no_phi never takes =
+  load_does o air_op extent extends eo is kind no_phi pointed takes =
       let ws = words_here p t start v h in
       let row : IsRow (role.Load extent extends) v.ty (types_of p v) v.body =
       subst (λ (r : Role). IsRow r v.ty (types_of p v) v.body) is (row_of_role p t start v h o eo) in
@@ -403,8 +421,7 @@ module _ (p : Procedure) (t : Tables) (start : Start) (v : Value) (h : Here p t 
       let bytes = extent_bytes extent width in
       let offset = offset_in v.body in
       let at = address_of t v pointer bytes in
-      let gone = pointer_unfolded o eo plain 0 pointer one.x_at never in
-      let pts = points o eo plain no_phi 0 pointer one.wx one.x_at one.x_in one.x_now one.x_taken gone bytes in
+      let pts = points o eo no_phi 0 bytes pointed pointer one.wx one.x_at one.x_in one.x_now one.x_taken in
       let last : AirInst = code.access v air_op (use_at width at ∷ result_of t v ∷ []) in
       let address = offset_address one.wx offset in
       subst (λ (b : Body). Does p t start v junk (b3.loads start h.st v extent extends b ws) (steps (meaning start) (load_of t v air_op extent) h.s junk))
@@ -417,12 +434,12 @@ module _ (p : Procedure) (t : Tables) (start : Start) (v : Value) (h : Here p t 
       (access start h.st.memory address (roles.extent_bytes extent v.ty) v.kind.traps) refl)))
 
   pub store_does : (o : Opcode) (air_op : AirOp) (extent : Extent) (value : Takes) → v.kind.opcode ≡ o → roles.role_of o ≡ role.Store extent
-      → kind_of air_op ≡ Stores extent → has_condition o ≡ false → (o ≡ opcode.Phi → ⊥)
-      → ((width : Width) (word : ℕ) → constant_fits o 1 width word ≡ false)
+      → kind_of air_op ≡ Stores extent → (o ≡ opcode.Phi → ⊥) → ((k : Known) → value_fits t.index (pointers p) o 0 v.id k ≡ false)
+      → PointerAt p t v o 1 (extent_bytes extent (width_at t.index (child v.children 0)))
       → ((ty : Ty) (types : List Ty) (a : AllowsTypes o ty types) → AreTaken a.alike (value ∷ This Int64 ∷ []) NoMore types)
       → Does p t start v junk (b3.stores start h.st v extent v.body (types_of p v) (words_here p t start v h))
       (steps (meaning start) (store_of t v air_op extent) h.s junk)
-  store_does o air_op extent value eo is kind plain no_phi never takes =
+  store_does o air_op extent value eo is kind no_phi none pointed takes =
       let ws = words_here p t start v h in
       let row : IsRow (role.Store extent) v.ty (types_of p v) v.body =
       subst (λ (r : Role). IsRow r v.ty (types_of p v) v.body) is (row_of_role p t start v h o eo) in
@@ -437,8 +454,7 @@ module _ (p : Procedure) (t : Tables) (start : Start) (v : Value) (h : Here p t 
       let bytes = extent_bytes extent width in
       let offset = offset_in v.body in
       let at = address_of t v pointer bytes in
-      let gone = pointer_unfolded o eo plain 1 pointer two.y_at never in
-      let pts = points o eo plain no_phi 1 pointer two.wy two.y_at two.y_in two.y_now two.y_taken gone bytes in
+      let pts = points o eo no_phi 1 bytes pointed pointer two.wy two.y_at two.y_in two.y_now two.y_taken in
       let width_typed : width ≡ width_of ty =
       width_is p h.valid t h.sound start h.passed h.block h.before (v ∷ h.rest) h.stands h.st h.reached h.s h.related from in
       let last : AirInst = code.access v air_op (use_of t from ∷ use_at width at ∷ []) in
@@ -455,5 +471,5 @@ module _ (p : Procedure) (t : Tables) (start : Start) (v : Value) (h : Here p t 
       (subst (Does p t start v junk (b3.stores start h.st v extent (Offset offset) (ty ∷ type_of p shape.y ∷ []) (two.wx ∷ two.wy ∷ [])))
       (sym (pts.runs (last ∷ [])))
       (store_by air_op extent at address pts.s pts.related ty kind width width_typed (arg_of t from) two.wx
-      (child_in p t start v h junk pts.s pts.related o eo plain 0 from two.wx two.x_at two.x_in two.x_now) (pts.reads width)
+      (stored_word o eo none pts.s pts.related from two.wx two.x_at two.x_in two.x_now) (pts.reads width)
       (access start h.st.memory address (roles.extent_bytes extent ty) v.kind.traps) refl))))

@@ -1,4 +1,5 @@
 pub mod Accesses
+pub mod Addresses
 pub mod Beginning
 pub mod Children
 pub mod Coded
@@ -20,6 +21,7 @@ pub mod Operands
 pub mod OneSite
 pub mod Pieces
 pub mod Plain
+pub mod Pointers
 pub mod Related
 pub mod Remainders
 pub mod Rests

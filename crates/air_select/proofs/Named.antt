@@ -1,5 +1,5 @@
 -- The operands of what is selected name temporaries of the procedure, and registers that values may stand in.
-use Rattle.std.proofs.Common.{◌≡◌, ℕ, pos, zero, suc, ◌+◌, ◌*◌, ◌<◌, ◌≤◌, inl, Bool, true, false, List, [], ◌∷◌, ◌++◌, map, length, refl, arith}
+use Rattle.std.proofs.Common.{◌≡◌, ℕ, pos, zero, suc, ◌+◌, ◌*◌, ◌<◌, ◌≤◌, inl, Bool, true, false, ◌||◌, List, [], ◌∷◌, ◌++◌, map, length, refl, arith}
 use Rattle.std.specs.Prelude.{All, ◌==◌, if◌then◌else◌}
 use Rattle.std.specs.Int.{cast_unsigned, w64}
 use Rattle.std.proofs.lemmas.List.Elements.{All-append, All-cons, All-map, All-nil}
@@ -19,16 +19,17 @@ use Rattle.air_ir.specs.declared.op.AirOp.{AirOp}
 use Rattle.air_ir.specs.declared.op.AirOp.TheVariants as op
 use Rattle.air_ir.specs.declared.op.Test.TheVariants.{Bit, Compare, NonZero}
 use Rattle.air_ir.specs.declared.operand.Arg.{Arg}
-use Rattle.air_ir.specs.declared.operand.Arg.TheVariants.{Addr, At, FrameSlot, Imm}
+use Rattle.air_ir.specs.declared.operand.Arg.TheVariants.{Addr, At, FrameSlot, Imm, Index as Indexed}
 use Rattle.air_ir.specs.declared.operand.Home.TheVariants.{Tmp}
 use Rattle.air_ir.specs.declared.operand.Operand.{Operand}
 use Rattle.air_ir.specs.declared.procedure.AirInst.{AirInst}
 use Rattle.air_ir.specs.declared.procedure.AirProc.{AirProc}
 use Rattle.air_ir.specs.WellFormed.{NamesOwn}
-use Rattle.air_fold.specs.Foldable.{bit_of, is_comparison}
-use Rattle.air_select.specs.Selected.{Condition, Tables, access, address_of, arg_of, argument_move, argument_moves, before_access, cases_in, chosen_rest, code_of, computes, condition, condition_of, def_at, entry_of, far_sum, folded_condition, folds, frame_of, inst, last_id, load_of, names_argument, negative_amount, offset_in, op_of, phi_in, quotient_of, register, register_in, rest_into, result_of, return_of, rotate_by, select_on, slot_in, slot_of, store_of, turned, use_at, use_of, value_code}
+use Rattle.air_fold.specs.Foldable.{bit_of, is_comparison, is_constant, whole}
+use Rattle.air_fold.specs.declared.known.Known.{Known}
+use Rattle.air_select.specs.Selected.{Condition, Tables, access, address_of, arg_of, argument_move, argument_moves, before_access, cases_in, chosen_rest, code_of, computes, condition, condition_of, def_at, entry_of, far_sum, folded_condition, folds, frame_of, home_address, indexed_by, inst, last_id, load_of, names_argument, negative_amount, op_of, phi_in, quotient_of, register, register_in, rest_into, result_of, return_of, rotate_by, select_on, slot_in, slot_of, store_of, sum_address, turned, use_at, use_of, value_code}
 use Rattle.air_select.specs.Temporaries.{argument, first_extra, home, second_extra, tmp_count}
-use Rattle.air_fold.specs.Values.{child, known, place, width_at}
+use Rattle.air_fold.specs.Values.{child, known, offset_in, place, width_at}
 use Rattle.air_select.proofs.Sites.{all_of, all_one, all_three, all_two}
 
 place_most : (ids : List ℕ) (id : ℕ) → place_among ids id ≤ length ids
@@ -177,16 +178,25 @@ module _ (q : AirProc) (t : Tables) (tmps : q.tmps ≡ tmp_count t.index) where
         let second = second_extra t.index v.id in
         let put : AirInst = inst v op.Move (use_at W64 k ∷ def_at W64 first ∷ []) in
         let add : AirInst = inst v op.Add (use_of t pointer ∷ use_at W64 (At first) ∷ def_at W64 second ∷ []) in
-        pick (All IsOwnInst) (is_offset bytes (offset_in v.body)) [] (far_sum t v pointer) (All-nil IsOwnInst)
+        pick (All IsOwnInst) (folds t pointer || is_offset bytes (offset_in v.body)) [] (far_sum t v pointer) (All-nil IsOwnInst)
         (all_two IsOwnInst put add
         (all_two IsOwn (use_at W64 k) (def_at W64 first) tt (below v.id 1 (omega arith)))
         (all_three IsOwn (use_of t pointer) (use_at W64 (At first)) (def_at W64 second) (use_own pointer) (below v.id 1 (omega arith))
         (below v.id 2 (omega arith))))
 
+    sum_own : (k : Known) → NamesOwn q Use (sum_address t v k)
+    sum_own k =
+        let second = known t.index k.second in
+        pick (NamesOwn q Use) (is_constant second.opcode) (Addr (home t.index k.first) (whole second.word (offset_in v.body)))
+        (indexed_by t (home t.index k.first) k.second second) (home_below k.first)
+        (pick (NamesOwn q Use) (folds t k.second) (Indexed (home t.index k.first) (home t.index second.first) 3)
+        (Indexed (home t.index k.first) (home t.index k.second) 0) (home_below k.first, home_below second.first) (home_below k.first, home_below k.second))
+
     address_own : (width : Width) (pointer bytes : ℕ) → IsOwn (use_at width (address_of t v pointer bytes))
     address_own width pointer bytes =
-        pick (NamesOwn q Use) (is_offset bytes (offset_in v.body)) (Addr (home t.index pointer) (offset_in v.body)) (Addr (second_extra t.index v.id) (pos 0))
-        (home_below pointer) (below v.id 2 (omega arith))
+        pick (NamesOwn q Use) (folds t pointer) (sum_address t v (known t.index pointer)) (home_address t v pointer bytes) (sum_own (known t.index pointer))
+        (pick (NamesOwn q Use) (is_offset bytes (offset_in v.body)) (Addr (home t.index pointer) (offset_in v.body)) (Addr (second_extra t.index v.id) (pos 0))
+        (home_below pointer) (below v.id 2 (omega arith)))
 
     load_own : (air_op : AirOp) (extent : Extent) → All IsOwnInst (load_of t v air_op extent)
     load_own air_op extent =

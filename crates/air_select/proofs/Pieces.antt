@@ -1,5 +1,5 @@
 -- The pieces of a list that is made of those of each item, and which value an instruction is made for.
-use Rattle.std.proofs.Common.{◌≡◌, ℕ, zero, suc, ◌+◌, ◌-◌, ◌<◌, inl, inr, Bool, true, false, List, [], ◌∷◌, ◌++◌, Some, length, take, refl, sym, ap, ◌∙◌, subst, arith, length-append}
+use Rattle.std.proofs.Common.{◌≡◌, ℕ, zero, suc, ◌+◌, ◌-◌, ◌<◌, inl, inr, Bool, true, false, ◌||◌, List, [], ◌∷◌, ◌++◌, Some, length, take, refl, sym, ap, ◌∙◌, subst, arith, length-append}
 use Rattle.std.specs.Prelude.{All, if◌then◌else◌, slice_get}
 use Rattle.std.specs.List.{flat_map}
 use Rattle.std.proofs.lemmas.Bool.{cases_lt}
@@ -15,9 +15,9 @@ use Rattle.air_ir.specs.Kinds.{extent_bytes}
 use Rattle.air_ir.specs.declared.op.AirOp.{AirOp}
 use Rattle.air_ir.specs.declared.op.AirOp.TheVariants as op
 use Rattle.air_ir.specs.declared.procedure.AirInst.{AirInst}
-use Rattle.air_fold.specs.Values.{Index, child, width_at}
+use Rattle.air_fold.specs.Values.{Index, child, offset_in, width_at}
 use Rattle.air_fold.proofs.Places.{get_behind, get_front, get_within}
-use Rattle.air_select.specs.Selected.{Tables, argument_move, argument_moves, before_access, code_of, entry_of, far_sum, folds, last_id, load_of, names_argument, offset_in, return_of, store_of, value_code}
+use Rattle.air_select.specs.Selected.{Tables, argument_move, argument_moves, before_access, code_of, entry_of, far_sum, folds, last_id, load_of, names_argument, return_of, store_of, value_code}
 use Rattle.air_select.proofs.Sites.{all_one, all_three, all_two}
 
 -- ---- pieces of a list
@@ -78,7 +78,7 @@ module _ (t : Tables) (v : Value) where
 
   before_for : (pointer bytes : ℕ) → All (IsFor v.id) (before_access t v pointer bytes)
   before_for pointer bytes =
-      either_for (is_offset bytes (offset_in v.body)) [] (far_sum t v pointer) (All-nil (IsFor v.id)) (all_two (IsFor v.id) _ _ refl refl)
+      either_for (folds t pointer || is_offset bytes (offset_in v.body)) [] (far_sum t v pointer) (All-nil (IsFor v.id)) (all_two (IsFor v.id) _ _ refl refl)
 
   load_for : (air_op : AirOp) (extent : Extent) → All (IsFor v.id) (load_of t v air_op extent)
   load_for air_op extent =

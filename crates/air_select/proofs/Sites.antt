@@ -1,6 +1,6 @@
 -- What holds of each instruction that is selected: its op is one that is selected, of arithmetic where its opcode is, and it
 -- names no spill place.
-use Rattle.std.proofs.Common.{◌≡◌, pos, ◌+◌, ℕ, zero, suc, Bool, true, false, List, [], ◌∷◌, ◌++◌, map, refl, sym, ap, ◌∙◌, ◌*◌, Some, subst}
+use Rattle.std.proofs.Common.{◌≡◌, pos, ◌+◌, ℕ, zero, suc, Bool, true, false, ◌||◌, List, [], ◌∷◌, ◌++◌, map, refl, sym, ap, ◌∙◌, ◌*◌, Some, subst}
 use Rattle.std.specs.Prelude.{All, if◌then◌else◌, slice_get}
 use Rattle.std.proofs.lemmas.Option.{get_or_from_slice_get, slice_get_within}
 use Rattle.std.specs.List.{flat_map}
@@ -22,16 +22,17 @@ use Rattle.air_ir.specs.declared.op.AirOp.{AirOp}
 use Rattle.air_ir.specs.declared.op.AirOp.TheVariants as op
 use Rattle.air_ir.specs.declared.op.Test.TheVariants.{Bit, Compare, NonZero}
 use Rattle.air_ir.specs.declared.operand.Arg.{Arg}
-use Rattle.air_ir.specs.declared.operand.Arg.TheVariants.{Addr, At, FrameSlot, Imm}
+use Rattle.air_ir.specs.declared.operand.Arg.TheVariants.{Addr, At, FrameSlot, Imm, Index as Indexed}
 use Rattle.air_ir.specs.declared.operand.Home.TheVariants.{Tmp}
 use Rattle.air_ir.specs.declared.operand.Operand.{Operand}
 use Rattle.air_ir.specs.declared.procedure.AirBlock.{AirBlock}
 use Rattle.air_ir.specs.declared.procedure.AirInst.{AirInst}
 use Rattle.air_select.specs.Contract.{HasArithmeticAlone, IsArithmetic, IsSelected, is_arithmetic, is_arithmetic_kind, is_arithmetic_opcode, is_selected, is_selected_kind}
-use Rattle.air_fold.specs.Foldable.{bit_of, is_comparison}
-use Rattle.air_select.specs.Selected.{Condition, Tables, address_of, arg_of, argument_move, argument_moves, before_access, block_code, cases_in, chosen_rest, code_of, computes, condition, condition_of, copy_of, def_at, entry_of, far_sum, folded_condition, folds, inst, last_id, load_of, move, names_argument, negative_amount, offset_in, op_of, quotient_of, register, rest_into, result_of, return_of, rotate_by, select_on, selected, selected_by, slot_in, store_of, tables, turned, use_at, use_of, value_code}
+use Rattle.air_fold.specs.Foldable.{bit_of, is_comparison, is_constant, whole}
+use Rattle.air_fold.specs.declared.known.Known.{Known}
+use Rattle.air_select.specs.Selected.{Condition, Tables, address_of, arg_of, argument_move, argument_moves, before_access, block_code, cases_in, chosen_rest, code_of, computes, condition, condition_of, copy_of, def_at, entry_of, far_sum, folded_condition, folds, home_address, indexed_by, inst, last_id, load_of, move, names_argument, negative_amount, op_of, quotient_of, register, rest_into, result_of, return_of, rotate_by, select_on, selected, selected_by, slot_in, store_of, sum_address, tables, turned, use_at, use_of, value_code}
 use Rattle.air_select.specs.Temporaries.{first_extra, home, second_extra}
-use Rattle.air_fold.specs.Values.{Index, child, known, place, width_at}
+use Rattle.air_fold.specs.Values.{Index, child, known, offset_in, place, width_at}
 
 -- ---- lists
 pub all_flat : {X Y : Type 0} (P : Y → Type 0) (f : X → List Y) → ((x : X) → All P (f x)) → (xs : List X) → All P (flat_map f xs)
@@ -322,15 +323,25 @@ module _ (t : Tables) (v : Value) where
 
   pub before_plain : (pointer bytes : ℕ) → All IsPlain (before_access t v pointer bytes)
   before_plain pointer bytes =
-      pick (All IsPlain) (is_offset bytes (offset_in v.body)) [] (far_sum t v pointer) (All-nil IsPlain)
+      pick (All IsPlain) (folds t pointer || is_offset bytes (offset_in v.body)) [] (far_sum t v pointer) (All-nil IsPlain)
       (all_two IsPlain _ _
       (one v.id op.Move _ refl (low_two (use_at W64 (Imm _)) (def_at W64 (first_extra t.index v.id)) tt tt))
       (one v.id op.Add _ refl (low_three (use_of t pointer) (use_at W64 (At (first_extra t.index v.id))) (def_at W64 (second_extra t.index v.id))
       (use_low t pointer) tt tt)))
 
+  sum_low : (k : Known) → SpillsBelow 0 (sum_address t v k)
+  sum_low k =
+      let second = known t.index k.second in
+      pick (SpillsBelow 0) (is_constant second.opcode) (Addr (home t.index k.first) (whole second.word (offset_in v.body)))
+      (indexed_by t (home t.index k.first) k.second second) tt
+      (pick (SpillsBelow 0) (folds t k.second) (Indexed (home t.index k.first) (home t.index second.first) 3)
+      (Indexed (home t.index k.first) (home t.index k.second) 0) (tt, tt) (tt, tt))
+
   address_low : (width : Width) (pointer bytes : ℕ) → IsLow (use_at width (address_of t v pointer bytes))
   address_low width pointer bytes =
-      pick (SpillsBelow 0) (is_offset bytes (offset_in v.body)) (Addr (home t.index pointer) (offset_in v.body)) (Addr (second_extra t.index v.id) (pos 0)) tt tt
+      pick (SpillsBelow 0) (folds t pointer) (sum_address t v (known t.index pointer)) (home_address t v pointer bytes) (sum_low (known t.index pointer))
+      (pick (SpillsBelow 0) (is_offset bytes (offset_in v.body)) (Addr (home t.index pointer) (offset_in v.body)) (Addr (second_extra t.index v.id) (pos 0))
+      tt tt)
 
   load_fine : (air_op : AirOp) (extent : Extent) → is_selected air_op ≡ true → All IsFine (load_of t v air_op extent)
   load_fine air_op extent is =

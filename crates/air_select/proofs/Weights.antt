@@ -1,5 +1,5 @@
 -- What is selected weighs little: a value's instructions at most 120, and 32 for each child and case.
-use Rattle.std.proofs.Common.{◌≡◌, ℕ, pos, zero, suc, ◌+◌, ◌*◌, ◌≤◌, Bool, true, false, List, [], ◌∷◌, ◌++◌, map, length, refl, ap, arith, length-append}
+use Rattle.std.proofs.Common.{◌≡◌, ℕ, pos, zero, suc, ◌+◌, ◌*◌, ◌≤◌, Bool, true, false, ◌||◌, List, [], ◌∷◌, ◌++◌, map, length, refl, ap, arith, length-append}
 use Rattle.std.specs.Prelude.{All, if◌then◌else◌, sum_by}
 use Rattle.std.specs.Int.{cast_unsigned, w64}
 use Rattle.std.specs.List.{flat_map}
@@ -26,17 +26,18 @@ use Rattle.air_ir.specs.declared.op.AirOp.{AirOp}
 use Rattle.air_ir.specs.declared.op.AirOp.TheVariants as op
 use Rattle.air_ir.specs.declared.op.Test.TheVariants.{Bit, Compare, NonZero}
 use Rattle.air_ir.specs.declared.operand.Arg.{Arg}
-use Rattle.air_ir.specs.declared.operand.Arg.TheVariants.{Addr, At, FrameSlot, Imm}
+use Rattle.air_ir.specs.declared.operand.Arg.TheVariants.{Addr, At, FrameSlot, Imm, Index as Indexed}
 use Rattle.air_ir.specs.declared.operand.Home.{Home}
 use Rattle.air_ir.specs.declared.operand.Home.TheVariants.{Tmp}
 use Rattle.air_ir.specs.declared.operand.Operand.{Operand}
 use Rattle.air_ir.specs.declared.procedure.AirBlock.{AirBlock}
 use Rattle.air_ir.specs.declared.procedure.AirInst.{AirInst}
 use Rattle.air_select.specs.Contract.{IsFew, IsWithinLimits, case_count, child_count}
-use Rattle.air_fold.specs.Foldable.{bit_of, is_comparison}
-use Rattle.air_select.specs.Selected.{Condition, Tables, access, address_of, arg_of, argument_move, argument_moves, before_access, block_code, cases_in, chosen_rest, code_of, computes, condition, condition_of, copy_of, def_at, entry_of, far_sum, folded_condition, folds, frame_of, inst, last_id, load_of, move, names_argument, negative_amount, offset_in, op_of, phi_in, quotient_of, register, register_in, rest_into, result_of, return_of, rotate_by, select_on, selected, selected_by, slot_in, slot_of, store_of, tables, turned, use_at, use_of, value_code}
+use Rattle.air_fold.specs.Foldable.{bit_of, is_comparison, is_constant, whole}
+use Rattle.air_fold.specs.declared.known.Known.{Known}
+use Rattle.air_select.specs.Selected.{Condition, Tables, access, address_of, arg_of, argument_move, argument_moves, before_access, block_code, cases_in, chosen_rest, code_of, computes, condition, condition_of, copy_of, def_at, entry_of, far_sum, folded_condition, folds, frame_of, home_address, indexed_by, inst, last_id, load_of, move, names_argument, negative_amount, op_of, phi_in, quotient_of, register, register_in, rest_into, result_of, return_of, rotate_by, select_on, selected, selected_by, slot_in, slot_of, store_of, sum_address, tables, turned, use_at, use_of, value_code}
 use Rattle.air_select.specs.Temporaries.{argument, first_extra, home, location, second_extra}
-use Rattle.air_fold.specs.Values.{Index, child, known, place, width_at, word_in}
+use Rattle.air_fold.specs.Values.{Index, child, known, offset_in, place, width_at, word_in}
 use Rattle.air_select.proofs.Sites.{all_of, all_one, all_three, all_two}
 
 -- ---- operands
@@ -274,31 +275,44 @@ module _ (t : Tables) (v : Value) where
       let first = first_extra t.index v.id in
       let second = second_extra t.index v.id in
       let add : AirInst = inst v op.Add (use_of t pointer ∷ use_at W64 (At first) ∷ def_at W64 second ∷ []) in
-      pick (λ (is : List AirInst). sum_by inst_weight is ≤ 19) (is_offset bytes (offset_in v.body)) [] (far_sum t v pointer) (omega arith)
+      pick (λ (is : List AirInst). sum_by inst_weight is ≤ 19) (folds t pointer || is_offset bytes (offset_in v.body)) [] (far_sum t v pointer) (omega arith)
       (two_weights (move v W64 k first) add 8 11 (move_light W64 k first (omega arith) (omega arith)) (omega (
         arith,
         weigh v.id op.Add add.operands refl
             (all_three IsShort (use_of t pointer) (use_at W64 (At first)) (def_at W64 second) (use_short t pointer) (omega arith) (omega arith)),
       )))
 
-  address_short : (width : Width) (pointer bytes : ℕ) → IsShort (use_at width (address_of t v pointer bytes))
-  address_short width pointer bytes =
-      pick (λ (a : Arg). arg_words a ≤ 3) (is_offset bytes (offset_in v.body)) (Addr (home t.index pointer) (offset_in v.body))
-      (Addr (second_extra t.index v.id) (pos 0)) (omega arith) (omega arith)
+  -- an address takes at most four words beside the op's own: those of a base and an index
+  index_short : (base id : ℕ) (second : Known) → arg_words (indexed_by t (home t.index base) id second) ≤ 4
+  index_short base id second =
+      pick (λ (a : Arg). arg_words a ≤ 4) (folds t id) (Indexed (home t.index base) (home t.index second.first) 3)
+      (Indexed (home t.index base) (home t.index id) 0) (omega arith) (omega arith)
+
+  sum_short : (k : Known) → arg_words (sum_address t v k) ≤ 4
+  sum_short k =
+      let second = known t.index k.second in
+      pick (λ (a : Arg). arg_words a ≤ 4) (is_constant second.opcode) (Addr (home t.index k.first) (whole second.word (offset_in v.body)))
+      (indexed_by t (home t.index k.first) k.second second) (omega arith) (index_short k.first k.second second)
+
+  address_short : (pointer bytes : ℕ) → arg_words (address_of t v pointer bytes) ≤ 4
+  address_short pointer bytes =
+      pick (λ (a : Arg). arg_words a ≤ 4) (folds t pointer) (sum_address t v (known t.index pointer)) (home_address t v pointer bytes)
+      (sum_short (known t.index pointer))
+      (pick (λ (a : Arg). arg_words a ≤ 4) (is_offset bytes (offset_in v.body)) (Addr (home t.index pointer) (offset_in v.body))
+      (Addr (second_extra t.index v.id) (pos 0)) (omega arith) (omega arith))
 
   -- an access is behind what stands before it
   access_light : (air_op : AirOp) (before : List AirInst) (a b : Operand) → op_words air_op ≤ 1 → is_shuffle air_op ≡ false
-      → sum_by inst_weight before ≤ 19 → IsShort a → IsShort b → sum_by inst_weight (before ++ access v air_op (a ∷ b ∷ []) ∷ []) ≤ allowance v
+      → sum_by inst_weight before ≤ 19 → arg_words a.arg ≤ 4 → arg_words b.arg ≤ 4
+      → sum_by inst_weight (before ++ access v air_op (a ∷ b ∷ []) ∷ []) ≤ allowance v
+  unfolding all_words
   access_light air_op before a b few other light short short' =
-      let one = weigh_any v.id air_op (a ∷ b ∷ []) v.kind.traps other (all_two IsShort a b short short') in
-      omega (
-        arith,
-        light,
-        one,
-        few,
-        sum_by-append inst_weight before (access v air_op (a ∷ b ∷ []) ∷ []),
-        one_weight (access v air_op (a ∷ b ∷ [])) 8 (omega (arith, one, few)),
-      )
+      let os : List Operand = a ∷ b ∷ [] in
+      let all : all_words os ≤ 8 =
+      omega (arith, short, short', sum_by-cons (λ (o : Operand). arg_words o.arg) a (b ∷ []), sum_by-cons (λ (o : Operand). arg_words o.arg) b []) in
+      let words = no_shuffle air_op os 8 all (is_shuffle air_op) other in
+      let one : inst_weight (access v air_op os) ≤ 12 = omega (arith, words, few) in
+      omega (arith, light, one, sum_by-append inst_weight before (access v air_op os ∷ []), one_weight (access v air_op os) 12 one)
 
   load_light : (air_op : AirOp) (extent : Extent) → op_words air_op ≤ 1 → is_shuffle air_op ≡ false
       → sum_by inst_weight (load_of t v air_op extent) ≤ allowance v
@@ -307,7 +321,7 @@ module _ (t : Tables) (v : Value) where
       let pointer = child v.children 0 in
       let bytes = extent_bytes extent width in
       access_light air_op (before_access t v pointer bytes) (use_at width (address_of t v pointer bytes)) (result_of t v) few other (before_light pointer bytes)
-      (address_short width pointer bytes) (home_short (width_of v.ty) (3 * place t.index v.id))
+      (address_short pointer bytes) (omega arith)
 
   store_light : (air_op : AirOp) (extent : Extent) → op_words air_op ≤ 1 → is_shuffle air_op ≡ false
       → sum_by inst_weight (store_of t v air_op extent) ≤ allowance v
@@ -317,7 +331,7 @@ module _ (t : Tables) (v : Value) where
       let pointer = child v.children 1 in
       let bytes = extent_bytes extent width in
       access_light air_op (before_access t v pointer bytes) (use_of t from) (use_at width (address_of t v pointer bytes)) few other (before_light pointer bytes)
-      (use_short t from) (address_short width pointer bytes)
+      (omega (arith, use_short t from)) (address_short pointer bytes)
 
   code_light : (o : Opcode) → sum_by inst_weight (code_of t o v) ≤ allowance v
   code_light opcode.Nop = omega arith

@@ -1,5 +1,5 @@
 -- What is selected is well formed.
-use Rattle.std.proofs.Common.{◌≡◌, ℕ, zero, suc, ◌+◌, ◌<◌, inl, inr, Bool, true, false, ◌&&◌, List, [], ◌∷◌, ◌++◌, map, Some, None, length, refl, sym, ap, ◌∙◌, subst, arith}
+use Rattle.std.proofs.Common.{◌≡◌, ℕ, zero, suc, ◌+◌, ◌<◌, inl, inr, Bool, true, false, ◌&&◌, ◌||◌, List, [], ◌∷◌, ◌++◌, map, Some, None, length, refl, sym, ap, ◌∙◌, subst, arith}
 use Rattle.std.specs.Prelude.{All, Contains, if◌then◌else◌, slice_get}
 use Rattle.std.specs.List.{flat_map}
 use Rattle.std.proofs.lemmas.List.{append-nil, append_assoc, length-map}
@@ -37,10 +37,10 @@ use Rattle.air_ir.specs.declared.operand.Arg.TheVariants.{At}
 use Rattle.air_ir.specs.declared.procedure.AirInst.{AirInst}
 use Rattle.air_ir.specs.declared.procedure.AirProc.{AirProc}
 use Rattle.air_select.specs.Contract.{IsBuilt, is_built}
-use Rattle.air_fold.specs.Foldable.{is_and, is_comparison, is_constant}
-use Rattle.air_select.specs.Selected.{Tables, arg_of, argument_move, argument_moves, before_access, block_code, cases_in, code_of, def_at, entry_of, far_sum, folds, inst, last_id, load_of, move, names_argument, offset_in, op_of, register, register_in, return_of, selected_by, slot_in, store_of, targets_of, use_at, value_code}
+use Rattle.air_fold.specs.Foldable.{is_add, is_and, is_comparison, is_constant, is_shl}
+use Rattle.air_select.specs.Selected.{Tables, arg_of, argument_move, argument_moves, before_access, block_code, cases_in, code_of, def_at, entry_of, far_sum, folds, inst, last_id, load_of, move, names_argument, op_of, register, register_in, return_of, selected_by, slot_in, store_of, targets_of, use_at, value_code}
 use Rattle.air_select.specs.Temporaries.{argument, tmp_count}
-use Rattle.air_fold.specs.Values.{child, width_at}
+use Rattle.air_fold.specs.Values.{child, offset_in, width_at}
 use Rattle.air_select.proofs.Forms.{fit_none, fit_two}
 use Rattle.air_select.proofs.Good.{Has, code_has}
 use Rattle.air_select.proofs.Named.{IsOwnInst, entry_own, value_own}
@@ -62,7 +62,7 @@ pick P false x y p q = q
 
 inner_before : (t : Tables) (v : Value) (pointer bytes : ℕ) → All IsInner (before_access t v pointer bytes)
 inner_before t v pointer bytes =
-    pick (All IsInner) (is_offset bytes (offset_in v.body)) [] (far_sum t v pointer) (All-nil IsInner) (all_two IsInner _ _ refl refl)
+    pick (All IsInner) (folds t pointer || is_offset bytes (offset_in v.body)) [] (far_sum t v pointer) (All-nil IsInner) (all_two IsInner _ _ refl refl)
 
 inner_load : (t : Tables) (v : Value) (air_op : AirOp) (extent : Extent) → target_count air_op ≡ None → All IsInner (load_of t v air_op extent)
 inner_load t v air_op extent e =
@@ -165,12 +165,19 @@ no_successors o ty n (Cases cases blocks) e fits = absurd (by_cases o e fits)
 no_successors o ty n _ e fits = refl
 
 -- what is folded is no terminal
-plain_terminal : (o : Opcode) → is_terminal o ≡ true → (is_constant o ≡ false) × (is_comparison o ≡ false) × (is_and o ≡ false)
-plain_terminal opcode.Jump e = (refl, refl, refl)
-plain_terminal opcode.Oops e = (refl, refl, refl)
-plain_terminal opcode.Branch e = (refl, refl, refl)
-plain_terminal opcode.Switch e = (refl, refl, refl)
-plain_terminal opcode.Return e = (refl, refl, refl)
+record IsNoKind (o : Opcode) : Type 0 where
+  constant : is_constant o ≡ false
+  comparison : is_comparison o ≡ false
+  conjunction : is_and o ≡ false
+  sum : is_add o ≡ false
+  shift : is_shl o ≡ false
+
+plain_terminal : (o : Opcode) → is_terminal o ≡ true → IsNoKind o
+plain_terminal opcode.Jump e = record { constant = refl; comparison = refl; conjunction = refl; sum = refl; shift = refl }
+plain_terminal opcode.Oops e = record { constant = refl; comparison = refl; conjunction = refl; sum = refl; shift = refl }
+plain_terminal opcode.Branch e = record { constant = refl; comparison = refl; conjunction = refl; sum = refl; shift = refl }
+plain_terminal opcode.Switch e = record { constant = refl; comparison = refl; conjunction = refl; sum = refl; shift = refl }
+plain_terminal opcode.Return e = record { constant = refl; comparison = refl; conjunction = refl; sum = refl; shift = refl }
 plain_terminal _ e = absurd cc
 
 true_and_false : (b : Bool) → b ≡ true → b ≡ false → ⊥
@@ -181,10 +188,13 @@ front_true true b e = refl
 front_true false b e = absurd cc
 
 folded_inner : (t : Tables) (b : ℕ) (v : Value) → is_terminal v.kind.opcode ≡ true → IsFoldedKind t b v → ⊥
-folded_inner t b v ends (inl constant) = true_and_false (is_constant v.kind.opcode) constant (plain_terminal v.kind.opcode ends).0
-folded_inner t b v ends (inr (inl comparison)) = true_and_false (is_comparison v.kind.opcode) comparison (plain_terminal v.kind.opcode ends).1
-folded_inner t b v ends (inr (inr bit)) =
-    true_and_false (is_and v.kind.opcode) (front_true (is_and v.kind.opcode) _ bit) (plain_terminal v.kind.opcode ends).2
+folded_inner t b v ends (inl constant) = true_and_false (is_constant v.kind.opcode) constant (plain_terminal v.kind.opcode ends).constant
+folded_inner t b v ends (inr (inl comparison)) =
+    true_and_false (is_comparison v.kind.opcode) comparison (plain_terminal v.kind.opcode ends).comparison
+folded_inner t b v ends (inr (inr (inl bit))) =
+    true_and_false (is_and v.kind.opcode) (front_true (is_and v.kind.opcode) _ bit) (plain_terminal v.kind.opcode ends).conjunction
+folded_inner t b v ends (inr (inr (inr (inl sum)))) = true_and_false (is_add v.kind.opcode) sum (plain_terminal v.kind.opcode ends).sum
+folded_inner t b v ends (inr (inr (inr (inr shift)))) = true_and_false (is_shl v.kind.opcode) shift (plain_terminal v.kind.opcode ends).shift
 
 module _ (p : Procedure) (valid : IsValidProcedure p) (fit : ValuesFit p.blocks) (built : IsBuilt p) (t : Tables) (sound : IsSound p t) where
   q : AirProc
@@ -270,6 +280,11 @@ module _ (p : Procedure) (valid : IsValidProcedure p) (fit : ValuesFit p.blocks)
   abbrev IsBuiltValue : Value → Type 0
   IsBuiltValue v = is_built v.kind.opcode ≡ true
 
+  code_by : (b : ℕ) (v : Value) (j : ℕ) → StandsAt p b j v → is_built v.kind.opcode ≡ true → (f : Bool) → folds t v.id ≡ f
+      → All (Has p valid fit t sound) (if f then [] else code_of t v.kind.opcode v)
+  code_by b v j at built true e = All-nil (Has p valid fit t sound)
+  code_by b v j at built false e = code_has p valid fit t sound b j v at e v.kind.opcode refl built
+
   value_good : (b : ℕ) (block : Block) → slice_get p.blocks b ≡ Some block → (v : Value) → Contains block.values v → All (IsGoodInst q) (value_code t v)
   unfolding q selected_by value_code
   value_good b block there v has =
@@ -277,9 +292,7 @@ module _ (p : Procedure) (valid : IsValidProcedure p) (fit : ValuesFit p.blocks)
       let at = here_at b v in_values in
       let is_built : is_built v.kind.opcode ≡ true =
       All-contains IsBuiltValue block.values v (All-slice (λ (x : Block). All IsBuiltValue x.values) p.blocks b block built there) has in
-      let operands : All (Has p valid fit t sound) (value_code t v) =
-      pick (All (Has p valid fit t sound)) (folds t v.id) [] (code_of t v.kind.opcode v) (All-nil (Has p valid fit t sound))
-      (code_has p valid fit t sound b at.0 v at.1 v.kind.opcode refl is_built) in
+      let operands : All (Has p valid fit t sound) (value_code t v) = code_by b v at.0 at.1 is_built (folds t v.id) refl in
       let named : All (IsOwnInst q t tmps_are) (value_code t v) =
       value_own q t tmps_are v (register_below v.kind.opcode v.body (λ is. (valid rule.Arguments (ValueAt b at.0 v) at.1 is).1))
       (slot_named b v in_values) in

@@ -14,14 +14,15 @@ use Rattle.air_ir.specs.declared.op.AirOp.{AirOp}
 use Rattle.air_ir.specs.declared.op.AirOp.TheVariants.{BranchIf, SelectIf, Shuffle}
 use Rattle.air_ir.specs.declared.op.Test.{Test}
 use Rattle.air_ir.specs.declared.op.Test.TheVariants.{Bit, Compare}
+use Rattle.air_ir.specs.declared.operand.Arg.{Arg}
 use Rattle.air_ir.specs.declared.operand.Arg.TheVariants.{Imm}
 use Rattle.air_ir.specs.declared.operand.Operand.{Operand}
 use Rattle.air_ir.specs.declared.procedure.AirBlock.{AirBlock}
 use Rattle.air_ir.specs.declared.procedure.AirInst.{AirInst}
 use Rattle.air_ir.specs.declared.procedure.AirProc.{AirProc}
-use Rattle.air_fold.specs.Foldable.{is_and, is_comparison, is_constant, is_foldable, is_store}
-use Rattle.air_select.specs.Selected.{condition, tables, turned, use_of}
-use Rattle.air_fold.specs.Values.{word_in}
+use Rattle.air_fold.specs.Foldable.{is_add, is_and, is_comparison, is_constant, is_foldable, is_store}
+use Rattle.air_select.specs.Selected.{condition, sum_address, tables, turned, use_of}
+use Rattle.air_fold.specs.Values.{known_in, word_in}
 
 -- the procedure at a place of a module
 abbrev pub procedure_at : List Kept → ℕ → Procedure
@@ -184,6 +185,16 @@ CarriesStored p q = (b j c m : ℕ) (v k : Value) → StandsAt p b j v → Stand
     → is_store v.kind.opcode ≡ true → is_constant k.kind.opcode ≡ true → is_foldable p k.id ≡ true
     → slice_get v.children 0 ≡ Some k.id → IsMade q b v (HasFirst 0)
 
+-- the instruction has this address
+abbrev pub HasAddress : Arg → AirInst → Type 0
+HasAddress address i = (k : ℕ) × (o : Operand) × (slice_get i.operands k ≡ Some o) × (o.arg ≡ address)
+
+-- a foldable sum is carried by the access whose pointer it is, as its address
+abbrev pub CarriesSums : Procedure → AirProc → Type 0
+CarriesSums p q = (b j c m : ℕ) (v k : Value) → StandsAt p b j v → StandsAt p c m k
+    → is_add k.kind.opcode ≡ true → is_foldable p k.id ≡ true → Contains v.children k.id
+    → IsMade q b v (HasAddress (sum_address (tables p) v (known_in c k)))
+
 -- a foldable comparison is carried by the value whose condition it is
 abbrev pub CarriesComparisons : Procedure → AirProc → Type 0
 CarriesComparisons p q = (b j c m : ℕ) (v k : Value) → StandsAt p b j v → StandsAt p c m k
@@ -201,5 +212,6 @@ pub record IsFolded (p : Procedure) (q : AirProc) : Type 0 where
   pub none : NoneIsMade p q
   pub constants : CarriesConstants p q
   pub stored : CarriesStored p q
+  pub sums : CarriesSums p q
   pub comparisons : CarriesComparisons p q
   pub bits : CarriesBits p q

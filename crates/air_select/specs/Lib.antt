@@ -2,3 +2,4 @@ pub mod Temporaries
 pub mod Returning
 pub mod Selected
 pub mod Contract
+pub mod Sample

@@ -1,5 +1,5 @@
 -- The procedure of Air that is selected for a procedure of B3.
-use Rattle.std.specs.Prelude.{ℕ, ℤ, pos, zero, suc, ◌+◌, ◌-◌, ◌%◌, Bool, false, if◌then◌else◌, List, [], ◌∷◌, ◌++◌, map, Option, Some, None, slice_index_or}
+use Rattle.std.specs.Prelude.{ℕ, pos, ◌||◌, zero, suc, ◌+◌, ◌-◌, ◌%◌, Bool, false, if◌then◌else◌, List, [], ◌∷◌, ◌++◌, map, Option, Some, None, slice_index_or}
 use Rattle.std.specs.Int.{cast_unsigned, w64}
 use Rattle.std.specs.List.{flat_map, list_any}
 use Rattle.std.specs.Prelude.{nat_eq}
@@ -15,7 +15,7 @@ use Rattle.b3_ir.specs.declared.opcode.Ty.{Ty}
 use Rattle.b3_ir.specs.declared.opcode.Ty.TheVariants.{Int32}
 use Rattle.b3_ir.specs.declared.procedure.SlotLine.{SlotLine}
 use Rattle.b3_ir.specs.declared.value.Body.{Body}
-use Rattle.b3_ir.specs.declared.value.Body.TheVariants.{Argument, Cases, Offset, Slot, Target}
+use Rattle.b3_ir.specs.declared.value.Body.TheVariants.{Argument, Cases, Slot, Target}
 use Rattle.b3_ir.specs.declared.value.Value.{Value}
 use Rattle.b3_meaning.specs.declared.role.Extent.{Extent}
 use Rattle.b3_meaning.specs.declared.role.Extent.TheVariants.{Byte, Half, Whole}
@@ -34,15 +34,16 @@ use Rattle.air_ir.specs.declared.op.Test.TheVariants.{Compare, NonZero, Bit}
 use Rattle.air_ir.specs.declared.operand.Home.{Home}
 use Rattle.air_ir.specs.declared.operand.Home.TheVariants.{Reg}
 use Rattle.air_ir.specs.declared.operand.Arg.{Arg}
-use Rattle.air_ir.specs.declared.operand.Arg.TheVariants.{Addr, At, FrameSlot, Imm}
+use Rattle.air_ir.specs.declared.operand.Arg.TheVariants.{Addr, At, FrameSlot, Imm, Index as Indexed}
 use Rattle.air_ir.specs.declared.operand.Role.TheVariants.{Use, Def}
 use Rattle.air_ir.specs.declared.operand.Operand.{Operand}
 use Rattle.air_ir.specs.declared.procedure.AirBlock.{AirBlock}
 use Rattle.air_ir.specs.declared.procedure.AirInst.{AirInst}
 use Rattle.air_ir.specs.declared.procedure.AirProc.{AirProc}
-use Rattle.air_fold.specs.Foldable.{bit_of, is_comparison, is_foldable}
+use Rattle.air_fold.specs.Foldable.{bit_of, is_comparison, is_constant, is_foldable, whole}
 use Rattle.air_select.specs.Temporaries.{argument, first_extra, home, location, second_extra, tmp_count}
-use Rattle.air_fold.specs.Values.{Index, child, ids_of, index_of, known, place, width_at, word_in}
+use Rattle.air_fold.specs.declared.known.Known.{Known}
+use Rattle.air_fold.specs.Values.{Index, child, ids_of, index_of, known, offset_in, place, width_at, word_in}
 
 -- what selection looks up: of each id its place and what is known of it, and whether its value is folded
 pub record Tables : Type 0 where
@@ -121,11 +122,7 @@ abbrev pub cases_in : Body → List ℕ
 cases_in (Cases cases targets) = cases
 cases_in _ = []
 
--- the offset of an access, in bytes, and the number of a slot
-abbrev pub offset_in : Body → ℤ
-offset_in (Offset offset) = offset
-offset_in _ = pos 0
-
+-- the number of a slot
 abbrev pub slot_in : Body → ℕ
 slot_in (Slot number) = number
 slot_in _ = 0
@@ -251,15 +248,35 @@ module _ (t : Tables) where
   abbrev pub far_sum : Value → ℕ → List AirInst
   far_sum v pointer = far_offset v ∷ far_pointer v pointer ∷ []
 
-  -- what stands before an access of so many bytes, and its address
+  -- what stands before an access of so many bytes
   abbrev pub before_access : Value → ℕ → ℕ → List AirInst
-  before_access v pointer bytes = if is_offset bytes (offset_in v.body) then [] else far_sum v pointer
+  before_access v pointer bytes =
+      if folds t pointer || is_offset bytes (offset_in v.body) then [] else far_sum v pointer
 
-  abbrev pub address_of : Value → ℕ → ℕ → Arg
-  address_of v pointer bytes =
+  -- the address at a pointer in its home
+  abbrev pub home_address : Value → ℕ → ℕ → Arg
+  home_address v pointer bytes =
       if is_offset bytes (offset_in v.body)
       then Addr (home t.index pointer) (offset_in v.body)
       else Addr (second_extra t.index v.id) (pos 0)
+
+  -- the address at a base and another child of a sum, of which this is known: a folded one is a shift by 3
+  abbrev pub indexed_by : Home → ℕ → Known → Arg
+  indexed_by base id k =
+      if folds t id then Indexed base (home t.index k.first) 3 else Indexed base (home t.index id) 0
+
+  -- the address at a folded sum: a constant goes into the offset, and any other child is an index
+  abbrev pub sum_address : Value → Known → Arg
+  sum_address v k =
+      let second = known t.index k.second in
+      if is_constant second.opcode
+      then Addr (home t.index k.first) (whole second.word (offset_in v.body))
+      else indexed_by (home t.index k.first) k.second second
+
+  -- the address of an access of so many bytes
+  abbrev pub address_of : Value → ℕ → ℕ → Arg
+  address_of v pointer bytes =
+      if folds t pointer then sum_address v (known t.index pointer) else home_address v pointer bytes
 
   -- a load from the first child
   abbrev pub load_of : Value → AirOp → Extent → List AirInst

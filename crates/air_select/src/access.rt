@@ -1,28 +1,17 @@
 //! Loads and stores, the addresses of slots and the frame pointer.
 
 ghost use Rattle.std.specs.Prelude.{◌≡◌, ◌++◌, ◌∷◌, [], ◌<◌, ◌≤◌, OnOk};
-ghost use Rattle.air_ir.specs.Forms as forms;
 ghost use Rattle.air_ir.specs.Kinds as kinds;
 ghost use Rattle.air_select.specs.Selected as code;
 
 use crate::code::{one, push, push_access, push_move, three, two};
 use crate::tables::{Tables, def_at, first_extra, home, result_of, second_extra, use_at};
-use air_fold::{child, width_of};
-use air_ir::{AirInsts, AirOp, Arg};
+use air_fold::{Known, child, is_constant, is_offset, offset_in, whole_offset, width_of};
+use air_ir::{AirInsts, AirOp, Arg, Home};
 use b3_base::{NoMemory, Width};
 use b3_ir::{Body, Value};
 use b3_meaning::Extent;
 use std::alloc::Global;
-
-/// The offset of an access, in bytes.
-fn offset_in(body: &Body) -> i64
-    ensures { result ≡ code.offset_in body.now }
-{
-    match body {
-        Body::Offset(offset) => i64::from(*offset),
-        _ => 0,
-    }
-}
 
 /// The number of a slot.
 fn slot_in(body: &Body) -> u32
@@ -45,19 +34,6 @@ fn bytes_of(extent: Extent, width: Width) -> u32
         Extent::Half => 2,
         Extent::Whole => width.bits() / 8,
     }
-}
-
-/// Whether a load or a store of so many bytes adds an offset to its base.
-fn is_offset(bytes: u32, offset: i64) -> bool
-    requires some { 0 < bytes }
-    requires most { bytes ≤ 8 }
-    ensures { result ≡ forms.is_offset bytes offset }
-{
-    if offset < 0 {
-        return offset >= -256;
-    }
-    let above = offset as u64;
-    above <= 255 || above % u64::from(bytes) == 0 && above <= 4095 * u64::from(bytes)
 }
 
 /// Adds the copy of an offset that doesn't fit in an address.
@@ -126,17 +102,17 @@ fn push_before(
     requires most { bytes ≤ 8 }
     ensures { OnOk result (insts.new ≡ insts.old ++ code.before_access t.now v.now pointer bytes) }
 {
-    if is_offset(bytes, offset_in(&v.body)) {
+    if t.folds(pointer) || is_offset(bytes, offset_in(&v.body)) {
         return Ok(());
     }
     push_far_sum(alloc, insts, t, v, pointer)
 }
 
-/// The address of an access of so many bytes.
-fn address_of(t: &Tables, v: &Value, pointer: u32, bytes: u32) -> Arg
+/// The address at a pointer in its home.
+fn home_address(t: &Tables, v: &Value, pointer: u32, bytes: u32) -> Arg
     requires some { 0 < bytes }
     requires most { bytes ≤ 8 }
-    ensures { result ≡ code.address_of t.now v.now pointer bytes }
+    ensures { result ≡ code.home_address t.now v.now pointer bytes }
 {
     let offset = offset_in(&v.body);
     if is_offset(bytes, offset) {
@@ -149,6 +125,54 @@ fn address_of(t: &Tables, v: &Value, pointer: u32, bytes: u32) -> Arg
             base: second_extra(&t.index, v.id),
             offset: 0,
         }
+    }
+}
+
+/// The address at a base and another child of a sum: a folded one is a shift.
+fn indexed(t: &Tables, base: Home, id: u32, known: Known) -> Arg
+    ensures { result ≡ code.indexed_by t.now base id known }
+{
+    if t.folds(id) {
+        Arg::Index {
+            base,
+            index: home(&t.index, known.first),
+            shift: 3,
+        }
+    } else {
+        Arg::Index {
+            base,
+            index: home(&t.index, id),
+            shift: 0,
+        }
+    }
+}
+
+/// The address at a folded sum.
+fn sum_address(t: &Tables, v: &Value, sum: Known) -> Arg
+    ensures { result ≡ code.sum_address t.now v.now sum }
+{
+    let base = home(&t.index, sum.first);
+    let second = t.index.known(sum.second);
+    if is_constant(second.opcode) {
+        Arg::Addr {
+            base,
+            offset: whole_offset(second.word, offset_in(&v.body)),
+        }
+    } else {
+        indexed(t, base, sum.second, second)
+    }
+}
+
+/// The address of an access of so many bytes.
+fn address_of(t: &Tables, v: &Value, pointer: u32, bytes: u32) -> Arg
+    requires some { 0 < bytes }
+    requires most { bytes ≤ 8 }
+    ensures { result ≡ code.address_of t.now v.now pointer bytes }
+{
+    if t.folds(pointer) {
+        sum_address(t, v, t.index.known(pointer))
+    } else {
+        home_address(t, v, pointer, bytes)
     }
 }
 

@@ -1,32 +1,12 @@
-use Rattle.std.proofs.Common.{◌≡◌, ◌∙◌, ◌++◌, ◌≤◌, [], ◌∷◌, Some, length, refl, ap, arith}
-use Rattle.std.specs.Prelude.{slice_get}
-use Rattle.air_fold.specs.Tallied.{none}
-use Rattle.air_fold.proofs.Tallies.{fold_end, fold_next, tallied_all, tallied_next}
+use Rattle.std.proofs.Common.{◌≡◌, List, Bool, [], map, subst, sym, ap, ◌∙◌}
+use Rattle.std.specs.Prelude.{IfOk}
+use Rattle.air_fold.specs.Foldable.{is_folded_by, pointers, uses}
+use Rattle.air_fold.specs.Values.{ids_of, index_of}
 use Rattle.air_fold.proofs.uses.folded_values.Goals as goal
-
-pub loop-block-preserved : goal.loop-block-preserved
-loop-block-preserved c =
-    let x = c.args.index.now in
-    tallied_next x c.args.p.now.procedure (none (length x.known)) c.loop-block.tallies c.note_block.new.tallies c.loop-block.block
-    (omega (arith, c.blocks-block-end.ensures)) c.loop-block.invariant c.note_block.ensures
-
-pub loop-place-preserved : goal.loop-place-preserved
-loop-place-preserved c =
-    let x = c.args.index.now in
-    let p = c.args.p.now.procedure in
-    let at = c.loop-place.place in
-    let k = c.get.result.now in
-    let t = c.get-in-loop-place.result.now in
-    let all =
-    tallied_all x p (none (length x.known)) c.loop-block.tallies c.loop-block.block (omega (arith, c.blocks-block-end.ensures)) c.loop-block.invariant in
-    let at_k : slice_get x.known at ≡ Some k = rw (← c.index.view_is) c.get.ensures in
-    let at_t : slice_get c.loop-block.tallies at ≡ Some t = c.get-in-loop-place.ensures in
-    fold_next p c.requires.valid x (length x.known) at c.loop-block.tallies k t c.requires.index refl all at_k at_t c.loop-place.folds c.push.new.self
-    c.loop-place.invariant (c.in_ok-push.ensures.ok ∙ ap (λ b. c.loop-place.folds ++ b ∷ []) c.is_folded.ensures)
 
 pub returns : goal.returns
 returns c =
-    let x = c.args.index.now in
-    let size : c.len-place-end.result ≡ length x.known = rw (← c.index.view_is) c.len-place-end.ensures in
-    let end : length x.known ≤ c.loop-place.place = omega (arith, size, c.loop-place-test.false) in
-    fold_end c.args.p.now.procedure x c.loop-place.place c.requires.index end c.loop-place.folds c.loop-place.invariant
+    let p = c.args.p.now.procedure in
+    let mark : List Bool → List Bool = λ f. map (is_folded_by (index_of p) f (uses p)) (ids_of p) in
+    let is : c.in_ok-pointers.pointers ≡ pointers p = c.in_ok-pointers.ensures ∙ ap mark c.new-none.ensures in
+    subst (λ (f : List Bool). IfOk c.folded_by-2.result (λ folds. folds ≡ mark f)) is c.folded_by-2.ensures
