@@ -3,7 +3,7 @@ use Rattle.std.proofs.Common.{◌≡◌, ℕ, zero, suc, ◌+◌, ◌*◌, ◌^�
 use Rattle.std.specs.Prelude.{All, map, slice_get}
 use Rattle.std.specs.List.{filter, flat_map}
 use Rattle.std.proofs.lemmas.List.{length-map}
-use Rattle.std.proofs.lemmas.List.Elements.{All-cons, All-nil}
+use Rattle.std.proofs.lemmas.List.Elements.{All-cons, All-nil, All-weaker}
 use Rattle.std.proofs.lemmas.List.Concat.{flat_map-cons}
 use Rattle.std.proofs.lemmas.List.Filters.{length-filter_both}
 use Rattle.std.proofs.lemmas.Option.{get_or_from_slice_get, slice_get-map, slice_get-get_or, slice_get_within}
@@ -24,7 +24,7 @@ use Rattle.air_ir.specs.Weight.{weight}
 use Rattle.air_frame.specs.Frames.{HaveRoom, row_of, slot_bytes, slot_rows}
 use Rattle.air_frame.specs.Needs.{callee_saved, spill_count, writes}
 use Rattle.a64_run.specs.Agrees.{child_count}
-use Rattle.air_select.specs.Contract.{IsWithinLimits, is_built, procedure_at}
+use Rattle.air_select.specs.Contract.{HasArithmeticAlone, IsBuilt, IsWithinLimits, is_arithmetic_opcode, is_built, procedure_at}
 use Rattle.a64_object.specs.Made.{IsMadeOf, IsPlacedOf}
 use Rattle.a64_object.specs.Taken.{IsTaken}
 use Rattle.a64_object.proofs.Agreeing.{rows_length, ten_saved, text_of}
@@ -56,7 +56,7 @@ all_behind : {X : Type 0} (P : X → Type 0) (a b : List X) → All P (a ++ b) �
 all_behind P a b all = all_of P b (λ k x there. one_in P (a ++ b) (length a + k) x (get_behind a b k ∙ there) all)
 
 -- ---- what is supported is taken
-code_built : (op : Opcode) → has_code op ≡ true → is_built op ≡ true
+code_built : (op : Opcode) → has_code op ≡ true → is_arithmetic_opcode op ≡ true
 code_built opcode.FramePointer e = cc
 code_built opcode.SlotBase e = cc
 code_built opcode.Load8Z e = cc
@@ -76,13 +76,30 @@ code_built opcode.CheckMul e = cc
 code_built _ e = refl
 
 blocks_built : (blocks : List Block) → All HasCode (flat_map (λ (b : Block). b.values) blocks)
-    → All (λ (b : Block). All (λ (v : Value). is_built v.kind.opcode ≡ true) b.values) blocks
+    → All (λ (b : Block). All (λ (v : Value). is_arithmetic_opcode v.kind.opcode ≡ true) b.values) blocks
 blocks_built [] all = All-nil _
 blocks_built (b ∷ blocks) all =
     let parts : All HasCode (b.values ++ flat_map (λ (x : Block). x.values) blocks) = subst (All HasCode) (flat_map-cons (λ (x : Block). x.values) b blocks) all in
-    All-cons (λ (x : Block). All (λ (v : Value). is_built v.kind.opcode ≡ true) x.values) b blocks
-    (all_of (λ (v : Value). is_built v.kind.opcode ≡ true) b.values (λ k v there. code_built v.kind.opcode (one_in HasCode b.values k v there (all_front HasCode b.values (flat_map (λ (x : Block). x.values) blocks) parts))))
+    All-cons (λ (x : Block). All (λ (v : Value). is_arithmetic_opcode v.kind.opcode ≡ true) x.values) b blocks
+    (all_of (λ (v : Value). is_arithmetic_opcode v.kind.opcode ≡ true) b.values (λ k v there. code_built v.kind.opcode (one_in HasCode b.values k v there (all_front HasCode b.values (flat_map (λ (x : Block). x.values) blocks) parts))))
     (blocks_built blocks (all_behind HasCode b.values (flat_map (λ (x : Block). x.values) blocks) parts))
+
+-- what is selected as arithmetic is selected
+arithmetic_built : (op : Opcode) → is_arithmetic_opcode op ≡ true → is_built op ≡ true
+arithmetic_built opcode.CCall e = cc
+arithmetic_built opcode.Patchpoint e = cc
+arithmetic_built opcode.Check e = cc
+arithmetic_built opcode.CheckAdd e = cc
+arithmetic_built opcode.CheckSub e = cc
+arithmetic_built opcode.CheckMul e = cc
+arithmetic_built _ e = refl
+
+pub built : (p : Procedure) → HasArithmeticAlone p → IsBuilt p
+built p alone =
+    let Q = λ (v : Value). is_arithmetic_opcode v.kind.opcode ≡ true in
+    let R = λ (v : Value). is_built v.kind.opcode ≡ true in
+    All-weaker (λ (b : Block). All Q b.values) (λ (b : Block). All R b.values)
+    (λ b all. All-weaker Q R (λ v e. arithmetic_built v.kind.opcode e) b.values all) p.blocks alone
 
 pub taken : (p : Procedure) → HasForms p → IsWithinLimits p → IsTaken p
 taken p forms limits = record { built = blocks_built p.blocks forms.values; slots = forms.slots; limits = limits }

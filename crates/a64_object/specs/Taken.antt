@@ -1,11 +1,11 @@
--- The procedures that are taken: those whose opcodes are selected, without slots, within the limits.
+-- The procedures that are taken: those that are selected as arithmetic alone, without slots, within the limits.
 use Rattle.std.specs.Prelude.{◌≡◌, ◌≤◌, List, [], All, sum_by}
 use Rattle.b3_ir.specs.Procedure.{Procedure, total}
 use Rattle.a64_run.specs.Agrees.{child_count}
-use Rattle.air_select.specs.Contract.{IsBuilt, IsWithinLimits}
+use Rattle.air_select.specs.Contract.{HasArithmeticAlone, IsWithinLimits}
 
 pub record IsTaken (p : Procedure) : Type 0 where
-  pub built : IsBuilt p
+  pub built : HasArithmeticAlone p
   pub slots : p.slots ≡ []
   pub limits : IsWithinLimits p
 

@@ -26,7 +26,7 @@ use Rattle.air_ir.specs.declared.procedure.AirProc.{AirProc}
 use Rattle.air_ir.proofs.Same.{same_at_each}
 use Rattle.air_ir.proofs.Stepping.{steps-append}
 use Rattle.air_select.specs.Selected.{Tables, argument_move, argument_moves, block_code, def_at, entry_inst, entry_of, last_id, names_argument, register}
-use Rattle.air_select.specs.Tables.{argument}
+use Rattle.air_select.specs.Temporaries.{argument}
 use Rattle.air_select.proofs.Does.{HasArguments}
 use Rattle.air_select.proofs.Instructions.{at_home, one_leave, one_word, reads_def, reads_none, reads_use, steps_last, with_home, writes_def, writes_none, writes_use}
 use Rattle.air_select.proofs.Related.{Related, holds_word, put_here, put_there}

@@ -1,5 +1,5 @@
 -- What a value's instructions read of its children.
-use Rattle.std.proofs.Common.{◌≡◌, ℕ, ◌^◌, ◌<◌, ◌⊎◌, inl, inr, Bool, true, false, ◌&&◌, List, [], ◌∷◌, ◌++◌, map, Option, Some, None, nat_eq, refl, sym, ap, ◌∙◌, subst}
+use Rattle.std.proofs.Common.{◌≡◌, ℕ, ◌^◌, ◌<◌, ◌⊎◌, inl, inr, Bool, true, false, ◌&&◌, ◌||◌, List, [], ◌∷◌, ◌++◌, map, Option, Some, None, nat_eq, refl, sym, ap, ◌∙◌, subst}
 use Rattle.std.specs.Prelude.{Contains, if◌then◌else◌, nat_lt, slice_get}
 use Rattle.std.proofs.lemmas.Bool.{eqb-true}
 use Rattle.b3_base.specs.Arithmetic.{low}
@@ -27,10 +27,11 @@ use Rattle.air_ir.specs.Operands.{Read, word_of, words}
 use Rattle.air_ir.specs.Steps.{State}
 use Rattle.air_ir.specs.declared.operand.Arg.TheVariants.{At, Imm}
 use Rattle.air_ir.specs.declared.operand.Operand.{Operand}
-use Rattle.air_select.specs.Foldable.{condition_fits, constant_fits, fits, is_constant}
+use Rattle.air_fold.specs.Foldable.{constant_fits, fits, is_constant, pointers, sum_fits, value_fits}
 use Rattle.air_select.specs.Selected.{Tables, arg_of, folds, use_of}
-use Rattle.air_select.specs.Tables.{home, known, width_at, word_in}
-use Rattle.air_select.specs.declared.known.Known.{Known}
+use Rattle.air_select.specs.Temporaries.{home}
+use Rattle.air_fold.specs.Values.{known, width_at, word_in}
+use Rattle.air_fold.specs.declared.known.Known.{Known}
 use Rattle.air_select.proofs.Facts.{Ran, body_below, constant_role}
 use Rattle.air_select.proofs.Instructions.{at_home, of_immediate, reads_use}
 use Rattle.air_select.proofs.Related.{Related, low_word}
@@ -62,33 +63,45 @@ words_nil types f ws e = cc
 
 -- ---- values that are folded
 
--- how a folded child fits
+-- how a folded child fits: as an immediate, as the constant of a sum that is a pointer, or as another value
 pub record FitsAsConstant (t : Tables) (op : Opcode) (i id : ℕ) : Type 0 where
   pub constant : is_constant (known t.index id).opcode ≡ true
   pub fits : constant_fits op i (width_at t.index id) (known t.index id).word ≡ true
 
-pub record FitsAsCondition (t : Tables) (b : ℕ) (op : Opcode) (i id : ℕ) : Type 0 where
+pub record FitsInSum (t : Tables) (f : List Bool) (op : Opcode) (i user id : ℕ) : Type 0 where
+  pub constant : is_constant (known t.index id).opcode ≡ true
+  pub fits : sum_fits t.index f op i user ≡ true
+
+pub record FitsAsValue (t : Tables) (f : List Bool) (b : ℕ) (op : Opcode) (i user id : ℕ) : Type 0 where
   pub constant : is_constant (known t.index id).opcode ≡ false
   pub block : b ≡ (known t.index id).block
-  pub fits : condition_fits t.index op i (known t.index id) ≡ true
+  pub fits : value_fits t.index f op i user (known t.index id) ≡ true
 
 and_parts : (a b : Bool) → (a && b) ≡ true → (a ≡ true) × (b ≡ true)
 and_parts true true e = (refl, refl)
 and_parts true false e = absurd (cc)
 and_parts false b e = absurd (cc)
 
-pub fit_cases : (t : Tables) (b : ℕ) (op : Opcode) (i id : ℕ) → fits t.index (record { id = id; block = b; opcode = op; at = i }) ≡ true
-    → FitsAsConstant t op i id ⊎ FitsAsCondition t b op i id
-fit_cases t b op i id e = go (is_constant (known t.index id).opcode) refl e
+or_parts : (a b : Bool) → (a || b) ≡ true → (a ≡ true) ⊎ (b ≡ true)
+or_parts true b e = inl refl
+or_parts false b e = inr e
+
+pub fit_cases : (t : Tables) (f : List Bool) (b : ℕ) (op : Opcode) (i user id : ℕ)
+    → fits t.index f (record { id = id; block = b; user = user; opcode = op; at = i }) ≡ true
+    → FitsAsConstant t op i id ⊎ (FitsInSum t f op i user id ⊎ FitsAsValue t f b op i user id)
+fit_cases t f b op i user id e = go (is_constant (known t.index id).opcode) refl e
   where
     go : (c : Bool) → is_constant (known t.index id).opcode ≡ c
-        → (if c then constant_fits op i (width_at t.index id) (known t.index id).word else
-        (nat_eq b (known t.index id).block && condition_fits t.index op i (known t.index id))) ≡ true
-        → FitsAsConstant t op i id ⊎ FitsAsCondition t b op i id
-    go true ec e = inl (record { constant = ec; fits = e })
+        → (if c then (constant_fits op i (width_at t.index id) (known t.index id).word || sum_fits t.index f op i user) else
+        (nat_eq b (known t.index id).block && value_fits t.index f op i user (known t.index id))) ≡ true
+        → FitsAsConstant t op i id ⊎ (FitsInSum t f op i user id ⊎ FitsAsValue t f b op i user id)
+    go true ec e = elim (or_parts (constant_fits op i (width_at t.index id) (known t.index id).word) (sum_fits t.index f op i user) e) [
+      | inl constant ↦ inl (record { constant = ec; fits = constant })
+      | inr sum ↦ inr (inl (record { constant = ec; fits = sum }))
+    ]
     go false ec e =
-        let both = and_parts (nat_eq b (known t.index id).block) (condition_fits t.index op i (known t.index id)) e in
-        inr (record { constant = ec; block = eqb-true b (known t.index id).block both.0; fits = both.1 })
+        let both = and_parts (nat_eq b (known t.index id).block) (value_fits t.index f op i user (known t.index id)) e in
+        inr (inr (record { constant = ec; block = eqb-true b (known t.index id).block both.0; fits = both.1 }))
 
 -- a value that is folded here is a constant
 abbrev pub IsReadable : Tables → ℕ → Type 0
@@ -96,25 +109,29 @@ IsReadable t id = folds t id ≡ true → is_constant (known t.index id).opcode 
 
 module _ (p : Procedure) (valid : IsKept p) (t : Tables) (sound : IsSound p t) (start : Start) where
   module _ (b : ℕ) (v : Value) (here : Contains (values_of p b) v) where
-    -- a child that can be no condition is a constant where it is folded
-    pub readable : (i id : ℕ) → slice_get v.children i ≡ Some id → ((k : Known) → condition_fits t.index v.kind.opcode i k ≡ false) → IsReadable t id
+    -- a child that fits as no other value is a constant where it is folded
+    pub readable : (i id : ℕ) → slice_get v.children i ≡ Some id → ((k : Known) → value_fits t.index (pointers p) v.kind.opcode i v.id k ≡ false)
+        → IsReadable t id
     readable i id at none gone =
-        elim (fit_cases t b v.kind.opcode i id (sound.uses_fit b i id v here at gone)) [
+        elim (fit_cases t (pointers p) b v.kind.opcode i v.id id (sound.uses_fit b i id v here at gone)) [
           | inl constant ↦ constant.constant
-          | inr condition ↦ absurd (let bad : true ≡ false = sym condition.fits ∙ none (known t.index id) in cc)
+          | inr (inl sum) ↦ sum.constant
+          | inr (inr value) ↦ absurd (let bad : true ≡ false = sym value.fits ∙ none (known t.index id) in cc)
         ]
 
     -- and it stands in its home where it can't be a constant either
-    pub unfolded : (i id : ℕ) → slice_get v.children i ≡ Some id → ((k : Known) → condition_fits t.index v.kind.opcode i k ≡ false)
-        → ((width : Width) (word : ℕ) → constant_fits v.kind.opcode i width word ≡ false) → folds t id ≡ false
-    unfolded i id at none never = go (folds t id) refl
+    pub unfolded : (i id : ℕ) → slice_get v.children i ≡ Some id → ((k : Known) → value_fits t.index (pointers p) v.kind.opcode i v.id k ≡ false)
+        → ((width : Width) (word : ℕ) → constant_fits v.kind.opcode i width word ≡ false) → sum_fits t.index (pointers p) v.kind.opcode i v.id ≡ false
+        → folds t id ≡ false
+    unfolded i id at none never no_sum = go (folds t id) refl
       where
         go : (f : Bool) → folds t id ≡ f → folds t id ≡ false
         go false e = e
         go true e =
-            elim (fit_cases t b v.kind.opcode i id (sound.uses_fit b i id v here at e)) [
+            elim (fit_cases t (pointers p) b v.kind.opcode i v.id id (sound.uses_fit b i id v here at e)) [
               | inl constant ↦ absurd (let bad : true ≡ false = sym constant.fits ∙ never (width_at t.index id) (known t.index id).word in cc)
-              | inr condition ↦ absurd (let bad : true ≡ false = sym condition.fits ∙ none (known t.index id) in cc)
+              | inr (inl sum) ↦ absurd (let bad : true ≡ false = sym sum.fits ∙ no_sum in cc)
+              | inr (inr value) ↦ absurd (let bad : true ≡ false = sym value.fits ∙ none (known t.index id) in cc)
             ]
 
   module _ (passed : List ℕ) (b : ℕ) (before rest : List Value) (is : values_of p b ≡ before ++ rest) (st : b3.State) (reached : IsReached p passed b before st)

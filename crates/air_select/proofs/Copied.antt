@@ -30,15 +30,16 @@ use Rattle.air_ir.specs.declared.op.AirOp.TheVariants as op
 use Rattle.air_ir.specs.declared.operand.Arg.{Arg}
 use Rattle.air_ir.specs.declared.operand.Arg.TheVariants.{At, Imm}
 use Rattle.air_ir.specs.declared.operand.Home.{Home}
-use Rattle.air_select.specs.Foldable.{condition_fits}
+use Rattle.air_fold.specs.Foldable.{pointers, value_fits}
 use Rattle.air_select.specs.Selected.{Tables, arg_of, computes, def_at, move, register_in}
-use Rattle.air_select.specs.Tables.{argument, home, location, width_at, word_in}
-use Rattle.air_select.specs.declared.known.Known.{Known}
+use Rattle.air_select.specs.Temporaries.{argument, home, location}
+use Rattle.air_fold.specs.Values.{width_at, word_in}
+use Rattle.air_fold.specs.declared.known.Known.{Known}
 use Rattle.air_select.proofs.Children.{child_word, readable, width_is}
 use Rattle.air_select.proofs.Does.{Does, Here, allows, are_words, at, gives_does, here, is_known, puts, result_small, rules, words_here}
 use Rattle.air_select.proofs.Facts.{child_ran}
 use Rattle.air_select.proofs.Instructions.{at_home, of_immediate, one_word, reads_def, reads_use, steps_last, with_home, writes_def, writes_use}
-use Rattle.air_select.proofs.Plain.{copying, over_does, reads, reads_words}
+use Rattle.air_select.proofs.Plain.{copying, no_value, over_does, reads, reads_words}
 use Rattle.air_select.proofs.Related.{low_word}
 use Rattle.air_select.proofs.Shapes.{one_child}
 
@@ -140,7 +141,7 @@ module _ (p : Procedure) (t : Tables) (start : Start) (v : Value) (h : Here p t 
 
   -- the word of a child, in a use that isn't a condition
   pub child_here : (i c w : ℕ) → slice_get v.children i ≡ Some c → Contains v.children c → h.st.words c ≡ Some w
-      → ((k : Known) → condition_fits t.index v.kind.opcode i k ≡ false)
+      → ((k : Known) → value_fits t.index (pointers p) v.kind.opcode i v.id k ≡ false)
       → word_of h.s.homes (width_at t.index c) (arg_of t c) ≡ Some w
   child_here i c w there has now none =
       child_word p h.valid t h.sound start h.passed h.block h.before (v ∷ h.rest) h.stands h.st h.reached h.s h.related c w
@@ -159,7 +160,7 @@ module _ (p : Procedure) (t : Tables) (start : Start) (v : Value) (h : Here p t 
       let same : shape.wx ≡ w = same_word shape.wx w
       (ap (λ (l : List ℕ). result opcode.Identity v.kind.chill v.ty l (types_of p v)) (sym shape.words)
       ∙ ap (λ (q : Opcode). result q v.kind.chill v.ty ws (types_of p v)) (sym eo) ∙ g) in
-      over_does p t start v h junk opcode.Identity op.Move w eo refl (result_small p t start v h w (ap role_of eo) g)
+      over_does p t start v h junk opcode.Identity op.Move w eo (λ n k. no_value t.index (pointers p) opcode.Identity n v.id k refl) (result_small p t start v h w (ap role_of eo) g)
       (copying p t start v h op.Move v.id (reads p t start v h v.children ws) h.s.world refl
       ∙ ap (gives h.s.world) (reads_words p t start v h v.children ws (are_words p t start v h) ∙ shape.words ∙ ap (λ n. n ∷ []) same)))
     where

@@ -36,16 +36,16 @@ use Rattle.air_ir.specs.declared.op.AirOp.TheVariants as op
 use Rattle.air_ir.specs.declared.op.Test.TheVariants.{Bit, Compare, NonZero}
 use Rattle.air_ir.specs.declared.operand.Operand.{Operand}
 use Rattle.air_ir.proofs.Conditions.{compares}
-use Rattle.air_select.specs.Foldable.{bit_of, condition_fits, is_and, is_bit, is_bit_test, is_comparison, is_constant}
+use Rattle.air_fold.specs.Foldable.{bit_of, constant_fits, is_and, is_bit, is_bit_test, is_comparison, is_constant, pointers, sum_fits, value_fits}
 use Rattle.air_select.specs.Selected.{Condition, Tables, arg_of, condition, condition_of, folded_condition, folds, op_of, use_of}
-use Rattle.air_select.specs.Tables.{child, known, known_in, width_at}
-use Rattle.air_select.specs.declared.known.Known.{Known}
+use Rattle.air_fold.specs.Values.{child, known, known_in, width_at}
+use Rattle.air_fold.specs.declared.known.Known.{Known}
 use Rattle.air_select.proofs.Children.{child_word, fit_cases, known_word, readable, width_is, words_cons, words_nil}
 use Rattle.air_select.proofs.Does.{Here, at, here}
 use Rattle.air_select.proofs.Facts.{child_ran, grandchild_ran}
 use Rattle.air_select.proofs.Instructions.{reads_use, writes_use}
 use Rattle.air_select.proofs.OneOp.{first_width, is_one_op, one_op_right}
-use Rattle.air_select.proofs.Plain.{has_condition, no_condition}
+use Rattle.air_select.proofs.Plain.{takes_values, no_value}
 use Rattle.air_select.proofs.Shapes.{two_children, two_here}
 
 -- the operands of a condition read some words, of which its test says whether a word isn't 0
@@ -72,7 +72,7 @@ comparison_op opcode.BelowEqual e = (refl, refl)
 comparison_op _ e = absurd (cc)
 
 -- a comparison takes two words of a type, is pure and has no condition of its own
-pub comparison_row : (o : Opcode) → is_comparison o ≡ true → (role_of o ≡ role.Pure) × (has_condition o ≡ false)
+pub comparison_row : (o : Opcode) → is_comparison o ≡ true → (role_of o ≡ role.Pure) × (takes_values o ≡ false)
 comparison_row opcode.Equal e = (refl, refl)
 comparison_row opcode.NotEqual e = (refl, refl)
 comparison_row opcode.LessThan e = (refl, refl)
@@ -156,15 +156,16 @@ module _ (p : Procedure) (t : Tables) (start : Start) (v : Value) (h : Here p t 
 
   -- ---- the value of a folded condition
 
-  -- it stands earlier in the block
-  stands_before : (c : ℕ) → Contains v.children c → h.block ≡ (known t.index c).block → (d : Value) × (d.id ≡ c) × Contains h.before d
-  stands_before c has block =
+  -- a child of a value of this pass of the block stands before it, where its block is this one
+  pub earlier : (before : List Value) (u : Value) → StandsAfter p h.block before u → (c : ℕ) → Contains u.children c → h.block ≡ (known t.index c).block
+      → (d : Value) × (d.id ≡ c) × Contains before d
+  earlier before u stands_here c has block =
       let first = first_arrival p h.block h.passed h.reached.path in
-      let covered : IsCovered p h.block h.before c =
-      All-contains (IsCovered p h.block h.before) v.children c (h.valid.rules h.block h.before v (at p t start v h)).covered has in
+      let covered : IsCovered p h.block before c =
+      All-contains (IsCovered p h.block before) u.children c (h.valid.rules h.block before u stands_here).covered has in
       let d = covered first.0 first.1 in
       ⊎_elim
-      (λ (early : Contains h.before d.0). (d.0, d.1, early))
+      (λ (early : Contains before d.0). (d.0, d.1, early))
       (λ (there : (b : ℕ) × Contains first.0 b × Contains (values_of p b) d.0).
       let blocks : h.block ≡ there.0 = block ∙ ap (λ (q : ℕ). (known t.index q).block) (sym d.1)
       ∙ ap (λ (k : Known). k.block) (h.sound.is_known there.0 d.0 there.2) in
@@ -172,28 +173,28 @@ module _ (p : Procedure) (t : Tables) (start : Start) (v : Value) (h : Here p t 
       d.2
 
   module _ (d : Value) (early : Contains h.before d) (w : ℕ) (now : h.st.words d.id ≡ Some w) where
-    d_here : Contains (values_of p h.block) d
+    pub d_here : Contains (values_of p h.block) d
     d_here = subst (λ (l : List Value). Contains l d) (sym h.stands) (Contains-append_left h.before (v ∷ h.rest) d early)
 
     d_stands : (before : List Value) × StandsAfter p h.block before d
     d_stands = stands p h.block d d_here
 
-    d_known : known t.index d.id ≡ known_in h.block d
+    pub d_known : known t.index d.id ≡ known_in h.block d
     d_known = h.sound.is_known h.block d d_here
 
-    d_allows : AllowsTypes d.kind.opcode d.ty (types_of p d)
+    pub d_allows : AllowsTypes d.kind.opcode d.ty (types_of p d)
     d_allows = allowed d.kind.opcode d.ty (types_of p d) (h.valid.rules h.block (d_stands.0) d (d_stands.1)).typed
 
     -- the word of a child of it
-    d_child : (i c x : ℕ) → has_condition d.kind.opcode ≡ false → slice_get d.children i ≡ Some c → Contains d.children c → h.st.words c ≡ Some x
+    d_child : (i c x : ℕ) → takes_values d.kind.opcode ≡ false → slice_get d.children i ≡ Some c → Contains d.children c → h.st.words c ≡ Some x
         → (os : List Operand) (more : List Read) → words h.s.homes os ≡ Some more → words h.s.homes (use_of t c ∷ os) ≡ Some ((width_at t.index c, x) ∷ more)
     d_child i c x none there has x_now os more e =
         reads_use h.s.homes (width_at t.index c) (arg_of t c) os x more
         (child_word p h.valid t h.sound start h.passed h.block h.before (v ∷ h.rest) h.stands h.st h.reached h.s h.related c x
         (grandchild_ran p h.valid h.passed h.block h.before h.st h.reached d early (v ∷ h.rest) h.stands c has)
-        (readable p h.valid t h.sound start h.block d d_here i c there (λ k. no_condition t.index d.kind.opcode i k none)) x_now) e
+        (readable p h.valid t h.sound start h.block d d_here i c there (λ k. no_value t.index (pointers p) d.kind.opcode i d.id k none)) x_now) e
 
-    d_width : (c : ℕ) → width_at t.index c ≡ width_of (type_of p c)
+    pub d_width : (c : ℕ) → width_at t.index c ≡ width_of (type_of p c)
     d_width c = width_is p h.valid t h.sound start h.passed h.block h.before (v ∷ h.rest) h.stands h.st h.reached h.s h.related c
 
     compared : is_comparison d.kind.opcode ≡ true
@@ -250,7 +251,7 @@ module _ (p : Procedure) (t : Tables) (start : Start) (v : Value) (h : Here p t 
         (ap (λ (l : List ℕ). result opcode.BitAnd d.kind.chill d.ty l (types_of p d)) (sym two.words)
         ∙ ap (λ (q : Opcode). result q d.kind.chill d.ty done.words (types_of p d)) (sym ed) ∙ done.gives ∙ ap Gives same) in
         let power : 2 ^ bit_of k ≡ two.wy = eqb-true (2 ^ bit_of k) k bit ∙ y_is in
-        let none : has_condition d.kind.opcode ≡ false = ap has_condition ed in
+        let none : takes_values d.kind.opcode ≡ false = ap takes_values ed in
         record {
           reads = (width_at t.index x, two.wx) ∷ [];
           words_are = λ os more e. d_child 0 x two.wx none two.x_at two.x_in two.x_now os more e;
@@ -285,16 +286,18 @@ module _ (p : Procedure) (t : Tables) (start : Start) (v : Value) (h : Here p t 
             bit_tested (and_is d.kind.opcode outer.0) inner.0 inner.1
 
   pub decides : (c w : ℕ) → slice_get v.children 0 ≡ Some c → Contains v.children c → h.st.words c ≡ Some w
-      → ((k : Known) → condition_fits t.index v.kind.opcode 0 k ≡ true → (is_comparison k.opcode ≡ true) ⊎ (is_bit_test t.index k ≡ true))
+      → ((width : Width) (word : ℕ) → constant_fits v.kind.opcode 0 width word ≡ false) → sum_fits t.index (pointers p) v.kind.opcode 0 v.id ≡ false
+      → ((k : Known) → value_fits t.index (pointers p) v.kind.opcode 0 v.id k ≡ true → (is_comparison k.opcode ≡ true) ⊎ (is_bit_test t.index k ≡ true))
       → Decides h.s.homes (condition_of t c) w
-  decides c w first has now kinds = go (folds t c) refl
+  decides c w first has now never no_sum kinds = go (folds t c) refl
     where
       folded : folds t c ≡ true → Decides h.s.homes (folded_condition t c) w
       folded f =
-          elim (fit_cases t h.block v.kind.opcode 0 c (h.sound.uses_fit h.block 0 c v (here p t start v h) first f)) [
-            | inl constant ↦ absurd (let bad : false ≡ true = constant.fits in cc)
-            | inr fitting ↦
-                let d = stands_before c has fitting.block in
+          elim (fit_cases t (pointers p) h.block v.kind.opcode 0 v.id c (h.sound.uses_fit h.block 0 c v (here p t start v h) first f)) [
+            | inl constant ↦ absurd (let bad : true ≡ false = sym constant.fits ∙ never (width_at t.index c) (known t.index c).word in cc)
+            | inr (inl in_sum) ↦ absurd (let bad : true ≡ false = sym in_sum.fits ∙ no_sum in cc)
+            | inr (inr fitting) ↦
+                let d = earlier h.before v (at p t start v h) c has fitting.block in
                 subst (λ (q : ℕ). Decides h.s.homes (folded_condition t q) w) d.1
                 (folded_decides d.0 d.2 w (ap h.st.words d.1 ∙ now)
                 (subst (λ (k : Known). (is_comparison k.opcode ≡ true) ⊎ (is_bit_test t.index k ≡ true))

@@ -30,8 +30,9 @@ use Rattle.air_ir.specs.Meaning.{Over, To}
 use Rattle.air_ir.specs.Operands.{Holds, read}
 use Rattle.air_ir.specs.Steps.{Goes, Outcome as Ran, State}
 use Rattle.air_select.specs.Selected.{Tables, names_argument, targets_of}
-use Rattle.air_select.specs.Tables.{home, width_at}
-use Rattle.air_select.specs.declared.known.Known.{Known}
+use Rattle.air_select.specs.Temporaries.{home}
+use Rattle.air_fold.specs.Values.{width_at}
+use Rattle.air_fold.specs.declared.known.Known.{Known}
 use Rattle.air_select.proofs.Instructions.{with_home}
 use Rattle.air_select.proofs.Related.{Related, holds_word, word_related}
 use Rattle.air_select.proofs.Setting.{IsSound}
@@ -57,14 +58,14 @@ pub record Here (p : Procedure) (t : Tables) (start : Start) (v : Value) : Type 
   pub s : State
   pub related : Related p t start st s
 
--- what the instructions come to, with all junk left, for what the value leads to
+-- what the instructions come to, with all junk left where the run goes on, for what the value leads to
 abbrev pub Does : Procedure → Tables → Start → Value → List ℕ → b3.Effect → Ran × List ℕ → Type 0
 Does p t start v junk (b3.Next st) o = (s : State) × (o ≡ (Goes None s, junk)) × Related p t start st s
 Does p t start v junk (b3.To block st) o =
     (k : ℕ) × (s : State) × (o ≡ (Goes (Some (To k)) s, junk)) × (slice_get (targets_of v) k ≡ Some (block + 1))
     × Related p t start st s
 Does p t start v junk (b3.End (b3.Over seen)) o =
-    (status : Status) × (s : State) × (o ≡ (Goes (Some (Over status)) s, junk)) × (seen_as s.world status ≡ seen)
+    (status : Status) × (s : State) × (rest : List ℕ) × (o ≡ (Goes (Some (Over status)) s, rest)) × (seen_as s.world status ≡ seen)
 Does p t start v junk (b3.End config) o = Unit {0}
 
 module _ (p : Procedure) (t : Tables) (start : Start) (v : Value) (h : Here p t start v) where
@@ -105,7 +106,7 @@ module _ (p : Procedure) (t : Tables) (start : Start) (v : Value) (h : Here p t 
       rw rules.typed refl in
       all ∙ ap (b3.effect_on (type_of p) start h.st v) are_words
 
-  below_is : (limit : ℕ) (out : Outcome) (w : ℕ) → IsBelow limit out → out ≡ Gives w → w < limit
+  pub below_is : (limit : ℕ) (out : Outcome) (w : ℕ) → IsBelow limit out → out ≡ Gives w → w < limit
   below_is limit (Gives word) w below e = let same : word ≡ w = cc in subst (λ n. n < limit) same below
   below_is limit (Undefines u) w below e = absurd (cc)
   below_is limit Misfits w below e = absurd (cc)

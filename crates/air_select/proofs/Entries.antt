@@ -6,9 +6,9 @@ use Rattle.b3_ir.specs.declared.opcode.Opcode.{Opcode}
 use Rattle.b3_ir.specs.declared.opcode.Opcode.TheVariants as opcode
 use Rattle.b3_ir.specs.declared.value.Value.{Value}
 use Rattle.b3_rules.specs.Rules.{first_return, if_return}
-use Rattle.air_select.specs.Indexed.{is_return}
+use Rattle.air_select.specs.Returning.{is_return}
 use Rattle.air_select.specs.Selected.{last_id, names_argument, names_register}
-use Rattle.air_select.proofs.Places.{row, values_in}
+use Rattle.air_fold.proofs.Places.{row, values_in}
 
 -- ---- the arguments that are named
 

@@ -19,8 +19,8 @@ use Rattle.b3_sound.proofs.Keeping.{ran_in_block}
 use Rattle.b3_sound.proofs.Kept.{IsKept}
 use Rattle.b3_sound.proofs.Lists.{contains_split}
 use Rattle.b3_sound.proofs.Reached.{IsReached}
-use Rattle.air_select.specs.Foldable.{is_constant}
-use Rattle.air_select.specs.Tables.{word_in}
+use Rattle.air_fold.specs.Foldable.{is_constant}
+use Rattle.air_fold.specs.Values.{word_in}
 
 -- a constant carries its word
 pub constant_role : (op : Opcode) → is_constant op ≡ true → role_of op ≡ role.Constant

@@ -1,5 +1,5 @@
 -- Folded values: no instruction is made for one, and the instruction of its use carries it.
-use Rattle.std.proofs.Common.{◌≡◌, ℕ, zero, suc, ◌+◌, ◌-◌, ◌^◌, ◌<◌, inl, inr, Bool, true, false, ◌&&◌, ◌||◌, List, [], ◌∷◌, ◌++◌, Option, Some, None, length, map, take, refl, sym, ap, ◌∙◌, subst, arith, length-append}
+use Rattle.std.proofs.Common.{◌≡◌, ℕ, zero, suc, ◌+◌, ◌-◌, ◌^◌, ◌<◌, inl, inr, Bool, true, false, ◌&&◌, ◌||◌, List, [], ◌∷◌, ◌++◌, Option, Some, None, length, map, take, refl, sym, ap, ◌∙◌, subst, arith, nat_eq, length-append}
 use Rattle.std.specs.Prelude.{All, Contains, if◌then◌else◌, slice_get, slice_index_or}
 use Rattle.std.specs.List.{flat_map}
 use Rattle.std.specs.Option.{option_map}
@@ -25,107 +25,27 @@ use Rattle.b3_rules.specs.Rules.{types_of}
 use Rattle.b3_rules.specs.Valid.{IsValidProcedure}
 use Rattle.b3_sound.proofs.FromValid.{is_kept}
 use Rattle.b3_sound.proofs.Kept.{EndsBlock}
+use Rattle.b3_meaning.specs.declared.role.Extent.{Extent}
+use Rattle.b3_meaning.specs.declared.role.Extent.TheVariants.{Byte, Half, Whole}
+use Rattle.air_ir.specs.Forms.{NoImmediate, OnlyZero}
+use Rattle.air_ir.specs.Kinds.{extent_bytes}
 use Rattle.air_ir.specs.declared.op.AirOp.{AirOp}
 use Rattle.air_ir.specs.declared.op.AirOp.TheVariants as op
 use Rattle.air_ir.specs.declared.op.Test.TheVariants.{Bit, Compare}
 use Rattle.air_ir.specs.declared.operand.Arg.TheVariants.{At, Imm}
 use Rattle.air_ir.specs.declared.procedure.AirBlock.{AirBlock}
 use Rattle.air_ir.specs.declared.procedure.AirInst.{AirInst}
-use Rattle.air_select.specs.Contract.{CarriesBits, CarriesComparisons, CarriesConstants, HasSecond, IsFolded, IsMade, NoneIsMade, TestsBit, TestsComparison, carried_word, test_in}
-use Rattle.air_select.specs.Foldable.{bit_of, condition_fits, is_and, is_bit, is_bit_test, is_comparison, is_constant, is_foldable, is_immediate, second_immediates, uses}
-use Rattle.air_select.specs.Selected.{Condition, Tables, argument_moves, argument_move, arg_of, block_code, branch_on, code_of, computes, condition, condition_of, entry_of, folds, inst, last_id, names_argument, negative_amount, op_of, result_of, return_of, rotate_by, select_on, selected, selected_by, tables, turned, use_at, use_of, value_code}
-use Rattle.air_select.specs.Tables.{Index, child, first_extra, ids_of, index_of, known, known_in, word_in}
-use Rattle.air_select.specs.declared.known.Known.{Known}
+use Rattle.air_select.specs.Contract.{CarriesBits, CarriesComparisons, CarriesConstants, CarriesStored, CarriesSums, HasAddress, HasFirst, HasSecond, IsFolded, IsMade, NoneIsMade, TestsBit, TestsComparison, carried_word, test_in}
+use Rattle.air_fold.specs.Foldable.{access_bytes, bit_of, first_fits, first_immediates, is_add, is_and, is_bit, is_bit_test, is_comparison, is_constant, is_foldable, is_immediate, is_index, is_pointer, is_shl, is_store, pointer_of, pointers, reaches, second_fits, second_immediates, sum_fits, uses, value_fits}
+use Rattle.air_select.specs.Selected.{Condition, Tables, access, address_of, arg_of, argument_move, argument_moves, before_access, block_code, branch_on, code_of, computes, condition, condition_of, entry_of, folds, inst, last_id, load_of, names_argument, negative_amount, op_of, result_of, return_of, rotate_by, select_on, selected, selected_by, store_of, sum_address, tables, turned, use_at, use_of, value_code}
+use Rattle.air_select.specs.Temporaries.{first_extra}
+use Rattle.air_fold.specs.Values.{Index, child, ids_of, index_of, known, known_in, width_at, word_in}
+use Rattle.air_fold.specs.declared.known.Known.{Known}
 use Rattle.air_select.proofs.Children.{fit_cases}
-use Rattle.air_select.proofs.Places.{at_place, get_behind, get_front, get_within, in_blocks, known_is, place_is, row_get, split_at}
-use Rattle.air_select.proofs.Sites.{All-slice, all_one, all_three, all_two}
+use Rattle.air_fold.proofs.Places.{at_place, get_behind, get_front, get_within, in_blocks, known_is, place_is, row_get, split_at}
+use Rattle.air_select.proofs.Pieces.{IsFor, code_is, entry_for, flat_found, flat_get, made_for, unfolded_by}
+use Rattle.air_select.proofs.Sites.{All-slice}
 use Rattle.air_select.proofs.Sound.{both_first, both_second, foldable_kind, sound}
-
--- ---- pieces of a list
-
--- an item of the piece of a part
-flat_get : {X Y : Type 0} (f : X → List Y) (xs : List X) (j : ℕ) (x : X) (n : ℕ) (y : Y) → slice_get xs j ≡ Some x → slice_get (f x) n ≡ Some y
-    → slice_get (flat_map f xs) (length (flat_map f (take j xs)) + n) ≡ Some y
-flat_get f [] j x n y there at = absurd cc
-flat_get f (z ∷ xs) zero x n y there at =
-    let same : x ≡ z = cc in
-    let first : 0 + n ≡ n = omega arith in
-    ap (slice_get (f z ++ flat_map f xs)) first ∙ get_front (f z) (flat_map f xs) n y (subst (λ w. slice_get (f w) n ≡ Some y) same at)
-flat_get f (z ∷ xs) (suc j) x n y there at =
-    let far : length (f z ++ flat_map f (take j xs)) + n ≡ length (f z) + (length (flat_map f (take j xs)) + n) =
-    omega (arith, length-append (f z) (flat_map f (take j xs))) in
-    ap (slice_get (f z ++ flat_map f xs)) far ∙ get_behind (f z) (flat_map f xs) (length (flat_map f (take j xs)) + n) ∙ flat_get f xs j x n y there at
-
-record IsPieceOf {X Y : Type 0} (f : X → List Y) (xs : List X) (y : Y) : Type 0 where
-  at : ℕ
-  part : X
-  there : slice_get xs at ≡ Some part
-  within : ℕ
-  here : slice_get (f part) within ≡ Some y
-
-flat_found : {X Y : Type 0} (f : X → List Y) (xs : List X) (k : ℕ) (y : Y) → slice_get (flat_map f xs) k ≡ Some y → IsPieceOf f xs y
-flat_found f [] k y e = absurd cc
-flat_found f (x ∷ xs) k y e =
-    elim (cases_lt k (length (f x))) [
-      | inl less ↦ record { at = 0; part = x; there = refl; within = k; here = get_within (f x) (flat_map f xs) k y less e }
-      | inr past ↦
-          let m : ℕ = k - length (f x) in
-          let split : length (f x) + m ≡ k = omega arith in
-          let more = flat_found f xs m y (sym (get_behind (f x) (flat_map f xs) m) ∙ ap (slice_get (flat_map f (x ∷ xs))) split ∙ e) in
-          record { at = suc more.at; part = more.part; there = more.there; within = more.within; here = more.here }
-    ]
-
--- ---- what an instruction is made for
-
-abbrev IsFor : ℕ → AirInst → Type 0
-IsFor id i = i.value ≡ id
-
-module _ (t : Tables) (v : Value) where
-  either_for : (b : Bool) (is other : List AirInst) → All (IsFor v.id) is → All (IsFor v.id) other → All (IsFor v.id) (if b then is else other)
-  either_for true is other h k = h
-  either_for false is other h k = k
-
-  return_for : (cs : List ℕ) → All (IsFor v.id) (return_of t v cs)
-  return_for [] = all_one (IsFor v.id) _ refl
-  return_for (c ∷ cs) = all_two (IsFor v.id) _ _ refl refl
-
-  code_for : (o : Opcode) → All (IsFor v.id) (code_of t o v)
-  code_for opcode.Nop = All-nil (IsFor v.id)
-  code_for opcode.Mod = either_for v.kind.chill _ _ (all_three (IsFor v.id) _ _ _ refl refl refl) (all_two (IsFor v.id) _ _ refl refl)
-  code_for opcode.UMod = either_for v.kind.chill _ _ (all_three (IsFor v.id) _ _ _ refl refl refl) (all_two (IsFor v.id) _ _ refl refl)
-  code_for opcode.RotL = either_for (folds t (child v.children 1)) _ _ (all_one (IsFor v.id) _ refl) (all_two (IsFor v.id) _ _ refl refl)
-  code_for opcode.Return = return_for v.children
-  code_for _ = all_one (IsFor v.id) _ refl
-
-  made_for : All (IsFor v.id) (value_code t v)
-  unfolding value_code
-  made_for = either_for (folds t v.id) [] (code_of t v.kind.opcode v) (All-nil (IsFor v.id)) (code_for v.kind.opcode)
-
-  -- a value that has an instruction is not folded
-  unfolded_by : (n : ℕ) (i : AirInst) → slice_get (value_code t v) n ≡ Some i → folds t v.id ≡ false
-  unfolding value_code
-  unfolded_by n i e = by (folds t v.id) e
-    where
-      by : (b : Bool) → slice_get (if b then [] else code_of t v.kind.opcode v) n ≡ Some i → b ≡ false
-      by true at = absurd cc
-      by false at = refl
-
-  code_is : folds t v.id ≡ false → value_code t v ≡ code_of t v.kind.opcode v
-  unfolding value_code
-  code_is e = rw e refl
-
-moves_for : (x : Index) (vs : List Value) (value n : ℕ) → All (IsFor value) (argument_moves x vs value n)
-moves_for x vs value zero = All-nil (IsFor value)
-moves_for x vs value (suc r) =
-    All-append (IsFor value) (argument_moves x vs value r) _ (moves_for x vs value r) (by (names_argument vs r))
-  where
-    by : (b : Bool) → All (IsFor value) (if b then argument_move x value r ∷ [] else [])
-    by true = all_one (IsFor value) _ refl
-    by false = All-nil (IsFor value)
-
-entry_for : (x : Index) (vs : List Value) → All (IsFor (last_id vs)) (entry_of x vs).insts
-unfolding entry_of
-entry_for x vs = All-append (IsFor (last_id vs)) (argument_moves x vs (last_id vs) 8) _ (moves_for x vs (last_id vs) 8) (all_one (IsFor (last_id vs)) _ refl)
 
 -- ---- opcodes
 
@@ -152,6 +72,39 @@ constant_no_and opcode.Const32 e c = cc
 constant_no_and opcode.Const64 e c = cc
 constant_no_and _ e c = cc
 
+ending_no_add : (o : Opcode) → is_terminal o ≡ true → is_add o ≡ true → ⊥
+ending_no_add opcode.Add e c = cc
+ending_no_add _ e c = cc
+
+ending_no_shl : (o : Opcode) → is_terminal o ≡ true → is_shl o ≡ true → ⊥
+ending_no_shl opcode.Shl e c = cc
+ending_no_shl _ e c = cc
+
+constant_no_add : (o : Opcode) → is_constant o ≡ true → is_add o ≡ true → ⊥
+constant_no_add opcode.Const32 e c = cc
+constant_no_add opcode.Const64 e c = cc
+constant_no_add _ e c = cc
+
+comparison_no_shl : (o : Opcode) → is_comparison o ≡ true → is_shl o ≡ true → ⊥
+comparison_no_shl opcode.Shl e c = cc
+comparison_no_shl _ e c = cc
+
+comparison_no_add : (o : Opcode) → is_comparison o ≡ true → is_add o ≡ true → ⊥
+comparison_no_add opcode.Add e c = cc
+comparison_no_add _ e c = cc
+
+and_no_shl : (o : Opcode) → is_and o ≡ true → is_shl o ≡ true → ⊥
+and_no_shl opcode.BitAnd e c = cc
+and_no_shl _ e c = cc
+
+and_no_add : (o : Opcode) → is_and o ≡ true → is_add o ≡ true → ⊥
+and_no_add opcode.BitAnd e c = cc
+and_no_add _ e c = cc
+
+add_no_shl : (o : Opcode) → is_add o ≡ true → is_shl o ≡ true → ⊥
+add_no_shl opcode.Add e c = cc
+add_no_shl _ e c = cc
+
 and_no_comparison : (o : Opcode) → is_and o ≡ true → is_comparison o ≡ false
 and_no_comparison opcode.BitAnd e = refl
 and_no_comparison _ e = absurd cc
@@ -161,14 +114,117 @@ record HasNoKind (o : Opcode) : Type 0 where
   constant : is_constant o ≡ false
   comparison : is_comparison o ≡ false
   conjunction : is_and o ≡ false
-
-user_kind : (x : Index) (o : Opcode) (i : ℕ) (k : Known) → condition_fits x o i k ≡ true → HasNoKind o
-user_kind x opcode.Branch i k e = record { constant = refl; comparison = refl; conjunction = refl }
-user_kind x opcode.Select i k e = record { constant = refl; comparison = refl; conjunction = refl }
-user_kind x _ i k e = absurd cc
+  sum : is_add o ≡ false
+  shift : is_shl o ≡ false
 
 not_both : (b : Bool) → b ≡ true → b ≡ false → ⊥
 not_both b e f = let bad : true ≡ false = sym e ∙ f in cc
+
+-- which conditions fit
+abbrev condition_fits : Index → Opcode → ℕ → Known → Bool
+condition_fits x opcode.Branch zero k = is_comparison k.opcode || is_bit_test x k
+condition_fits x opcode.Select zero k = is_comparison k.opcode
+condition_fits x op at k = false
+
+user_kind : (x : Index) (o : Opcode) (i : ℕ) (k : Known) → condition_fits x o i k ≡ true → HasNoKind o
+user_kind x opcode.Branch i k e = record { constant = refl; comparison = refl; conjunction = refl; sum = refl; shift = refl }
+user_kind x opcode.Select i k e = record { constant = refl; comparison = refl; conjunction = refl; sum = refl; shift = refl }
+user_kind x _ i k e = absurd cc
+
+-- what fits and is no sum and no shift is a condition
+no_sum_fits : (x : Index) (user : ℕ) (o : Opcode) (w : Bool) (k : Known) → pointer_of x user o w k ≡ true → (is_add k.opcode ≡ true → ⊥) → ⊥
+no_sum_fits x user o w k e other =
+    other (both_first (is_add k.opcode) (reaches (access_bytes x o (known x user)) w (known x user).offset (known x k.second)) e)
+
+only_first : (x : Index) (o : Opcode) (user : ℕ) (k : Known) → first_fits x o user k ≡ true → (is_add k.opcode ≡ true → ⊥) → condition_fits x o 0 k ≡ true
+only_first x opcode.Branch user k e other = e
+only_first x opcode.Select user k e other = e
+only_first x opcode.Load8Z user k e other = absurd (no_sum_fits x user opcode.Load8Z false k e other)
+only_first x opcode.Load8S user k e other = absurd (no_sum_fits x user opcode.Load8S false k e other)
+only_first x opcode.Load16Z user k e other = absurd (no_sum_fits x user opcode.Load16Z false k e other)
+only_first x opcode.Load16S user k e other = absurd (no_sum_fits x user opcode.Load16S false k e other)
+only_first x opcode.Load user k e other = absurd (no_sum_fits x user opcode.Load true k e other)
+only_first x _ user k e other = absurd cc
+
+no_second_fits : (x : Index) (f : List Bool) (o : Opcode) (user : ℕ) (k : Known) → second_fits x f o user k ≡ true → (is_add k.opcode ≡ true → ⊥)
+    → (is_shl k.opcode ≡ true → ⊥) → ⊥
+no_second_fits x f opcode.Store8 user k e other also = no_sum_fits x user opcode.Store8 false k e other
+no_second_fits x f opcode.Store16 user k e other also = no_sum_fits x user opcode.Store16 false k e other
+no_second_fits x f opcode.Store user k e other also = no_sum_fits x user opcode.Store true k e other
+no_second_fits x f opcode.Add user k e other also =
+    also (both_first (is_shl k.opcode) (is_constant (known x k.second).opcode && nat_eq (known x k.second).word 3)
+    (both_second (is_pointer x f user) (is_index x k) e))
+no_second_fits x f _ user k e other also = cc
+
+only_condition : (x : Index) (f : List Bool) (o : Opcode) (i user : ℕ) (k : Known) → value_fits x f o i user k ≡ true → (is_add k.opcode ≡ true → ⊥)
+    → (is_shl k.opcode ≡ true → ⊥) → condition_fits x o i k ≡ true
+only_condition x f o zero user k e other also = only_first x o user k e other
+only_condition x f o (suc zero) user k e other also = absurd (no_second_fits x f o user k e other also)
+only_condition x f o (suc (suc i)) user k e other also = absurd cc
+
+-- accesses
+abbrev is_access : Opcode → Bool
+is_access opcode.Load8Z = true
+is_access opcode.Load8S = true
+is_access opcode.Load16Z = true
+is_access opcode.Load16S = true
+is_access opcode.Load = true
+is_access opcode.Store8 = true
+is_access opcode.Store16 = true
+is_access opcode.Store = true
+is_access _ = false
+
+store_kind : (o : Opcode) → is_store o ≡ true → HasNoKind o
+store_kind opcode.Store8 e = record { constant = refl; comparison = refl; conjunction = refl; sum = refl; shift = refl }
+store_kind opcode.Store16 e = record { constant = refl; comparison = refl; conjunction = refl; sum = refl; shift = refl }
+store_kind opcode.Store e = record { constant = refl; comparison = refl; conjunction = refl; sum = refl; shift = refl }
+store_kind _ e = absurd cc
+
+access_kind : (o : Opcode) → is_access o ≡ true → HasNoKind o
+access_kind opcode.Load8Z e = record { constant = refl; comparison = refl; conjunction = refl; sum = refl; shift = refl }
+access_kind opcode.Load8S e = record { constant = refl; comparison = refl; conjunction = refl; sum = refl; shift = refl }
+access_kind opcode.Load16Z e = record { constant = refl; comparison = refl; conjunction = refl; sum = refl; shift = refl }
+access_kind opcode.Load16S e = record { constant = refl; comparison = refl; conjunction = refl; sum = refl; shift = refl }
+access_kind opcode.Load e = record { constant = refl; comparison = refl; conjunction = refl; sum = refl; shift = refl }
+access_kind opcode.Store8 e = record { constant = refl; comparison = refl; conjunction = refl; sum = refl; shift = refl }
+access_kind opcode.Store16 e = record { constant = refl; comparison = refl; conjunction = refl; sum = refl; shift = refl }
+access_kind opcode.Store e = record { constant = refl; comparison = refl; conjunction = refl; sum = refl; shift = refl }
+access_kind _ e = absurd cc
+
+-- a sum that fits is the pointer of an access
+add_facts : (o : Opcode) → is_add o ≡ true → (is_comparison o ≡ false) × (is_and o ≡ false) × (is_shl o ≡ false) × (is_constant o ≡ false)
+add_facts opcode.Add e = (refl, refl, refl, refl)
+add_facts _ e = absurd cc
+
+no_test : (x : Index) (k : Known) → is_and k.opcode ≡ false → is_bit_test x k ≡ true → ⊥
+no_test x k none e = not_both (is_and k.opcode) (both_first (is_and k.opcode) (is_constant (known x k.second).opcode && is_bit (known x k.second).word) e) none
+
+add_first : (x : Index) (o : Opcode) (user : ℕ) (k : Known) → first_fits x o user k ≡ true → is_add k.opcode ≡ true → is_access o ≡ true
+add_first x opcode.Branch user k e add =
+    let facts = add_facts k.opcode add in
+    absurd (no_test x k facts.1 (sym (ap (λ b. b || is_bit_test x k) facts.0) ∙ e))
+add_first x opcode.Select user k e add = absurd (not_both (is_comparison k.opcode) e (add_facts k.opcode add).0)
+add_first x opcode.Load8Z user k e add = refl
+add_first x opcode.Load8S user k e add = refl
+add_first x opcode.Load16Z user k e add = refl
+add_first x opcode.Load16S user k e add = refl
+add_first x opcode.Load user k e add = refl
+add_first x _ user k e add = absurd cc
+
+add_second : (x : Index) (f : List Bool) (o : Opcode) (user : ℕ) (k : Known) → second_fits x f o user k ≡ true → is_add k.opcode ≡ true → is_access o ≡ true
+add_second x f opcode.Store8 user k e add = refl
+add_second x f opcode.Store16 user k e add = refl
+add_second x f opcode.Store user k e add = refl
+add_second x f opcode.Add user k e add =
+    absurd (not_both (is_shl k.opcode)
+    (both_first (is_shl k.opcode) (is_constant (known x k.second).opcode && nat_eq (known x k.second).word 3)
+    (both_second (is_pointer x f user) (is_index x k) e)) (add_facts k.opcode add).2)
+add_second x f _ user k e add = absurd cc
+
+-- a store stores 0 alone of constants
+zero_stored : (o : Opcode) (width : Width) (word : ℕ) → is_store o ≡ true → is_immediate (first_immediates o) width word ≡ true → word ≡ 0
+zero_stored o width word store fits =
+    eqb-true word 0 (subst (λ (b : Bool). is_immediate (if b then OnlyZero else NoImmediate) width word ≡ true) store fits)
 
 -- ---- the code of a use
 
@@ -180,6 +236,9 @@ child_is : (cs : List ℕ) (i id : ℕ) → slice_get cs i ≡ Some id → child
 child_is cs i id e = get_or_from_slice_get cs i id 0 e
 
 module _ (t : Tables) (v : Value) (id : ℕ) (folded : folds t id ≡ true) where
+  sum_is : (bytes : ℕ) → address_of t v id bytes ≡ sum_address t v (known t.index id)
+  sum_is bytes = rw folded refl
+
   arg_is : arg_of t id ≡ Imm (known t.index id).word
   arg_is = rw folded refl
 
@@ -237,6 +296,84 @@ module _ (t : Tables) (v : Value) (id : ℕ) (folded : folds t id ≡ true) wher
   carries_second opcode.AboveEqual width word e at = computes_second (op_of opcode.AboveEqual) at
   carries_second opcode.BelowEqual width word e at = computes_second (op_of opcode.BelowEqual) at
   carries_second _ width word e at = absurd cc
+
+  -- a store carries the 0 that it stores
+  store_first : (air_op : AirOp) (extent : Extent) → slice_get v.children 0 ≡ Some id → (known t.index id).word ≡ 0
+      → HasInst (store_of t v air_op extent) (HasFirst 0)
+  store_first air_op extent at none =
+      let from = child v.children 0 in
+      let width = width_at t.index from in
+      let pointer = child v.children 1 in
+      let bytes = extent_bytes extent width in
+      let before = before_access t v pointer bytes in
+      let last : AirInst = access v air_op (use_of t from ∷ use_at width (address_of t v pointer bytes) ∷ []) in (
+        length before + 0,
+        last,
+        get_behind before (last ∷ []) 0,
+        (use_of t from, refl, ap (arg_of t) (child_is v.children 0 id at) ∙ arg_is ∙ ap Imm none),
+      )
+
+  carries_first : (o : Opcode) → is_store o ≡ true → slice_get v.children 0 ≡ Some id → (known t.index id).word ≡ 0 → HasInst (code_of t o v) (HasFirst 0)
+  carries_first opcode.Store8 e at none = store_first op.Store8 Byte at none
+  carries_first opcode.Store16 e at none = store_first op.Store16 Half at none
+  carries_first opcode.Store e at none = store_first op.Store Whole at none
+  carries_first _ e at none = absurd cc
+
+  -- an access carries the sum that is its pointer
+  load_address : (air_op : AirOp) (extent : Extent) → slice_get v.children 0 ≡ Some id
+      → HasInst (load_of t v air_op extent) (HasAddress (sum_address t v (known t.index id)))
+  load_address air_op extent at =
+      let pointer = child v.children 0 in
+      let width = width_of v.ty in
+      let bytes = extent_bytes extent width in
+      let before = before_access t v pointer bytes in
+      let address = use_at width (address_of t v pointer bytes) in
+      let last : AirInst = access v air_op (address ∷ result_of t v ∷ []) in (
+        length before + 0,
+        last,
+        get_behind before (last ∷ []) 0,
+        (0, address, refl, ap (λ n. address_of t v n bytes) (child_is v.children 0 id at) ∙ sum_is bytes),
+      )
+
+  store_address : (air_op : AirOp) (extent : Extent) → slice_get v.children 1 ≡ Some id
+      → HasInst (store_of t v air_op extent) (HasAddress (sum_address t v (known t.index id)))
+  store_address air_op extent at =
+      let from = child v.children 0 in
+      let width = width_at t.index from in
+      let pointer = child v.children 1 in
+      let bytes = extent_bytes extent width in
+      let before = before_access t v pointer bytes in
+      let address = use_at width (address_of t v pointer bytes) in
+      let last : AirInst = access v air_op (use_of t from ∷ address ∷ []) in (
+        length before + 0,
+        last,
+        get_behind before (last ∷ []) 0,
+        (1, address, refl, ap (λ n. address_of t v n bytes) (child_is v.children 1 id at) ∙ sum_is bytes),
+      )
+
+  carries_first_sum : (o : Opcode) → first_fits t.index o v.id (known t.index id) ≡ true → is_access o ≡ true → slice_get v.children 0 ≡ Some id
+      → HasInst (code_of t o v) (HasAddress (sum_address t v (known t.index id)))
+  carries_first_sum opcode.Load8Z e is at = load_address op.Load8Z Byte at
+  carries_first_sum opcode.Load8S e is at = load_address op.Load8S Byte at
+  carries_first_sum opcode.Load16Z e is at = load_address op.Load16Z Half at
+  carries_first_sum opcode.Load16S e is at = load_address op.Load16S Half at
+  carries_first_sum opcode.Load e is at = load_address op.Load Whole at
+  carries_first_sum _ e is at = absurd cc
+
+  carries_second_sum : (f : List Bool) (o : Opcode) → second_fits t.index f o v.id (known t.index id) ≡ true → is_access o ≡ true → slice_get v.children 1 ≡ Some id
+      → HasInst (code_of t o v) (HasAddress (sum_address t v (known t.index id)))
+  carries_second_sum f opcode.Store8 e is at = store_address op.Store8 Byte at
+  carries_second_sum f opcode.Store16 e is at = store_address op.Store16 Half at
+  carries_second_sum f opcode.Store e is at = store_address op.Store Whole at
+  carries_second_sum f _ e is at = absurd cc
+
+  carries_sum : (f : List Bool) (o : Opcode) (i : ℕ) → value_fits t.index f o i v.id (known t.index id) ≡ true → is_add (known t.index id).opcode ≡ true
+      → slice_get v.children i ≡ Some id → (is_access o ≡ true) × HasInst (code_of t o v) (HasAddress (sum_address t v (known t.index id)))
+  carries_sum f o zero e add at =
+      let is = add_first t.index o v.id (known t.index id) e add in (is, carries_first_sum o e is at)
+  carries_sum f o (suc zero) e add at =
+      let is = add_second t.index f o v.id (known t.index id) e add in (is, carries_second_sum f o e is at)
+  carries_sum f o (suc (suc i)) e add at = absurd cc
 
   -- the condition of a comparison, and of a bit
   abbrev comparing : Known → Condition
@@ -346,14 +483,16 @@ module _ (p : Procedure) (valid : IsValidProcedure p) (fit : AllFit p.blocks) wh
       by : (c : Bool) → is_foldable p v.id ≡ c → is_foldable p v.id ≡ false
       by false e = e
       by true e =
-          absurd (elim (foldable_kind (index_of p) (uses p) v.id (known_in b v) (known_is p valid b j v at) e) [
+          absurd (elim (foldable_kind (index_of p) (pointers p) (uses p) v.id (known_in b v) (known_is p valid b j v at) e) [
             | inl constant ↦ ending_no_constant v.kind.opcode ends constant
             | inr other ↦ elim other [
               | inl comparison ↦ ending_no_comparison v.kind.opcode ends comparison
-              | inr bit ↦
+              | inr (inl bit) ↦
                   ending_no_and v.kind.opcode ends
                   (both_first (is_and v.kind.opcode)
                   (is_constant (known (index_of p) (child v.children 1)).opcode && is_bit (known (index_of p) (child v.children 1)).word) bit)
+              | inr (inr (inl sum)) ↦ ending_no_add v.kind.opcode ends sum
+              | inr (inr (inr shift)) ↦ ending_no_shl v.kind.opcode ends shift
             ]
           ])
 
@@ -404,6 +543,15 @@ module _ (p : Procedure) (valid : IsValidProcedure p) (fit : AllFit p.blocks) wh
   abbrev index : Index
   index = index_of p
 
+  -- the constant of a sum that isn't folded is an immediate
+  in_no_sum : (o : Opcode) (user : ℕ) → (is_add o ≡ true → is_pointer index (pointers p) user ≡ false) → sum_fits index (pointers p) o 1 user ≡ true → ⊥
+  in_no_sum opcode.Add user free e = not_both (is_pointer index (pointers p) user) e (free refl)
+  in_no_sum _ user free e = cc
+
+  first_no_sum : (o : Opcode) (user : ℕ) → sum_fits index (pointers p) o 0 user ≡ true → ⊥
+  first_no_sum opcode.Add user e = cc
+  first_no_sum _ user e = cc
+
   constants : CarriesConstants p (selected p)
   constants b j c m v k at at_k unfolded constant folded child_at =
       let t = tables p in
@@ -411,9 +559,11 @@ module _ (p : Procedure) (valid : IsValidProcedure p) (fit : AllFit p.blocks) wh
       let is = known_is p valid c m k at_k in
       let fit = (sound p valid).uses_fit b 1 k.id v (contains_at (values_of p b) j v at) child_at k_folds in
       let has : HasInst (code_of t v.kind.opcode v) (HasSecond (carried_word v.kind.opcode v.ty (known index k.id).word)) =
-      elim (fit_cases t b v.kind.opcode 1 k.id fit) [
+      elim (fit_cases t (pointers p) b v.kind.opcode 1 v.id k.id fit) [
         | inl h ↦ carries_second t v k.id k_folds v.kind.opcode (width_of (known index k.id).ty) (known index k.id).word h.fits child_at
-        | inr h ↦ absurd (not_both (is_constant (known index k.id).opcode) (ap (λ (w : Known). is_constant w.opcode) is ∙ constant) h.constant)
+        | inr (inl h) ↦
+            absurd (in_no_sum v.kind.opcode v.id (λ add. (sound p valid).pointer b v (contains_at (values_of p b) j v at) add ∙ folds_at b j v at ∙ unfolded) h.fits)
+        | inr (inr h) ↦ absurd (not_both (is_constant (known index k.id).opcode) (ap (λ (w : Known). is_constant w.opcode) is ∙ constant) h.constant)
       ] in
       subst (λ (w : Known). IsMade (selected p) b v (HasSecond (carried_word v.kind.opcode v.ty w.word))) is
       (made b j v (HasSecond (carried_word v.kind.opcode v.ty (known index k.id).word)) at (folds_at b j v at ∙ unfolded) has)
@@ -429,22 +579,50 @@ module _ (p : Procedure) (valid : IsValidProcedure p) (fit : AllFit p.blocks) wh
             | inl constant ↦ not_both (is_constant v.kind.opcode) constant h.constant
             | inr other ↦ elim other [
               | inl comparison ↦ not_both (is_comparison v.kind.opcode) comparison h.comparison
-              | inr bit ↦
+              | inr (inr (inl sum)) ↦ not_both (is_add v.kind.opcode) sum h.sum
+              | inr (inr (inr shift)) ↦ not_both (is_shl v.kind.opcode) shift h.shift
+              | inr (inl bit) ↦
                   not_both (is_and v.kind.opcode)
                   (both_first (is_and v.kind.opcode)
                   (is_constant (known (index_of p) (child v.children 1)).opcode && is_bit (known (index_of p) (child v.children 1)).word) bit) h.conjunction
             ]
           ])
 
+  stored : CarriesStored p (selected p)
+  stored b j c m v k at at_k store constant folded child_at =
+      let t = tables p in
+      let k_folds : folds t k.id ≡ true = folds_at c m k at_k ∙ folded in
+      let is = known_is p valid c m k at_k in
+      let fit = (sound p valid).uses_fit b 0 k.id v (contains_at (values_of p b) j v at) child_at k_folds in
+      let has : HasInst (code_of t v.kind.opcode v) (HasFirst 0) =
+      elim (fit_cases t (pointers p) b v.kind.opcode 0 v.id k.id fit) [
+        | inl h ↦
+            carries_first t v k.id k_folds v.kind.opcode store child_at
+            (zero_stored v.kind.opcode (width_at index k.id) (known index k.id).word store h.fits)
+        | inr (inl h) ↦ absurd (first_no_sum v.kind.opcode v.id h.fits)
+        | inr (inr h) ↦ absurd (not_both (is_constant (known index k.id).opcode) (ap (λ (w : Known). is_constant w.opcode) is ∙ constant) h.constant)
+      ] in
+      made b j v (HasFirst 0) at (user_unfolded b j v at (store_kind v.kind.opcode store)) has
+
   -- how a child that is no constant fits
-  as_condition : (b j c m i : ℕ) (v k : Value) → StandsAt p b j v → StandsAt p c m k → (is_constant k.kind.opcode ≡ true → ⊥)
-      → folds (tables p) k.id ≡ true → slice_get v.children i ≡ Some k.id → condition_fits index v.kind.opcode i (known index k.id) ≡ true
-  as_condition b j c m i v k at at_k other folded child_at =
+  as_value : (b j c m i : ℕ) (v k : Value) → StandsAt p b j v → StandsAt p c m k → (is_constant k.kind.opcode ≡ true → ⊥)
+      → folds (tables p) k.id ≡ true → slice_get v.children i ≡ Some k.id → value_fits index (pointers p) v.kind.opcode i v.id (known index k.id) ≡ true
+  as_value b j c m i v k at at_k other folded child_at =
       let fit = (sound p valid).uses_fit b i k.id v (contains_at (values_of p b) j v at) child_at folded in
-      elim (fit_cases (tables p) b v.kind.opcode i k.id fit) [
-        | inl h ↦ absurd (other (sym (ap (λ (w : Known). is_constant w.opcode) (known_is p valid c m k at_k)) ∙ h.constant))
-        | inr h ↦ h.fits
+      let is = ap (λ (w : Known). is_constant w.opcode) (known_is p valid c m k at_k) in
+      elim (fit_cases (tables p) (pointers p) b v.kind.opcode i v.id k.id fit) [
+        | inl h ↦ absurd (other (sym is ∙ h.constant))
+        | inr (inl h) ↦ absurd (other (sym is ∙ h.constant))
+        | inr (inr h) ↦ h.fits
       ]
+
+  as_condition : (b j c m i : ℕ) (v k : Value) → StandsAt p b j v → StandsAt p c m k → (is_constant k.kind.opcode ≡ true → ⊥)
+      → (is_add k.kind.opcode ≡ true → ⊥) → (is_shl k.kind.opcode ≡ true → ⊥)
+      → folds (tables p) k.id ≡ true → slice_get v.children i ≡ Some k.id → condition_fits index v.kind.opcode i (known index k.id) ≡ true
+  as_condition b j c m i v k at at_k other no_sum no_shift folded child_at =
+      let is = known_is p valid c m k at_k in
+      only_condition index (pointers p) v.kind.opcode i v.id (known index k.id) (as_value b j c m i v k at at_k other folded child_at)
+      (λ e. no_sum (sym (ap (λ (w : Known). is_add w.opcode) is) ∙ e)) (λ e. no_shift (sym (ap (λ (w : Known). is_shl w.opcode) is) ∙ e))
 
   child_place : (v : Value) (id : ℕ) → Contains v.children id → (i : ℕ) × (slice_get v.children i ≡ Some id)
   child_place v id has = (has.0, slice_get-get_or v.children has.0 id has.1 ∙ ap Some has.2)
@@ -455,7 +633,8 @@ module _ (p : Procedure) (valid : IsValidProcedure p) (fit : AllFit p.blocks) wh
       let k_folds : folds t k.id ≡ true = folds_at c m k at_k ∙ folded in
       let is = known_is p valid c m k at_k in
       let i = child_place v k.id has in
-      let fit = as_condition b j c m i.0 v k at at_k (λ constant. constant_no_comparison k.kind.opcode constant comparison) k_folds i.1 in
+      let fit = as_condition b j c m i.0 v k at at_k (λ constant. constant_no_comparison k.kind.opcode constant comparison)
+      (λ add. comparison_no_add k.kind.opcode comparison add) (λ shift. comparison_no_shl k.kind.opcode comparison shift) k_folds i.1 in
       let inst_has = carries_comparison t v k.id k_folds v.kind.opcode i.0 fit (ap (λ (w : Known). is_comparison w.opcode) is ∙ comparison) i.1 in
       let cut = split_at (values_of p c) m k at_k in
       let rules = (is_kept p valid fit_all).rules c (take m (values_of p c)) k (cut.0, cut.1) in
@@ -479,7 +658,8 @@ module _ (p : Procedure) (valid : IsValidProcedure p) (fit : AllFit p.blocks) wh
       let k_folds : folds t k.id ≡ true = folds_at c m k at_k ∙ folded in
       let is = known_is p valid c m k at_k in
       let i = child_place v k.id has in
-      let fits_so = as_condition b j c m i.0 v k at at_k (λ constant. constant_no_and k.kind.opcode constant conjunction) k_folds i.1 in
+      let fits_so = as_condition b j c m i.0 v k at at_k (λ constant. constant_no_and k.kind.opcode constant conjunction)
+      (λ add. and_no_add k.kind.opcode conjunction add) (λ shift. and_no_shl k.kind.opcode conjunction shift) k_folds i.1 in
       let inst_has = carries_bit t v k.id k_folds v.kind.opcode i.0 fits_so (ap (λ (z : Known). is_and z.opcode) is ∙ conjunction) i.1 in
       let first : (known index k.id).first ≡ x = ap (λ (z : Known). z.first) is ∙ ap (λ l. child l 0) children in
       let second : (known index k.id).second ≡ w.id = ap (λ (z : Known). z.second) is ∙ ap (λ l. child l 1) children in
@@ -497,5 +677,16 @@ module _ (p : Procedure) (valid : IsValidProcedure p) (fit : AllFit p.blocks) wh
         ),
       )
 
+  sums : CarriesSums p (selected p)
+  sums b j c m v k at at_k add folded has =
+      let t = tables p in
+      let k_folds : folds t k.id ≡ true = folds_at c m k at_k ∙ folded in
+      let is = known_is p valid c m k at_k in
+      let i = child_place v k.id has in
+      let fit = as_value b j c m i.0 v k at at_k (λ constant. constant_no_add k.kind.opcode constant add) k_folds i.1 in
+      let carried = carries_sum t v k.id k_folds (pointers p) v.kind.opcode i.0 fit (ap (λ (w : Known). is_add w.opcode) is ∙ add) i.1 in
+      made b j v (HasAddress (sum_address t v (known_in c k))) at (user_unfolded b j v at (access_kind v.kind.opcode carried.0))
+      (subst (λ (w : Known). HasInst (code_of t v.kind.opcode v) (HasAddress (sum_address t v w))) is carried.1)
+
   pub is_folded : IsFolded p (selected p)
-  is_folded = record { none = none_made; constants = constants; comparisons = comparisons; bits = bits }
+  is_folded = record { none = none_made; constants = constants; stored = stored; sums = sums; comparisons = comparisons; bits = bits }

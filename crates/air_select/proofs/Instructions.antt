@@ -1,9 +1,10 @@
 -- What one instruction does that reads words and writes one, or leaves the block.
-use Rattle.std.proofs.Common.{◌≡◌, ℕ, List, [], ◌∷◌, Some, None, refl, ap, ◌∙◌}
+use Rattle.std.proofs.Common.{◌≡◌, ℕ, ◌-◌, List, [], ◌∷◌, ◌++◌, Some, None, length, drop, refl, ap, ◌∙◌}
 use Rattle.b3_base.specs.Arithmetic.{low}
 use Rattle.b3_base.specs.Observed.{Start}
+use Rattle.b3_base.specs.declared.observation.Status.{Status}
 use Rattle.b3_base.specs.declared.word.Width.{Width}
-use Rattle.air_ir.specs.Meaning.{Exit, gives, leaves, meaning, operation}
+use Rattle.air_ir.specs.Meaning.{Exit, Over, World, ends, gives, leaves, meaning, operation}
 use Rattle.air_ir.specs.Operands.{Holds, Homes, Read, Target, put, put_all, read, targets, word_of, words}
 use Rattle.air_ir.specs.Steps.{Goes, Outcome, State, after_reading, carried_out, junk_words, step, steps}
 use Rattle.air_ir.specs.declared.operand.Arg.{Arg}
@@ -66,6 +67,10 @@ carried_none : (s : State) (junk : List ℕ) (exit : Exit) → carried_out s jun
 unfolding junk_words put_all
 carried_none s junk exit = refl
 
+carried_world : (s : State) (junk : List ℕ) (w : World) → carried_out s junk [] (gives w []) ≡ (Goes None (record { homes = s.homes; world = w }), junk)
+unfolding junk_words put_all
+carried_world s junk w = refl
+
 module _ (start : Start) where
   -- it writes one word
   pub one_word : (i : AirInst) (s : State) (junk : List ℕ) (ws : List Read) (to : Home) (width : Width) (word : ℕ)
@@ -99,3 +104,26 @@ module _ (start : Start) where
   pub steps_last : (i : AirInst) (s : State) (junk : List ℕ) (o : Outcome × List ℕ) → step (meaning start) i s junk ≡ o
       → steps (meaning start) (i ∷ []) s junk ≡ o
   steps_last i s junk o e = steps-one (meaning start) i s junk ∙ e
+
+  -- it ends the run, and what it writes takes junk
+  pub one_end : (i : AirInst) (s : State) (junk : List ℕ) (ws : List Read) (status : Status)
+      → words s.homes i.operands ≡ Some ws → meaning start (operation i) ws s.world ≡ ends s.world status
+      → (after : State) × (rest : List ℕ) × (step (meaning start) i s junk ≡ (Goes (Some (Over status)) after, rest)) × (after.world ≡ s.world)
+  unfolding step
+  one_end i s junk ws status e f =
+      let ts = targets i.operands in
+      let n = length ts - 0 in (
+        record { homes = put_all ts (junk_words n junk ++ []) s.homes; world = s.world },
+        drop n junk,
+        ap (after_reading (meaning start) i s junk) e ∙ ap (carried_out s junk ts) f,
+        refl,
+      )
+
+  -- it changes the world alone
+  pub one_quiet : (i : AirInst) (s : State) (junk : List ℕ) (ws : List Read) (w : World)
+      → words s.homes i.operands ≡ Some ws → meaning start (operation i) ws s.world ≡ gives w []
+      → targets i.operands ≡ [] → step (meaning start) i s junk ≡ (Goes None (record { homes = s.homes; world = w }), junk)
+  unfolding step
+  one_quiet i s junk ws w e f g =
+      ap (after_reading (meaning start) i s junk) e ∙ ap (λ (ts : List Target). carried_out s junk ts (meaning start (operation i) ws s.world)) g
+      ∙ ap (carried_out s junk []) f ∙ carried_world s junk w

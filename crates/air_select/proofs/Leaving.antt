@@ -1,5 +1,5 @@
 -- Select, and the values that end a block.
-use Rattle.std.proofs.Common.{◌≡◌, ℕ, suc, ◌+◌, ◌^◌, ◌<◌, ◌⊎◌, inl, inr, Bool, true, false, ◌||◌, List, [], ◌∷◌, ◌++◌, map, length, Option, Some, None, nat_eq, refl, sym, ap, ◌∙◌, subst, arith, append-nil}
+use Rattle.std.proofs.Common.{◌≡◌, ℕ, zero, suc, ◌+◌, ◌^◌, ◌<◌, ◌⊎◌, inl, inr, Bool, true, false, ◌||◌, List, [], ◌∷◌, ◌++◌, map, length, Option, Some, None, nat_eq, refl, sym, ap, ◌∙◌, subst, arith, append-nil}
 use Rattle.std.specs.Prelude.{Contains, if◌then◌else◌, not, slice_get}
 use Rattle.std.specs.Option.{option_map}
 use Rattle.std.proofs.lemmas.Bool.{eq-eqb}
@@ -40,16 +40,18 @@ use Rattle.air_ir.specs.declared.op.Test.{Test}
 use Rattle.air_ir.specs.declared.operand.Arg.TheVariants.{At}
 use Rattle.air_ir.specs.declared.procedure.AirInst.{AirInst}
 use Rattle.air_ir.proofs.Stepping.{steps-one}
-use Rattle.air_select.specs.Foldable.{condition_fits, is_bit_test, is_comparison}
+use Rattle.air_fold.specs.Foldable.{constant_fits, is_bit_test, is_comparison, pointers, sum_fits, value_fits}
 use Rattle.air_select.specs.Selected.{Tables, arg_of, branch_on, cases_in, condition_of, inst, move, register, result_of, return_of, select_on, targets_of, use_at, use_of}
-use Rattle.air_select.specs.Tables.{child, home, width_at}
+use Rattle.air_select.specs.Temporaries.{home}
+use Rattle.air_fold.specs.Values.{Index, child, width_at}
+use Rattle.air_fold.specs.declared.known.Known.{Known}
 use Rattle.air_select.proofs.Children.{child_word, readable, width_is, word_small, words_cons, words_nil}
 use Rattle.air_select.proofs.Copied.{moved, row_of_role}
 use Rattle.air_select.proofs.Deciding.{Decides, decides}
 use Rattle.air_select.proofs.Does.{Does, Here, allows, are_words, at, gives_does, here, puts, result_small, words_here}
 use Rattle.air_select.proofs.Facts.{child_ran}
 use Rattle.air_select.proofs.Instructions.{at_home, one_leave, one_word, reads_def, reads_none, reads_use, steps_first, steps_last, with_home, writes_def, writes_none, writes_use}
-use Rattle.air_select.proofs.Plain.{computing, later_condition}
+use Rattle.air_select.proofs.Plain.{computing}
 use Rattle.air_select.proofs.Related.{holds_word}
 use Rattle.air_select.proofs.Remainders.{child_in}
 use Rattle.air_select.proofs.Shapes.{one_child, one_here, three_children, three_here}
@@ -65,15 +67,21 @@ chosen_word : (zero : Bool) (x y w : ℕ) → (if zero then y else x) ≡ w → 
 chosen_word true x y w e = e
 chosen_word false x y w e = e
 
+-- the words that a Select chooses from are no conditions
+select_later : (x : Index) (f : List Bool) (i user : ℕ) (k : Known) → value_fits x f opcode.Select (suc i) user k ≡ false
+select_later x f zero user k = refl
+select_later x f (suc i) user k = refl
+
 module _ (p : Procedure) (t : Tables) (start : Start) (v : Value) (h : Here p t start v) (junk : List ℕ) where
   -- ---- Select
 
-  later_child : (i c w : ℕ) → slice_get v.children (suc i) ≡ Some c → Contains v.children c → h.st.words c ≡ Some w
+  later_child : v.kind.opcode ≡ opcode.Select → (i c w : ℕ) → slice_get v.children (suc i) ≡ Some c → Contains v.children c → h.st.words c ≡ Some w
       → word_of h.s.homes (width_at t.index c) (arg_of t c) ≡ Some w
-  later_child i c w there has now =
+  later_child eo i c w there has now =
       child_word p h.valid t h.sound start h.passed h.block h.before (v ∷ h.rest) h.stands h.st h.reached h.s h.related c w
       (child_ran p h.valid h.passed h.block h.before h.st h.reached v (at p t start v h) c has)
-      (readable p h.valid t h.sound start h.block v (here p t start v h) (suc i) c there (λ k. later_condition t.index v.kind.opcode i k)) now
+      (readable p h.valid t h.sound start h.block v (here p t start v h) (suc i) c there
+      (λ k. ap (λ (q : Opcode). value_fits t.index (pointers p) q (suc i) v.id k) eo ∙ select_later t.index (pointers p) i v.id k)) now
 
   pub select_does : v.kind.opcode ≡ opcode.Select
       → Does p t start v junk (b3.gives h.st v.id (result v.kind.opcode v.kind.chill v.ty (words_here p t start v h) (types_of p v)))
@@ -94,14 +102,15 @@ module _ (p : Procedure) (t : Tables) (start : Start) (v : Value) (h : Here p t 
       ∙ ap (λ (q : Opcode). result q v.kind.chill v.ty ws (types_of p v)) (sym eo) ∙ g) in
       let d : Decides h.s.homes c three.wx =
       decides p t start v h (child v.children 0) three.wx three.x_at three.x_in three.x_now
-      (λ k fits. inl (sym (ap (λ (q : Opcode). condition_fits t.index q 0 k) eo) ∙ fits)) in
+      (λ width word. ap (λ (q : Opcode). constant_fits q 0 width word) eo) (ap (λ (q : Opcode). sum_fits t.index (pointers p) q 0 v.id) eo)
+      (λ k fits. inl (sym (ap (λ (q : Opcode). value_fits t.index (pointers p) q 0 v.id k) eo) ∙ fits)) in
       let os = use_of t x ∷ use_of t y ∷ result_of t v ∷ [] in
       let more = (width_at t.index x, three.wy) ∷ (width_at t.index y, three.wz) ∷ [] in
       let rs = d.reads ++ more in
       let tail : words h.s.homes os ≡ Some more =
       reads_use h.s.homes (width_at t.index x) (arg_of t x) (use_of t y ∷ result_of t v ∷ []) three.wy ((width_at t.index y, three.wz) ∷ [])
-      (later_child 0 x three.wy three.y_at three.y_in three.y_now)
-      (reads_use h.s.homes (width_at t.index y) (arg_of t y) (result_of t v ∷ []) three.wz [] (later_child 1 y three.wz three.z_at three.z_in three.z_now)
+      (later_child eo 0 x three.wy three.y_at three.y_in three.y_now)
+      (reads_use h.s.homes (width_at t.index y) (arg_of t y) (result_of t v ∷ []) three.wz [] (later_child eo 1 y three.wz three.z_at three.z_in three.z_now)
       (reads_def h.s.homes (width_of v.ty) (home t.index v.id))) in
       let i : AirInst = inst v (op.SelectIf c.test) (c.over ++ os) in
       puts p t start v h junk w h.s (steps (meaning start) (i ∷ []) h.s junk) (result_small p t start v h w (ap role_of eo) g) h.related
@@ -169,7 +178,9 @@ module _ (p : Procedure) (t : Tables) (start : Start) (v : Value) (h : Here p t 
       let target = two_targets v.body (row_of_role p t start v h opcode.Branch eo).2 in
       let d : Decides h.s.homes c one.wx =
       decides p t start v h (child v.children 0) one.wx one.x_at one.x_in one.x_now
-      (λ k fits. or_cases (is_comparison k.opcode) (is_bit_test t.index k) (sym (ap (λ (q : Opcode). condition_fits t.index q 0 k) eo) ∙ fits)) in
+      (λ width word. ap (λ (q : Opcode). constant_fits q 0 width word) eo) (ap (λ (q : Opcode). sum_fits t.index (pointers p) q 0 v.id) eo)
+      (λ k fits. or_cases (is_comparison k.opcode) (is_bit_test t.index k)
+      (sym (ap (λ (q : Opcode). value_fits t.index (pointers p) q 0 v.id k) eo) ∙ fits)) in
       let i : AirInst = inst v (op.BranchIf c.test) c.over in
       let read_all : words h.s.homes c.over ≡ Some (d.reads ++ []) =
       ap (words h.s.homes) (sym (append-nil c.over)) ∙ d.words_are [] [] (reads_none h.s.homes) in
@@ -278,6 +289,7 @@ module _ (p : Procedure) (t : Tables) (start : Start) (v : Value) (h : Here p t 
       subst (λ (l : List ℕ). Does p t start v junk (b3.returns h.st l) (steps (meaning start) (return_of t v []) h.s junk)) (sym e) (
         Returned None,
         h.s,
+        junk,
         steps_last start (inst v op.Return []) h.s junk (Goes (Some (Over (Returned None))) h.s, junk)
             (one_leave start (inst v op.Return []) h.s junk [] (Over (Returned None)) (reads_none h.s.homes) (return_none v.id h.s.world) writes_none),
         same_seen (Returned None),
@@ -293,6 +305,7 @@ module _ (p : Procedure) (t : Tables) (start : Start) (v : Value) (h : Here p t 
       subst (λ (l : List ℕ). Does p t start v junk (b3.returns h.st l) (steps (meaning start) (return_of t v (c ∷ [])) h.s junk)) (sym e) (
         Returned (Some w),
         after,
+        junk,
         steps_first start copy (last ∷ []) h.s after junk
             (sym (steps-one (meaning start) copy h.s junk) ∙ moved p t start v h h.s junk width (arg_of t c) (register 0) w reads)
             ∙ steps_last start last after junk (Goes (Some (Over (Returned (Some w)))) after, junk)

@@ -1,5 +1,8 @@
+pub mod Accesses
+pub mod Addresses
 pub mod Beginning
 pub mod Children
+pub mod Coded
 pub mod Copied
 pub mod Deciding
 pub mod Does
@@ -11,14 +14,14 @@ pub mod Forms
 pub mod Good
 pub mod Instructions
 pub mod Leaving
-pub mod Listed
-pub mod Masks
 pub mod Named
 pub mod OneOp
 pub mod Opcodes
 pub mod Operands
-pub mod Places
+pub mod OneSite
+pub mod Pieces
 pub mod Plain
+pub mod Pointers
 pub mod Related
 pub mod Remainders
 pub mod Rests
@@ -33,8 +36,6 @@ pub mod Sites
 pub mod Sound
 pub mod Sources
 pub mod Successors
-pub mod Tallies
 pub mod Tested
-pub mod Walks
 pub mod Weights
 pub mod Well

@@ -1,6 +1,7 @@
 -- The operands of what is selected name temporaries of the procedure, and registers that values may stand in.
-use Rattle.std.proofs.Common.{◌≡◌, ℕ, zero, suc, ◌+◌, ◌*◌, ◌<◌, ◌≤◌, inl, Bool, true, false, List, [], ◌∷◌, ◌++◌, map, length, refl, arith}
+use Rattle.std.proofs.Common.{◌≡◌, ℕ, pos, zero, suc, ◌+◌, ◌*◌, ◌<◌, ◌≤◌, inl, Bool, true, false, ◌||◌, List, [], ◌∷◌, ◌++◌, map, length, refl, arith}
 use Rattle.std.specs.Prelude.{All, ◌==◌, if◌then◌else◌}
+use Rattle.std.specs.Int.{cast_unsigned, w64}
 use Rattle.std.proofs.lemmas.List.Elements.{All-append, All-cons, All-map, All-nil}
 use Rattle.b3_base.specs.declared.word.Width.{Width}
 use Rattle.b3_base.specs.declared.word.Width.TheVariants.{W32, W64}
@@ -9,19 +10,26 @@ use Rattle.b3_ir.specs.Types.{width_of}
 use Rattle.b3_ir.specs.declared.opcode.Opcode.{Opcode}
 use Rattle.b3_ir.specs.declared.opcode.Opcode.TheVariants as opcode
 use Rattle.b3_ir.specs.declared.value.Value.{Value}
+use Rattle.b3_meaning.specs.declared.role.Extent.{Extent}
+use Rattle.b3_meaning.specs.declared.role.Extent.TheVariants.{Byte, Half, Whole}
+use Rattle.air_ir.specs.Forms.{is_offset}
+use Rattle.air_ir.specs.Kinds.{extent_bytes}
+use Rattle.air_ir.specs.declared.operand.Role.TheVariants.{Use}
 use Rattle.air_ir.specs.declared.op.AirOp.{AirOp}
 use Rattle.air_ir.specs.declared.op.AirOp.TheVariants as op
 use Rattle.air_ir.specs.declared.op.Test.TheVariants.{Bit, Compare, NonZero}
 use Rattle.air_ir.specs.declared.operand.Arg.{Arg}
-use Rattle.air_ir.specs.declared.operand.Arg.TheVariants.{At, Imm}
+use Rattle.air_ir.specs.declared.operand.Arg.TheVariants.{Addr, At, FrameSlot, Imm, Index as Indexed}
 use Rattle.air_ir.specs.declared.operand.Home.TheVariants.{Tmp}
 use Rattle.air_ir.specs.declared.operand.Operand.{Operand}
 use Rattle.air_ir.specs.declared.procedure.AirInst.{AirInst}
 use Rattle.air_ir.specs.declared.procedure.AirProc.{AirProc}
 use Rattle.air_ir.specs.WellFormed.{NamesOwn}
-use Rattle.air_select.specs.Foldable.{bit_of, is_comparison}
-use Rattle.air_select.specs.Selected.{Condition, Tables, arg_of, argument_move, argument_moves, cases_in, chosen_rest, code_of, computes, condition, condition_of, def_at, entry_of, folded_condition, folds, inst, last_id, names_argument, negative_amount, op_of, phi_in, quotient_of, register, register_in, rest_into, result_of, return_of, rotate_by, select_on, turned, use_at, use_of, value_code}
-use Rattle.air_select.specs.Tables.{argument, child, first_extra, home, known, place, second_extra, tmp_count, width_at}
+use Rattle.air_fold.specs.Foldable.{bit_of, is_comparison, is_constant, whole}
+use Rattle.air_fold.specs.declared.known.Known.{Known}
+use Rattle.air_select.specs.Selected.{Condition, Tables, access, address_of, arg_of, argument_move, argument_moves, before_access, cases_in, chosen_rest, code_of, computes, condition, condition_of, def_at, entry_of, far_sum, folded_condition, folds, frame_of, home_address, indexed_by, inst, last_id, load_of, names_argument, negative_amount, op_of, phi_in, quotient_of, register, register_in, rest_into, result_of, return_of, rotate_by, select_on, slot_in, slot_of, store_of, sum_address, turned, use_at, use_of, value_code}
+use Rattle.air_select.specs.Temporaries.{argument, first_extra, home, second_extra, tmp_count}
+use Rattle.air_fold.specs.Values.{child, known, offset_in, place, width_at}
 use Rattle.air_select.proofs.Sites.{all_of, all_one, all_three, all_two}
 
 place_most : (ids : List ℕ) (id : ℕ) → place_among ids id ≤ length ids
@@ -79,7 +87,8 @@ module _ (q : AirProc) (t : Tables) (tmps : q.tmps ≡ tmp_count t.index) where
   abbrev pub IsOwnInst : AirInst → Type 0
   IsOwnInst i = All IsOwn i.operands
 
-  module _ (v : Value) (argued : v.kind.opcode ≡ opcode.ArgumentReg → register_in v.body < 8) where
+  module _ (v : Value) (argued : v.kind.opcode ≡ opcode.ArgumentReg → register_in v.body < 8)
+      (slotted : v.kind.opcode ≡ opcode.SlotBase → slot_in v.body < length q.slots) where
     here_below : (k : ℕ) → k ≤ 2 → 3 * place t.index v.id + k < q.tmps
     here_below k le = below v.id k le
 
@@ -160,6 +169,56 @@ module _ (q : AirProc) (t : Tables) (tmps : q.tmps ≡ tmp_count t.index) where
     argument_below : register_in v.body < 8 → 3 * length t.index.ids + register_in v.body < q.tmps
     argument_below lt = omega (arith, tmps, lt)
 
+    -- ---- accesses
+
+    before_own : (pointer bytes : ℕ) → All IsOwnInst (before_access t v pointer bytes)
+    before_own pointer bytes =
+        let k : Arg = Imm (cast_unsigned w64 (offset_in v.body)) in
+        let first = first_extra t.index v.id in
+        let second = second_extra t.index v.id in
+        let put : AirInst = inst v op.Move (use_at W64 k ∷ def_at W64 first ∷ []) in
+        let add : AirInst = inst v op.Add (use_of t pointer ∷ use_at W64 (At first) ∷ def_at W64 second ∷ []) in
+        pick (All IsOwnInst) (folds t pointer || is_offset bytes (offset_in v.body)) [] (far_sum t v pointer) (All-nil IsOwnInst)
+        (all_two IsOwnInst put add
+        (all_two IsOwn (use_at W64 k) (def_at W64 first) tt (below v.id 1 (omega arith)))
+        (all_three IsOwn (use_of t pointer) (use_at W64 (At first)) (def_at W64 second) (use_own pointer) (below v.id 1 (omega arith))
+        (below v.id 2 (omega arith))))
+
+    sum_own : (k : Known) → NamesOwn q Use (sum_address t v k)
+    sum_own k =
+        let second = known t.index k.second in
+        pick (NamesOwn q Use) (is_constant second.opcode) (Addr (home t.index k.first) (whole second.word (offset_in v.body)))
+        (indexed_by t (home t.index k.first) k.second second) (home_below k.first)
+        (pick (NamesOwn q Use) (folds t k.second) (Indexed (home t.index k.first) (home t.index second.first) 3)
+        (Indexed (home t.index k.first) (home t.index k.second) 0) (home_below k.first, home_below second.first) (home_below k.first, home_below k.second))
+
+    address_own : (width : Width) (pointer bytes : ℕ) → IsOwn (use_at width (address_of t v pointer bytes))
+    address_own width pointer bytes =
+        pick (NamesOwn q Use) (folds t pointer) (sum_address t v (known t.index pointer)) (home_address t v pointer bytes) (sum_own (known t.index pointer))
+        (pick (NamesOwn q Use) (is_offset bytes (offset_in v.body)) (Addr (home t.index pointer) (offset_in v.body)) (Addr (second_extra t.index v.id) (pos 0))
+        (home_below pointer) (below v.id 2 (omega arith)))
+
+    load_own : (air_op : AirOp) (extent : Extent) → All IsOwnInst (load_of t v air_op extent)
+    load_own air_op extent =
+        let width = width_of v.ty in
+        let pointer = child v.children 0 in
+        let bytes = extent_bytes extent width in
+        let at = use_at width (address_of t v pointer bytes) in
+        let last : AirInst = access v air_op (at ∷ result_of t v ∷ []) in
+        All-append IsOwnInst (before_access t v pointer bytes) (last ∷ []) (before_own pointer bytes)
+        (all_one IsOwnInst last (all_two IsOwn at (result_of t v) (address_own width pointer bytes) (home_below v.id)))
+
+    store_own : (air_op : AirOp) (extent : Extent) → All IsOwnInst (store_of t v air_op extent)
+    store_own air_op extent =
+        let from = child v.children 0 in
+        let width = width_at t.index from in
+        let pointer = child v.children 1 in
+        let bytes = extent_bytes extent width in
+        let at = use_at width (address_of t v pointer bytes) in
+        let last : AirInst = access v air_op (use_of t from ∷ at ∷ []) in
+        All-append IsOwnInst (before_access t v pointer bytes) (last ∷ []) (before_own pointer bytes)
+        (all_one IsOwnInst last (all_two IsOwn (use_of t from) at (use_own from) (address_own width pointer bytes)))
+
     code_own : (o : Opcode) → v.kind.opcode ≡ o → All IsOwnInst (code_of t o v)
     code_own opcode.Nop is = All-nil IsOwnInst
     code_own opcode.Const32 is = move_own (width_of v.ty) (Imm _) (3 * place t.index v.id) tt (home_below v.id)
@@ -172,6 +231,17 @@ module _ (q : AirProc) (t : Tables) (tmps : q.tmps ≡ tmp_count t.index) where
         (arg_own (width_at t.index (child v.children 0)) (child v.children 0)) (below (phi_in v.body) 1 (omega arith))
     code_own opcode.Phi is =
         move_own (width_of v.ty) (At (first_extra t.index v.id)) (3 * place t.index v.id) (below v.id 1 (omega arith)) (home_below v.id)
+    code_own opcode.FramePointer is = all_one IsOwnInst (frame_of t v) (all_one IsOwn (result_of t v) (home_below v.id))
+    code_own opcode.SlotBase is =
+        all_one IsOwnInst (slot_of t v) (all_two IsOwn (use_at W64 (FrameSlot (slot_in v.body))) (result_of t v) (slotted is) (home_below v.id))
+    code_own opcode.Load8Z is = load_own op.Load8Z Byte
+    code_own opcode.Load8S is = load_own op.Load8S Byte
+    code_own opcode.Load16Z is = load_own op.Load16Z Half
+    code_own opcode.Load16S is = load_own op.Load16S Half
+    code_own opcode.Load is = load_own op.Load Whole
+    code_own opcode.Store8 is = store_own op.Store8 Byte
+    code_own opcode.Store16 is = store_own op.Store16 Half
+    code_own opcode.Store is = store_own op.Store Whole
     code_own opcode.Mod is = remainder_own op.Div v.kind.chill
     code_own opcode.UMod is = remainder_own op.UDiv v.kind.chill
     code_own opcode.RotL is = rotate_left_own (folds t (child v.children 1))

@@ -1,5 +1,5 @@
 -- Each value, by its opcode: its instructions do what it leads to.
-use Rattle.std.proofs.Common.{◌≡◌, ℕ, inl, inr, Bool, true, false, ◌&&◌, List, [], refl, sym, subst}
+use Rattle.std.proofs.Common.{◌≡◌, ℕ, inl, inr, Bool, true, false, ◌&&◌, List, [], refl, sym, ap, ◌∙◌, subst}
 use Rattle.std.specs.Prelude.{if◌then◌else◌}
 use Rattle.b3_base.specs.Observed.{Start}
 use Rattle.b3_ir.specs.Naming.{type_of}
@@ -10,15 +10,20 @@ use Rattle.b3_ir.specs.declared.value.Value.{Value}
 use Rattle.b3_meaning.specs.Opcodes.{Outcome, result}
 use Rattle.b3_meaning.specs.Roles.{role_of}
 use Rattle.b3_meaning.specs.Run as b3
+use Rattle.b3_ir.specs.declared.opcode.Ty.TheVariants.{Int32}
+use Rattle.b3_ir.specs.declared.table.Takes.TheVariants.{Any, This}
+use Rattle.b3_meaning.specs.declared.role.Extent.TheVariants.{Byte, Half, Whole}
+use Rattle.air_ir.specs.declared.op.AirOp.TheVariants as op
 use Rattle.b3_meaning.specs.declared.role.Role.{Role}
 use Rattle.b3_meaning.specs.declared.role.Role.TheVariants as role
 use Rattle.b3_rules.specs.Rules.{types_of}
 use Rattle.air_ir.specs.Meaning.{meaning}
 use Rattle.air_ir.specs.Steps.{Outcome as Ran, steps}
 use Rattle.air_select.specs.Contract.{is_built}
-use Rattle.air_select.specs.Foldable.{is_and, is_bit, is_constant}
+use Rattle.air_fold.specs.Foldable.{is_add, is_and, is_bit, is_constant, is_shl}
 use Rattle.air_select.specs.Selected.{Tables, code_of, folds, value_code}
-use Rattle.air_select.specs.Tables.{child, known}
+use Rattle.air_fold.specs.Values.{child, known, known_in}
+use Rattle.air_select.proofs.Accesses.{frame_does, load_does, slot_does, store_does}
 use Rattle.air_select.proofs.Copied.{argument_does, constant_does, identity_does, phi_does, row_of_role}
 use Rattle.air_select.proofs.Deciding.{comparison_row}
 use Rattle.air_select.proofs.Does.{Does, Here, effect_is, gives_does, here, named, words_here}
@@ -26,6 +31,7 @@ use Rattle.air_select.proofs.Facts.{constant_role}
 use Rattle.air_select.proofs.Instructions.{steps_none}
 use Rattle.air_select.proofs.Leaving.{branch_does, jump_does, return_does, select_does, switch_does}
 use Rattle.air_select.proofs.Plain.{one_op_does}
+use Rattle.air_select.proofs.Pointers.{load16s_at, load16z_at, load8s_at, load8z_at, load_at, store16_at, store8_at, store_at}
 use Rattle.air_select.proofs.Related.{folded_related}
 use Rattle.air_select.proofs.Remainders.{mod_does, umod_does}
 use Rattle.air_select.proofs.Rotations.{rotate_does}
@@ -34,6 +40,14 @@ use Rattle.air_select.proofs.Sources.{trunc_does, upsilon_does}
 and_role : (o : Opcode) → is_and o ≡ true → role_of o ≡ role.Pure
 and_role opcode.BitAnd e = refl
 and_role _ e = absurd (cc)
+
+add_role : (o : Opcode) → is_add o ≡ true → role_of o ≡ role.Pure
+add_role opcode.Add e = refl
+add_role _ e = absurd (cc)
+
+shl_role : (o : Opcode) → is_shl o ≡ true → role_of o ≡ role.Pure
+shl_role opcode.Shl e = refl
+shl_role _ e = absurd (cc)
 
 first_part : (a b : Bool) → (a && b) ≡ true → a ≡ true
 first_part true b e = refl
@@ -60,48 +74,57 @@ module _ (p : Procedure) (t : Tables) (start : Start) (v : Value) (h : Here p t 
     | inl constant ↦
         subst (λ (r : Role). Wanted r (steps (meaning start) [] h.s junk)) (sym (constant_role v.kind.opcode constant)) (no_code gone (b3.constant_of v.body))
     | inr (inl comparison) ↦ no_code_pure gone (comparison_row v.kind.opcode comparison).0
-    | inr (inr bit) ↦
+    | inr (inr (inr (inl sum))) ↦ no_code_pure gone (add_role v.kind.opcode sum)
+    | inr (inr (inr (inr shift))) ↦ no_code_pure gone (shl_role v.kind.opcode shift)
+    | inr (inr (inl bit)) ↦
         no_code_pure gone (and_role v.kind.opcode (first_part (is_and v.kind.opcode)
         (is_constant (known t.index (child v.children 1)).opcode && is_bit (known t.index (child v.children 1)).word) bit))
   ]
 
   -- ---- a value that is not folded
 
-  plain_does : (o : Opcode) → v.kind.opcode ≡ o → is_built o ≡ true → Wanted (role_of o) (steps (meaning start) (code_of t o v) h.s junk)
-  plain_does opcode.Nop eo built = (h.s, steps_none start h.s junk, h.related)
-  plain_does opcode.Const32 eo built = constant_does p t start v h junk (row_of_role p t start v h opcode.Const32 eo)
-  plain_does opcode.Const64 eo built = constant_does p t start v h junk (row_of_role p t start v h opcode.Const64 eo)
-  plain_does opcode.ArgumentReg eo built = argument_does p t start v h junk eo
-  plain_does opcode.Identity eo built = identity_does p t start v h junk eo
-  plain_does opcode.Mod eo built = mod_does p t start v h junk eo
-  plain_does opcode.UMod eo built = umod_does p t start v h junk eo
-  plain_does opcode.RotL eo built = rotate_does p t start v h junk eo
-  plain_does opcode.Trunc eo built = trunc_does p t start v h junk eo
-  plain_does opcode.Select eo built = select_does p t start v h junk eo
-  plain_does opcode.Upsilon eo built = upsilon_does p t start v h junk eo
-  plain_does opcode.Phi eo built = phi_does p t start v h junk
-  plain_does opcode.Jump eo built = jump_does p t start v h junk eo
-  plain_does opcode.Oops eo built = tt
-  plain_does opcode.Branch eo built = branch_does p t start v h junk eo
-  plain_does opcode.Switch eo built = switch_does p t start v h junk eo
-  plain_does opcode.Return eo built = return_does p t start v h junk eo
-  plain_does opcode.FramePointer eo built = absurd (cc)
-  plain_does opcode.SlotBase eo built = absurd (cc)
-  plain_does opcode.Load8Z eo built = absurd (cc)
-  plain_does opcode.Load8S eo built = absurd (cc)
-  plain_does opcode.Load16Z eo built = absurd (cc)
-  plain_does opcode.Load16S eo built = absurd (cc)
-  plain_does opcode.Load eo built = absurd (cc)
-  plain_does opcode.Store8 eo built = absurd (cc)
-  plain_does opcode.Store16 eo built = absurd (cc)
-  plain_does opcode.Store eo built = absurd (cc)
-  plain_does opcode.CCall eo built = absurd (cc)
-  plain_does opcode.Patchpoint eo built = absurd (cc)
-  plain_does opcode.Check eo built = absurd (cc)
-  plain_does opcode.CheckAdd eo built = absurd (cc)
-  plain_does opcode.CheckSub eo built = absurd (cc)
-  plain_does opcode.CheckMul eo built = absurd (cc)
-  plain_does o eo built = one_op_does p t start v h junk o eo refl
+  known_here : known t.index v.id ≡ known_in h.block v
+  known_here = h.sound.is_known h.block v (here p t start v h)
+
+  plain_does : folds t v.id ≡ false → (o : Opcode) → v.kind.opcode ≡ o → is_built o ≡ true → Wanted (role_of o) (steps (meaning start) (code_of t o v) h.s junk)
+  plain_does un opcode.Nop eo built = (h.s, steps_none start h.s junk, h.related)
+  plain_does un opcode.Const32 eo built = constant_does p t start v h junk (row_of_role p t start v h opcode.Const32 eo)
+  plain_does un opcode.Const64 eo built = constant_does p t start v h junk (row_of_role p t start v h opcode.Const64 eo)
+  plain_does un opcode.ArgumentReg eo built = argument_does p t start v h junk eo
+  plain_does un opcode.Identity eo built = identity_does p t start v h junk eo
+  plain_does un opcode.Mod eo built = mod_does p t start v h junk eo
+  plain_does un opcode.UMod eo built = umod_does p t start v h junk eo
+  plain_does un opcode.RotL eo built = rotate_does p t start v h junk eo
+  plain_does un opcode.Trunc eo built = trunc_does p t start v h junk eo
+  plain_does un opcode.Select eo built = select_does p t start v h junk eo
+  plain_does un opcode.Upsilon eo built = upsilon_does p t start v h junk eo
+  plain_does un opcode.Phi eo built = phi_does p t start v h junk
+  plain_does un opcode.Jump eo built = jump_does p t start v h junk eo
+  plain_does un opcode.Oops eo built = tt
+  plain_does un opcode.Branch eo built = branch_does p t start v h junk eo
+  plain_does un opcode.Switch eo built = switch_does p t start v h junk eo
+  plain_does un opcode.Return eo built = return_does p t start v h junk eo
+  plain_does un opcode.FramePointer eo built = frame_does p t start v h junk eo
+  plain_does un opcode.SlotBase eo built = slot_does p t start v h junk eo
+  plain_does un opcode.Load8Z eo built = load_does p t start v h junk opcode.Load8Z op.Load8Z Byte false eo refl refl (λ e. cc) (load8z_at p t v h.block known_here) (λ ty ts a. a.children)
+  plain_does un opcode.Load8S eo built = load_does p t start v h junk opcode.Load8S op.Load8S Byte true eo refl refl (λ e. cc) (load8s_at p t v h.block known_here) (λ ty ts a. a.children)
+  plain_does un opcode.Load16Z eo built = load_does p t start v h junk opcode.Load16Z op.Load16Z Half false eo refl refl (λ e. cc) (load16z_at p t v h.block known_here) (λ ty ts a. a.children)
+  plain_does un opcode.Load16S eo built = load_does p t start v h junk opcode.Load16S op.Load16S Half true eo refl refl (λ e. cc) (load16s_at p t v h.block known_here) (λ ty ts a. a.children)
+  plain_does un opcode.Load eo built = load_does p t start v h junk opcode.Load op.Load Whole false eo refl refl (λ e. cc) (load_at p t v h.block known_here) (λ ty ts a. a.children)
+  plain_does un opcode.Store8 eo built =
+      store_does p t start v h junk opcode.Store8 op.Store8 Byte (This Int32) eo refl refl (λ e. cc) (λ k. refl) (store8_at p t v h.block known_here) (λ ty ts a. a.children)
+  plain_does un opcode.Store16 eo built =
+      store_does p t start v h junk opcode.Store16 op.Store16 Half (This Int32) eo refl refl (λ e. cc) (λ k. refl) (store16_at p t v h.block known_here) (λ ty ts a. a.children)
+  plain_does un opcode.Store eo built =
+      store_does p t start v h junk opcode.Store op.Store Whole Any eo refl refl (λ e. cc) (λ k. refl) (store_at p t v h.block known_here) (λ ty ts a. a.children)
+  plain_does un opcode.CCall eo built = absurd (cc)
+  plain_does un opcode.Patchpoint eo built = absurd (cc)
+  plain_does un opcode.Check eo built = absurd (cc)
+  plain_does un opcode.CheckAdd eo built = absurd (cc)
+  plain_does un opcode.CheckSub eo built = absurd (cc)
+  plain_does un opcode.CheckMul eo built = absurd (cc)
+  plain_does un o eo built = one_op_does p t start v h junk o eo refl
+      (λ add. h.sound.pointer h.block v (here p t start v h) (ap is_add eo ∙ add) ∙ un)
 
   pub value_does : is_built v.kind.opcode ≡ true → Does p t start v junk (b3.effect (type_of p) start h.st v) (steps (meaning start) (value_code t v) h.s junk)
   unfolding value_code
@@ -111,4 +134,4 @@ module _ (p : Procedure) (t : Tables) (start : Start) (v : Value) (h : Here p t 
     where
       go : (f : Bool) → folds t v.id ≡ f → Wanted (role_of v.kind.opcode) (steps (meaning start) (if f then [] else code_of t v.kind.opcode v) h.s junk)
       go true e = folded_does e
-      go false e = plain_does v.kind.opcode refl built
+      go false e = plain_does e v.kind.opcode refl built

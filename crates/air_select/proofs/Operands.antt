@@ -22,10 +22,11 @@ use Rattle.b3_sound.proofs.Kept.{IsKept}
 use Rattle.b3_sound.proofs.Rows.{IsRow, row_by_role}
 use Rattle.air_ir.specs.Forms.{Fits, Immediates, NoImmediate, AnyWord, OfSum, OfLogic, OnlyZero, IsImmediate, IsWord, Word}
 use Rattle.air_ir.specs.declared.operand.Arg.TheVariants.{At, Imm}
-use Rattle.air_select.specs.Foldable.{condition_fits, constant_fits, is_constant, is_immediate, is_mask, is_named, second_immediates, some_below}
+use Rattle.air_fold.specs.Foldable.{constant_fits, pointers, sum_fits, value_fits, is_constant, is_immediate, is_mask, first_immediates, is_named, second_immediates, some_below}
 use Rattle.air_select.specs.Selected.{Tables, arg_of, folds, use_of}
-use Rattle.air_select.specs.Tables.{home, known, known_in, width_at}
-use Rattle.air_select.specs.declared.known.Known.{Known}
+use Rattle.air_select.specs.Temporaries.{home}
+use Rattle.air_fold.specs.Values.{known, known_in, width_at}
+use Rattle.air_fold.specs.declared.known.Known.{Known}
 use Rattle.air_select.proofs.Children.{fit_cases}
 use Rattle.air_select.proofs.Facts.{body_below, constant_role}
 use Rattle.air_select.proofs.Returned.{id_found, named_of, stands_somewhere, contains_at}
@@ -59,6 +60,7 @@ immediate_is OnlyZero width word e = eqb-true word 0 e
 
 -- which immediates a child may be
 abbrev pub immediates_at : Opcode → ℕ → Immediates
+immediates_at o zero = first_immediates o
 immediates_at o (suc zero) = second_immediates o
 immediates_at o at = NoImmediate
 
@@ -88,28 +90,31 @@ module _ (p : Procedure) (valid : IsKept p) (t : Tables) (sound : IsSound p t) w
 
   module _ (b : ℕ) (v : Value) (here : Contains (values_of p b) v) where
     -- a child that is no condition is a home or an immediate
-    word_fits : (i c : ℕ) → slice_get v.children i ≡ Some c → ((k : Known) → condition_fits t.index v.kind.opcode i k ≡ false) → type_of p c ≢ Void
+    word_fits : (i c : ℕ) → slice_get v.children i ≡ Some c → ((k : Known) → value_fits t.index (pointers p) v.kind.opcode i v.id k ≡ false)
+        → sum_fits t.index (pointers p) v.kind.opcode i v.id ≡ false → type_of p c ≢ Void
         → IsWord (immediates_at v.kind.opcode i) (width_at t.index c) (arg_of t c)
-    word_fits i c at none typed = by (folds t c) refl
+    word_fits i c at none no_sum typed = by (folds t c) refl
       where
         by : (f : Bool) → folds t c ≡ f → IsWord (immediates_at v.kind.opcode i) (width_at t.index c)
             (if f then Imm (known t.index c).word else At (home t.index c))
         by false e = tt
-        by true e = elim (fit_cases t b v.kind.opcode i c (sound.uses_fit b i c v here at e)) [
+        by true e = elim (fit_cases t (pointers p) b v.kind.opcode i v.id c (sound.uses_fit b i c v here at e)) [
           | inl constant ↦ (
             constant_small c typed constant.constant,
             immediate_is (immediates_at v.kind.opcode i) (width_at t.index c) (known t.index c).word
                 (fits_at v.kind.opcode i (width_at t.index c) (known t.index c).word constant.fits),
           )
-          | inr condition ↦ absurd (let bad : true ≡ false = sym condition.fits ∙ none (known t.index c) in cc)
+          | inr (inl in_sum) ↦ absurd (let bad : true ≡ false = sym in_sum.fits ∙ no_sum in cc)
+          | inr (inr value) ↦ absurd (let bad : true ≡ false = sym value.fits ∙ none (known t.index c) in cc)
         ]
 
-    pub child_fits : (i c : ℕ) (ty : Ty) → slice_get v.children i ≡ Some c → ((k : Known) → condition_fits t.index v.kind.opcode i k ≡ false) → type_of p c ≡ ty
+    pub child_fits : (i c : ℕ) (ty : Ty) → slice_get v.children i ≡ Some c → ((k : Known) → value_fits t.index (pointers p) v.kind.opcode i v.id k ≡ false)
+        → sum_fits t.index (pointers p) v.kind.opcode i v.id ≡ false → type_of p c ≡ ty
         → ty ≢ Void → Fits (Word (width_of ty) (immediates_at v.kind.opcode i)) (use_of t c)
-    child_fits i c ty at none is typed =
+    child_fits i c ty at none no_sum is typed =
         let typed' : type_of p c ≢ Void = λ e. typed (sym is ∙ e) in
         let width : width_at t.index c ≡ width_of ty = ap width_of (sound.types c ∙ is) in
-        (refl, width, subst (λ w. IsWord (immediates_at v.kind.opcode i) w (arg_of t c)) width (word_fits i c at none typed'))
+        (refl, width, subst (λ w. IsWord (immediates_at v.kind.opcode i) w (arg_of t c)) width (word_fits i c at none no_sum typed'))
 
 -- ---- the children of a row
 pub two_of : (ty : ℕ → Ty) (alike : Ty) (a b : Taken) (cs : List ℕ) → AreTaken alike (a ∷ b ∷ []) NoMore (map ty cs)

@@ -1,5 +1,5 @@
 -- The values that are one instruction over their children, or one copy.
-use Rattle.std.proofs.Common.{◌≡◌, ℕ, suc, ◌^◌, ◌<◌, Bool, true, false, List, [], ◌∷◌, ◌++◌, map, Some, None, refl, sym, ap, ◌∙◌, subst, append-nil}
+use Rattle.std.proofs.Common.{◌≡◌, ℕ, zero, suc, ◌^◌, ◌<◌, ◌⊎◌, inl, inr, Bool, true, false, ◌&&◌, List, [], ◌∷◌, ◌++◌, map, Some, None, refl, sym, ap, ◌∙◌, subst, append-nil}
 use Rattle.std.specs.Prelude.{Contains, slice_get}
 use Rattle.std.proofs.lemmas.Option.{slice_get-get_or}
 use Rattle.b3_base.specs.Observed.{Start}
@@ -25,10 +25,11 @@ use Rattle.air_ir.specs.Words.{computed}
 use Rattle.air_ir.specs.declared.op.AirOp.{AirOp}
 use Rattle.air_ir.specs.declared.operand.Operand.{Operand}
 use Rattle.air_ir.specs.declared.procedure.AirInst.{AirInst}
-use Rattle.air_select.specs.Foldable.{condition_fits}
+use Rattle.air_fold.specs.Foldable.{first_fits, is_add, is_index, is_pointer, pointers, second_fits, value_fits}
 use Rattle.air_select.specs.Selected.{Tables, arg_of, computes, inst, op_of, result_of, use_of}
-use Rattle.air_select.specs.Tables.{Index, home, width_at}
-use Rattle.air_select.specs.declared.known.Known.{Known}
+use Rattle.air_select.specs.Temporaries.{home}
+use Rattle.air_fold.specs.Values.{Index, width_at}
+use Rattle.air_fold.specs.declared.known.Known.{Known}
 use Rattle.air_select.proofs.Children.{children_words, readable, typed, width_is, words_cons, words_nil}
 use Rattle.air_select.proofs.Does.{Does, Here, allows, are_typed, are_words, at, gives_does, here, puts, result_small, words_here}
 use Rattle.air_select.proofs.Facts.{child_ran}
@@ -89,26 +90,71 @@ one_op_pure opcode.Switch e = absurd (cc)
 one_op_pure opcode.Return e = absurd (cc)
 one_op_pure _ e = refl
 
--- only a Branch and a Select have a condition
-abbrev pub has_condition : Opcode → Bool
-has_condition opcode.Branch = true
-has_condition opcode.Select = true
-has_condition _ = false
+-- which opcodes have a child at which a value fits that is no constant
+abbrev pub takes_values : Opcode → Bool
+takes_values opcode.Branch = true
+takes_values opcode.Select = true
+takes_values opcode.Add = true
+takes_values opcode.Load8Z = true
+takes_values opcode.Load8S = true
+takes_values opcode.Load16Z = true
+takes_values opcode.Load16S = true
+takes_values opcode.Load = true
+takes_values opcode.Store8 = true
+takes_values opcode.Store16 = true
+takes_values opcode.Store = true
+takes_values _ = false
 
-pub no_condition : (x : Index) (o : Opcode) (i : ℕ) (k : Known) → has_condition o ≡ false → condition_fits x o i k ≡ false
-no_condition x opcode.Branch i k e = absurd (cc)
-no_condition x opcode.Select i k e = absurd (cc)
-no_condition x _ i k e = refl
+no_first : (x : Index) (o : Opcode) (user : ℕ) (k : Known) → takes_values o ≡ false → first_fits x o user k ≡ false
+no_first x opcode.Branch user k e = absurd cc
+no_first x opcode.Select user k e = absurd cc
+no_first x opcode.Load8Z user k e = absurd cc
+no_first x opcode.Load8S user k e = absurd cc
+no_first x opcode.Load16Z user k e = absurd cc
+no_first x opcode.Load16S user k e = absurd cc
+no_first x opcode.Load user k e = absurd cc
+no_first x _ user k e = refl
 
-pub later_condition : (x : Index) (o : Opcode) (i : ℕ) (k : Known) → condition_fits x o (suc i) k ≡ false
-later_condition x opcode.Branch i k = refl
-later_condition x opcode.Select i k = refl
-later_condition x _ i k = refl
+no_second : (x : Index) (f : List Bool) (o : Opcode) (user : ℕ) (k : Known) → takes_values o ≡ false → second_fits x f o user k ≡ false
+no_second x f opcode.Store8 user k e = absurd cc
+no_second x f opcode.Store16 user k e = absurd cc
+no_second x f opcode.Store user k e = absurd cc
+no_second x f opcode.Add user k e = absurd cc
+no_second x f _ user k e = refl
 
-one_op_has : (o : Opcode) → is_one_op o ≡ true → has_condition o ≡ false
-one_op_has opcode.Branch e = absurd (cc)
-one_op_has opcode.Select e = absurd (cc)
-one_op_has _ e = refl
+pub no_value : (x : Index) (f : List Bool) (o : Opcode) (i user : ℕ) (k : Known) → takes_values o ≡ false → value_fits x f o i user k ≡ false
+no_value x f o zero user k e = no_first x o user k e
+no_value x f o (suc zero) user k e = no_second x f o user k e
+no_value x f o (suc (suc i)) user k e = refl
+
+one_op_values : (o : Opcode) → is_one_op o ≡ true → (is_add o ≡ true) ⊎ (takes_values o ≡ false)
+one_op_values opcode.Add e = inl refl
+one_op_values opcode.Branch e = absurd cc
+one_op_values opcode.Select e = absurd cc
+one_op_values opcode.Load8Z e = absurd cc
+one_op_values opcode.Load8S e = absurd cc
+one_op_values opcode.Load16Z e = absurd cc
+one_op_values opcode.Load16S e = absurd cc
+one_op_values opcode.Load e = absurd cc
+one_op_values opcode.Store8 e = absurd cc
+one_op_values opcode.Store16 e = absurd cc
+one_op_values opcode.Store e = absurd cc
+one_op_values _ e = inr refl
+
+-- a sum that isn't folded has no shift as a folded child
+pub sum_values : (x : Index) (f : List Bool) (o : Opcode) (i user : ℕ) (k : Known) → is_add o ≡ true → is_pointer x f user ≡ false
+    → value_fits x f o i user k ≡ false
+sum_values x f opcode.Add zero user k e free = refl
+sum_values x f opcode.Add (suc zero) user k e free = ap (λ b. b && is_index x k) free
+sum_values x f opcode.Add (suc (suc i)) user k e free = refl
+sum_values x f _ i user k e free = absurd cc
+
+one_op_none : (x : Index) (f : List Bool) (o : Opcode) (i user : ℕ) (k : Known) → is_one_op o ≡ true → (is_add o ≡ true → is_pointer x f user ≡ false)
+    → value_fits x f o i user k ≡ false
+one_op_none x f o i user k is free = elim (one_op_values o is) [
+  | inl add ↦ sum_values x f o i user k add (free add)
+  | inr plain ↦ no_value x f o i user k plain
+]
 
 -- ---- what a list of children reads
 
@@ -137,7 +183,7 @@ module _ (p : Procedure) (t : Tables) (start : Start) (v : Value) (h : Here p t 
   targets_uses [] os = refl
   targets_uses (c ∷ cs) os = writes_use (width_at t.index c) (arg_of t c) (map (use_of t) cs ++ os) ∙ targets_uses cs os
 
-  pub over_words : ((i : ℕ) (k : Known) → condition_fits t.index v.kind.opcode i k ≡ false)
+  pub over_words : ((i : ℕ) (k : Known) → value_fits t.index (pointers p) v.kind.opcode i v.id k ≡ false)
       → words h.s.homes (map (use_of t) v.children ++ result_of t v ∷ []) ≡ Some (reads v.children (words_here p t start v h))
   over_words none =
       children_words p h.valid t h.sound start h.passed h.block h.before (v ∷ h.rest) h.stands h.st h.reached h.s h.related v.children
@@ -168,26 +214,26 @@ module _ (p : Procedure) (t : Tables) (start : Start) (v : Value) (h : Here p t 
 
   module _ (junk : List ℕ) where
     -- one instruction over the children that gives a word
-    pub over_does : (o : Opcode) (air : AirOp) (w : ℕ) → v.kind.opcode ≡ o → has_condition o ≡ false
+    pub over_does : (o : Opcode) (air : AirOp) (w : ℕ) → v.kind.opcode ≡ o → ((i : ℕ) (k : Known) → value_fits t.index (pointers p) o i v.id k ≡ false)
         → w < 2 ^ bits (width_of v.ty)
         → meaning start (record { op = air; value = v.id; traps = false }) (reads v.children (words_here p t start v h)) h.s.world ≡ gives h.s.world (w ∷ [])
         → Does p t start v junk (b3.Next (b3.with_word h.st v.id w)) (steps (meaning start) (computes t v air) h.s junk)
-    over_does o air w e has small means =
+    over_does o air w e none small means =
         let i : AirInst = inst v air (map (use_of t) v.children ++ result_of t v ∷ []) in
         puts p t start v h junk w h.s (steps (meaning start) (i ∷ []) h.s junk) small h.related
         (steps_last start i h.s junk (Goes None (with_home h.s (home t.index v.id) (width_of v.ty) w), junk)
         (one_word start i h.s junk (reads v.children (words_here p t start v h)) (home t.index v.id) (width_of v.ty) w
-        (over_words (λ n k. ap (λ (q : Opcode). condition_fits t.index q n k) e ∙ no_condition t.index o n k has))
+        (over_words (λ n k. ap (λ (q : Opcode). value_fits t.index (pointers p) q n v.id k) e ∙ none n k))
         means over_targets))
 
-    pub one_op_does : (o : Opcode) → v.kind.opcode ≡ o → is_one_op o ≡ true
+    pub one_op_does : (o : Opcode) → v.kind.opcode ≡ o → is_one_op o ≡ true → (is_add o ≡ true → is_pointer t.index (pointers p) v.id ≡ false)
         → Does p t start v junk (b3.gives h.st v.id (result v.kind.opcode v.kind.chill v.ty (words_here p t start v h) (types_of p v)))
         (steps (meaning start) (computes t v (op_of o)) h.s junk)
-    one_op_does o e is =
+    one_op_does o e is free =
         gives_does p t start v h junk (result v.kind.opcode v.kind.chill v.ty (words_here p t start v h) (types_of p v))
         (steps (meaning start) (computes t v (op_of o)) h.s junk)
         (λ w g.
-        over_does o (op_of o) w e (one_op_has o is) (result_small p t start v h w (ap role_of e ∙ one_op_pure o is) g)
+        over_does o (op_of o) w e (λ n k. one_op_none t.index (pointers p) o n v.id k is free) (result_small p t start v h w (ap role_of e ∙ one_op_pure o is) g)
         (computing (op_of o) v.id (reads v.children (words_here p t start v h)) h.s.world w (one_op_kind o is)
         (ap (λ (k : Width). computed (op_of o) k (map (λ (r : Read). r.1) (reads v.children (words_here p t start v h))))
         (reads_width v.children (words_here p t start v h) (are_words p t start v h))

@@ -17,7 +17,8 @@ use Rattle.air_ir.specs.declared.operand.Home.{Home}
 use Rattle.air_ir.specs.declared.operand.Home.TheVariants.{Tmp}
 use Rattle.b3_sound.proofs.Effects.{word_here, word_there}
 use Rattle.air_select.specs.Selected.{Tables, folds, names_argument}
-use Rattle.air_select.specs.Tables.{argument, home, location, place, width_at}
+use Rattle.air_select.specs.Temporaries.{argument, home, location}
+use Rattle.air_fold.specs.Values.{place, width_at}
 use Rattle.air_select.proofs.Setting.{IsSound}
 
 -- a home holds a word at a width

@@ -29,28 +29,29 @@ use Rattle.air_ir.specs.declared.op.Test.TheVariants.{NonZero}
 use Rattle.air_ir.specs.declared.operand.Arg.{Arg}
 use Rattle.air_ir.specs.declared.operand.Arg.TheVariants.{At}
 use Rattle.air_ir.specs.declared.operand.Home.{Home}
-use Rattle.air_select.specs.Foldable.{condition_fits}
+use Rattle.air_fold.specs.Foldable.{pointers, value_fits}
 use Rattle.air_select.specs.Selected.{Tables, arg_of, chosen_rest, def_at, quotient_of, remainder, rest_into, use_at, use_of}
-use Rattle.air_select.specs.Tables.{child, first_extra, home, place, second_extra, width_at}
+use Rattle.air_select.specs.Temporaries.{first_extra, home, second_extra}
+use Rattle.air_fold.specs.Values.{child, place, width_at}
 use Rattle.air_select.proofs.Children.{child_word, readable, width_is}
 use Rattle.air_select.proofs.Does.{Does, Here, allows, are_words, at, gives_does, here, named, puts, result_small, words_here}
 use Rattle.air_select.proofs.Facts.{child_ran}
 use Rattle.air_select.proofs.Instructions.{at_home, one_word, reads_def, reads_use, steps_first, steps_last, with_home, writes_def, writes_use}
-use Rattle.air_select.proofs.Plain.{computing, has_condition, no_condition}
+use Rattle.air_select.proofs.Plain.{computing, takes_values, no_value}
 use Rattle.air_select.proofs.Related.{Related, extra_related, holds_word, put_here, put_there}
 use Rattle.air_select.proofs.Rests.{IsRest, rest_is, unsigned_rest_is}
 use Rattle.air_select.proofs.Shapes.{TwoHere, two_children, two_here}
 
 module _ (p : Procedure) (t : Tables) (start : Start) (v : Value) (h : Here p t start v) (junk : List ℕ) where
   -- a child read in another state
-  pub child_in : (s : State) → Related p t start h.st s → (o : Opcode) → v.kind.opcode ≡ o → has_condition o ≡ false → (i c w : ℕ)
+  pub child_in : (s : State) → Related p t start h.st s → (o : Opcode) → v.kind.opcode ≡ o → takes_values o ≡ false → (i c w : ℕ)
       → slice_get v.children i ≡ Some c → Contains v.children c
       → h.st.words c ≡ Some w → word_of s.homes (width_at t.index c) (arg_of t c) ≡ Some w
   child_in s r o eo none i c w there has now =
       child_word p h.valid t h.sound start h.passed h.block h.before (v ∷ h.rest) h.stands h.st h.reached s r c w
       (child_ran p h.valid h.passed h.block h.before h.st h.reached v (at p t start v h) c has)
       (readable p h.valid t h.sound start h.block v (here p t start v h) i c there
-      (λ k. ap (λ (q : Opcode). condition_fits t.index q i k) eo ∙ no_condition t.index o i k none)) now
+      (λ k. ap (λ (q : Opcode). value_fits t.index (pointers p) q i v.id k) eo ∙ no_value t.index (pointers p) o i v.id k none)) now
 
   -- three operands that are read, and one that is written
   pub reads_three : (s : State) (wa wb wc : Width) (a b c : Arg) (x y z : ℕ) (width : Width) (to : Home)
@@ -70,7 +71,7 @@ module _ (p : Procedure) (t : Tables) (start : Start) (v : Value) (h : Here p t 
   not_phi : (o : Opcode) → v.kind.opcode ≡ o → (o ≡ opcode.Phi → ⊥) → v.kind.opcode ≡ opcode.Phi → ⊥
   not_phi o eo differs e = differs (sym eo ∙ e)
 
-  module _ (o : Opcode) (eo : v.kind.opcode ≡ o) (none : has_condition o ≡ false) (no_phi : o ≡ opcode.Phi → ⊥) (alike : Ty) (own : v.ty ≡ alike)
+  module _ (o : Opcode) (eo : v.kind.opcode ≡ o) (none : takes_values o ≡ false) (no_phi : o ≡ opcode.Phi → ⊥) (alike : Ty) (own : v.ty ≡ alike)
       (two : TwoHere (type_of p) h.st.words alike Alike Alike v.children (words_here p t start v h)) (divide : AirOp) (kind : kind_of divide ≡ Computes)
       (q w : ℕ)
       (divides : computed divide (width_of v.ty) (two.wx ∷ two.wy ∷ []) ≡ Some q) (rest : IsRest (width_of v.ty) q two.wx two.wy w) where

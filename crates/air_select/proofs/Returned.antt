@@ -24,7 +24,7 @@ use Rattle.stackmap.specs.declared.site.Returns.{Returns}
 use Rattle.stackmap.specs.declared.site.Returns.TheVariants as returns
 use Rattle.air_select.specs.Contract.{ReturnsType}
 use Rattle.air_select.specs.Selected.{returns_by, returns_child, returns_type, selected, selected_by}
-use Rattle.air_select.specs.Tables.{Index, index_of, known}
+use Rattle.air_fold.specs.Values.{Index, index_of, known}
 
 -- ---- where values stand
 pub at_place : {X : Type 0} (xs : List X) (k : ℕ) (x : X) → k < length xs → slice_index_or xs k x ≡ x → slice_get xs k ≡ Some x

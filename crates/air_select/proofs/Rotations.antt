@@ -29,7 +29,8 @@ use Rattle.air_ir.specs.declared.operand.Arg.TheVariants.{At, Imm}
 use Rattle.air_ir.specs.declared.operand.Home.{Home}
 use Rattle.air_select.specs.Selected as code
 use Rattle.air_select.specs.Selected.{Tables, arg_of, def_at, folds, negative_amount, result_of, rotate_by, turned, use_at, use_of}
-use Rattle.air_select.specs.Tables.{child, first_extra, home, known, place, width_at}
+use Rattle.air_select.specs.Temporaries.{first_extra, home}
+use Rattle.air_fold.specs.Values.{child, known, place, width_at}
 use Rattle.air_select.proofs.Children.{width_is}
 use Rattle.air_select.proofs.Does.{Does, Here, allows, are_words, gives_does, named, puts, result_small, words_here}
 use Rattle.air_select.proofs.Instructions.{at_home, of_immediate, one_word, reads_def, reads_use, steps_first, steps_last, with_home, writes_def, writes_use}

@@ -52,7 +52,7 @@ module _ (p : Procedure) (valid : IsKept p) (t : Tables) (sound : IsSound p t) (
   Comes ts junk (b3.At block st) o =
       (k : ℕ) × (s : State) × (o ≡ (Goes (Some (To k)) s, junk)) × (slice_get ts k ≡ Some (block + 1)) × Related p t start st s
       × ((passed : List ℕ) × IsReached p passed block [] st)
-  Comes ts junk (b3.Over seen) o = (status : Status) × (s : State) × (o ≡ (Goes (Some (Over status)) s, junk)) × (seen_as s.world status ≡ seen)
+  Comes ts junk (b3.Over seen) o = (status : Status) × (s : State) × (rest : List ℕ) × (o ≡ (Goes (Some (Over status)) s, rest)) × (seen_as s.world status ≡ seen)
   Comes ts junk (b3.Lost loss) o = Unit {0}
 
   abbrev Running : List Value → State → List ℕ → Outcome × List ℕ
@@ -102,7 +102,7 @@ module _ (p : Procedure) (valid : IsKept p) (t : Tables) (sound : IsSound p t) (
           (enters p valid b passed before st v ([], is) reached block refl fits.0 fits.1),
     ),
   )
-  last_comes b passed before v st junk is reached ws (b3.End (b3.Over seen)) o fits does = (does.0, does.1, rw does.2 refl, does.3)
+  last_comes b passed before v st junk is reached ws (b3.End (b3.Over seen)) o fits does = (does.0, does.1, does.2, rw does.3 refl, does.4)
   last_comes b passed before v st junk is reached ws (b3.End (b3.Lost b3.Malformed)) o fits does = tt
   last_comes b passed before v st junk is reached ws (b3.End (b3.Lost (b3.Undefined_ u))) o fits does = tt
   last_comes b passed before v st junk is reached ws (b3.End (b3.At block next)) o fits does = absurd fits
@@ -116,7 +116,7 @@ module _ (p : Procedure) (valid : IsKept p) (t : Tables) (sound : IsSound p t) (
   middle_comes b passed before rest v st junk is reached goes (b3.Next next) o ts fits does more =
       rw does.1 (more next does.0 (goes_on p valid b passed before st v (rest, is) reached next fits.1) does.2)
   middle_comes b passed before rest v st junk is reached goes (b3.To block next) o ts fits does more = ends v fits.0 goes
-  middle_comes b passed before rest v st junk is reached goes (b3.End (b3.Over seen)) o ts fits does more = (does.0, does.1, rw does.2 refl, does.3)
+  middle_comes b passed before rest v st junk is reached goes (b3.End (b3.Over seen)) o ts fits does more = (does.0, does.1, does.2, rw does.3 refl, does.4)
   middle_comes b passed before rest v st junk is reached goes (b3.End (b3.Lost b3.Malformed)) o ts fits does more = tt
   middle_comes b passed before rest v st junk is reached goes (b3.End (b3.Lost (b3.Undefined_ u))) o ts fits does more = tt
   middle_comes b passed before rest v st junk is reached goes (b3.End (b3.At block next)) o ts fits does more = absurd fits
@@ -164,14 +164,14 @@ module _ (p : Procedure) (valid : IsKept p) (t : Tables) (sound : IsSound p t) (
 
   abbrev pub Alike : List ℕ → b3.Config → Config × List ℕ → Type 0
   Alike junk (b3.At block st) d = (s : State) × (d ≡ (At (suc block) s, junk)) × Related p t start st s × ((passed : List ℕ) × IsReached p passed block [] st)
-  Alike junk (b3.Over seen) d = d ≡ (Stopped seen, junk)
+  Alike junk (b3.Over seen) d = (rest : List ℕ) × (d ≡ (Stopped seen, rest))
   Alike junk (b3.Lost loss) d = Unit {0}
 
   leaves_block : (ts junk : List ℕ) (c : b3.Config) (o : Outcome × List ℕ) → Comes ts junk c o → Alike junk c (left ts o)
   leaves_block ts junk (b3.At block st) o comes =
       let one : block + 1 ≡ suc block = omega arith in
       (comes.1, rw (comes.2, comes.3) (ap (λ n. (At n comes.1, junk)) one), comes.4, comes.5)
-  leaves_block ts junk (b3.Over seen) o comes = rw comes.2 (ap (λ (x : Observation). (Stopped x, junk)) comes.3)
+  leaves_block ts junk (b3.Over seen) o comes = (comes.2, rw comes.3 (ap (λ (x : Observation). (Stopped x, comes.2)) comes.4))
   leaves_block ts junk (b3.Lost loss) o comes = tt
 
   module _ (q : AirProc) (entry : AirBlock) (blocks_are : q.blocks ≡ entry ∷ map (block_code t) p.blocks) where
@@ -196,7 +196,7 @@ module _ (p : Procedure) (valid : IsKept p) (t : Tables) (sound : IsSound p t) (
     run_alike junk (b3.At b st) d a =
         subst (λ (x : Config × List ℕ). Alike junk (b3.block_step p start (b3.At b st)) (run_step (meaning start) q x)) (sym a.1)
         (block_alike junk b st a.0 a.2 a.3.0 a.3.1)
-    run_alike junk (b3.Over seen) d a = ap (run_step (meaning start) q) a
+    run_alike junk (b3.Over seen) d a = (a.0, ap (run_step (meaning start) q) a.1)
     run_alike junk (b3.Lost loss) d a = tt
 
     pub runs_alike : (junk : List ℕ) (n : ℕ) (c : b3.Config) (d : Config × List ℕ) → Alike junk c d
@@ -209,5 +209,5 @@ module _ (p : Procedure) (valid : IsKept p) (t : Tables) (sound : IsSound p t) (
       ap (λ (x : Config × List ℕ). observe x.0) a.1
       ∙ ap (λ (m : Memory). record { status = Going; events = (a.0).world.events; memory = m }) a.2.memory
       ∙ ap (λ (l : List Event). record { status = Going; events = l; memory = st.memory }) a.2.events
-  seen_alike junk (b3.Over seen) d a defined = ap (λ (x : Config × List ℕ). observe x.0) a
+  seen_alike junk (b3.Over seen) d a defined = ap (λ (x : Config × List ℕ). observe x.0) a.1
   seen_alike junk (b3.Lost loss) d a defined = absurd (defined refl)

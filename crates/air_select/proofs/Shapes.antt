@@ -7,7 +7,7 @@ use Rattle.b3_ir.specs.declared.table.Takes.{Takes}
 use Rattle.b3_ir.specs.declared.table.More.TheVariants.{NoMore}
 use Rattle.b3_meaning.specs.Run as b3
 use Rattle.b3_sound.proofs.Lists.{contains_head, contains_tail}
-use Rattle.air_select.specs.Tables.{child}
+use Rattle.air_fold.specs.Values.{child}
 use Rattle.air_select.proofs.Children.{words_cons, words_nil}
 
 module _ (types : ℕ → Ty) (f : ℕ → Option ℕ) (alike : Ty) where

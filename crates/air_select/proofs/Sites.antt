@@ -1,33 +1,38 @@
--- What holds of each instruction that is selected: its op is no access, call or site, and it names no spill place.
-use Rattle.std.proofs.Common.{◌≡◌, ◌+◌, ℕ, zero, suc, Bool, true, false, List, [], ◌∷◌, ◌++◌, map, refl, sym, ap, ◌∙◌, ◌*◌, Some, subst}
+-- What holds of each instruction that is selected: its op is one that is selected, of arithmetic where its opcode is, and it
+-- names no spill place.
+use Rattle.std.proofs.Common.{◌≡◌, pos, ◌+◌, ℕ, zero, suc, Bool, true, false, ◌||◌, List, [], ◌∷◌, ◌++◌, map, refl, sym, ap, ◌∙◌, ◌*◌, Some, subst}
 use Rattle.std.specs.Prelude.{All, if◌then◌else◌, slice_get}
 use Rattle.std.proofs.lemmas.Option.{get_or_from_slice_get, slice_get_within}
 use Rattle.std.specs.List.{flat_map}
 use Rattle.std.proofs.lemmas.List.Concat.{flat_map-cons}
-use Rattle.std.proofs.lemmas.List.Elements.{All-append, All-cons, All-get_or, All-map, All-nil, All-weaker}
+use Rattle.std.proofs.lemmas.List.Elements.{All-append, All-cons, All-get_or, All-head, All-map, All-nil, All-tail, All-weaker}
 use Rattle.b3_base.specs.declared.word.Width.{Width}
-use Rattle.b3_base.specs.declared.word.Width.TheVariants.{W32}
+use Rattle.b3_base.specs.declared.word.Width.TheVariants.{W32, W64}
 use Rattle.b3_ir.specs.Types.{width_of}
 use Rattle.b3_ir.specs.Procedure.{Block, Procedure, values_of}
 use Rattle.b3_ir.specs.declared.opcode.Opcode.{Opcode}
 use Rattle.b3_ir.specs.declared.opcode.Opcode.TheVariants as opcode
 use Rattle.b3_ir.specs.declared.value.Value.{Value}
-use Rattle.air_ir.specs.Kinds.{Kind, Copies, Computes, Branches, Jumps, Switches, Returns, Fails, kind_of, makes_site}
-use Rattle.air_ir.specs.WellFormed.{HasOneSiteEach, NamesSpillsBelow, SpillsBelow, StandsAt}
+use Rattle.b3_meaning.specs.declared.role.Extent.{Extent}
+use Rattle.b3_meaning.specs.declared.role.Extent.TheVariants.{Byte, Half, Whole}
+use Rattle.air_ir.specs.Forms.{is_offset}
+use Rattle.air_ir.specs.Kinds.{Kind, Copies, Computes, Branches, Jumps, Switches, Returns, Fails, extent_bytes, kind_of, makes_site}
+use Rattle.air_ir.specs.WellFormed.{NamesSpillsBelow, SpillsBelow}
 use Rattle.air_ir.specs.declared.op.AirOp.{AirOp}
 use Rattle.air_ir.specs.declared.op.AirOp.TheVariants as op
 use Rattle.air_ir.specs.declared.op.Test.TheVariants.{Bit, Compare, NonZero}
 use Rattle.air_ir.specs.declared.operand.Arg.{Arg}
-use Rattle.air_ir.specs.declared.operand.Arg.TheVariants.{At, Imm}
+use Rattle.air_ir.specs.declared.operand.Arg.TheVariants.{Addr, At, FrameSlot, Imm, Index as Indexed}
 use Rattle.air_ir.specs.declared.operand.Home.TheVariants.{Tmp}
 use Rattle.air_ir.specs.declared.operand.Operand.{Operand}
 use Rattle.air_ir.specs.declared.procedure.AirBlock.{AirBlock}
 use Rattle.air_ir.specs.declared.procedure.AirInst.{AirInst}
-use Rattle.air_ir.specs.declared.procedure.AirProc.{AirProc}
-use Rattle.air_select.specs.Contract.{IsArithmetic, is_arithmetic, is_arithmetic_kind}
-use Rattle.air_select.specs.Foldable.{bit_of, is_comparison}
-use Rattle.air_select.specs.Selected.{Condition, Tables, arg_of, argument_move, argument_moves, block_code, cases_in, chosen_rest, code_of, computes, condition, condition_of, copy_of, def_at, entry_of, folded_condition, folds, inst, last_id, move, names_argument, negative_amount, op_of, quotient_of, register, rest_into, result_of, return_of, rotate_by, select_on, selected, selected_by, tables, turned, use_at, use_of, value_code}
-use Rattle.air_select.specs.Tables.{Index, child, first_extra, home, known, place, second_extra, width_at}
+use Rattle.air_select.specs.Contract.{HasArithmeticAlone, IsArithmetic, IsSelected, is_arithmetic, is_arithmetic_kind, is_arithmetic_opcode, is_selected, is_selected_kind}
+use Rattle.air_fold.specs.Foldable.{bit_of, is_comparison, is_constant, whole}
+use Rattle.air_fold.specs.declared.known.Known.{Known}
+use Rattle.air_select.specs.Selected.{Condition, Tables, address_of, arg_of, argument_move, argument_moves, before_access, block_code, cases_in, chosen_rest, code_of, computes, condition, condition_of, copy_of, def_at, entry_of, far_sum, folded_condition, folds, home_address, indexed_by, inst, last_id, load_of, move, names_argument, negative_amount, op_of, quotient_of, register, rest_into, result_of, return_of, rotate_by, select_on, selected, selected_by, slot_in, store_of, sum_address, tables, turned, use_at, use_of, value_code}
+use Rattle.air_select.specs.Temporaries.{first_extra, home, second_extra}
+use Rattle.air_fold.specs.Values.{Index, child, known, offset_in, place, width_at}
 
 -- ---- lists
 pub all_flat : {X Y : Type 0} (P : Y → Type 0) (f : X → List Y) → ((x : X) → All P (f x)) → (xs : List X) → All P (flat_map f xs)
@@ -68,6 +73,28 @@ module _ (P : AirInst → Type 0) (values : (t : Tables) (v : Value) → All P (
       (entries (tables p).index (values_of p 0))
       (All-map (λ (b : AirBlock). All P b.insts) (block_code (tables p)) p.blocks
       (all_of (λ (b : Block). All P (block_code (tables p) b).insts) (block_all (tables p)) p.blocks))
+
+-- what holds of the instructions of each value with a property, and of each entry, holds of all where each value has it
+all_flat_when : {X Y : Type 0} (Q : X → Type 0) (P : Y → Type 0) (f : X → List Y) → ((x : X) → Q x → All P (f x)) → (xs : List X) → All Q xs
+    → All P (flat_map f xs)
+all_flat_when Q P f each [] all = All-nil P
+all_flat_when Q P f each (x ∷ xs) all =
+    subst (All P) (sym (flat_map-cons f x xs))
+    (All-append P (f x) (flat_map f xs) (each x (All-head Q x xs all)) (all_flat_when Q P f each xs (All-tail Q x xs all)))
+
+module _ (Q : Value → Type 0) (P : AirInst → Type 0) (values : (t : Tables) (v : Value) → Q v → All P (value_code t v))
+    (entries : (x : Index) (vs : List Value) → All P (entry_of x vs).insts) where
+  block_when : (t : Tables) (b : Block) → All Q b.values → All P (block_code t b).insts
+  unfolding block_code
+  block_when t b all = all_flat_when Q P (value_code t) (values t) b.values all
+
+  pub selected_when : (p : Procedure) → All (λ (b : Block). All Q b.values) p.blocks → All (λ (b : AirBlock). All P b.insts) (selected p).blocks
+  unfolding selected_by
+  selected_when p all =
+      All-cons (λ (b : AirBlock). All P b.insts) (entry_of (tables p).index (values_of p 0)) (map (block_code (tables p)) p.blocks)
+      (entries (tables p).index (values_of p 0))
+      (All-map (λ (b : AirBlock). All P b.insts) (block_code (tables p)) p.blocks
+      (All-weaker (λ (b : Block). All Q b.values) (λ (b : Block). All P (block_code (tables p) b).insts) (block_when (tables p)) p.blocks all))
 
 -- ---- operands
 abbrev pub IsLow : Operand → Type 0
@@ -113,6 +140,57 @@ pub record IsPlain (i : AirInst) : Type 0 where
   pub arithmetic : is_arithmetic i.op ≡ true
   pub traps : i.traps ≡ false
   pub low : All IsLow i.operands
+
+-- the op of an instruction is one that is selected, and it names no spill place
+pub record IsFine (i : AirInst) : Type 0 where
+  pub selected : is_selected i.op ≡ true
+  pub low : All IsLow i.operands
+
+-- what an arithmetic op is among those that are selected
+arithmetic_kind_selected : (k : Kind) → is_arithmetic_kind k ≡ true → is_selected_kind k ≡ true
+arithmetic_kind_selected Copies e = refl
+arithmetic_kind_selected Computes e = refl
+arithmetic_kind_selected (Branches test) e = refl
+arithmetic_kind_selected Jumps e = refl
+arithmetic_kind_selected (Switches cases) e = refl
+arithmetic_kind_selected Returns e = refl
+arithmetic_kind_selected Fails e = refl
+arithmetic_kind_selected _ e = absurd cc
+
+arithmetic_selected : (op : AirOp) → is_arithmetic op ≡ true → is_selected op ≡ true
+arithmetic_selected op.Shuffle e = absurd cc
+arithmetic_selected op.Move e = refl
+arithmetic_selected o e = arithmetic_kind_selected (kind_of o) e
+
+plain_fine : (i : AirInst) → IsPlain i → IsFine i
+plain_fine i p = record { selected = arithmetic_selected i.op p.arithmetic; low = p.low }
+
+-- the opcodes that are selected as accesses, or as the address of a slot or the frame pointer
+abbrev pub touches : Opcode → Bool
+touches opcode.FramePointer = true
+touches opcode.SlotBase = true
+touches opcode.Load8Z = true
+touches opcode.Load8S = true
+touches opcode.Load16Z = true
+touches opcode.Load16S = true
+touches opcode.Load = true
+touches opcode.Store8 = true
+touches opcode.Store16 = true
+touches opcode.Store = true
+touches _ = false
+
+arithmetic_touches : (o : Opcode) → is_arithmetic_opcode o ≡ true → touches o ≡ false
+arithmetic_touches opcode.FramePointer e = absurd cc
+arithmetic_touches opcode.SlotBase e = absurd cc
+arithmetic_touches opcode.Load8Z e = absurd cc
+arithmetic_touches opcode.Load8S e = absurd cc
+arithmetic_touches opcode.Load16Z e = absurd cc
+arithmetic_touches opcode.Load16S e = absurd cc
+arithmetic_touches opcode.Load e = absurd cc
+arithmetic_touches opcode.Store8 e = absurd cc
+arithmetic_touches opcode.Store16 e = absurd cc
+arithmetic_touches opcode.Store e = absurd cc
+arithmetic_touches _ e = refl
 
 one : (value : ℕ) (op : AirOp) (os : List Operand) → is_arithmetic op ≡ true → All IsLow os
     → IsPlain (record { op = op; operands = os; value = value; traps = false })
@@ -205,30 +283,108 @@ module _ (t : Tables) (v : Value) where
   copy_plain : (width : Width) (from : Arg) (to : ℕ) → SpillsBelow 0 from → All IsPlain (copy_of v (width, from, Tmp to) ∷ [])
   copy_plain width from to low = only _ (one v.id op.Move _ refl (low_two (use_at width from) _ low tt))
 
-  code_plain : (o : Opcode) → All IsPlain (code_of t o v)
-  code_plain opcode.Nop = All-nil IsPlain
-  code_plain opcode.Const32 = copy_plain _ _ _ tt
-  code_plain opcode.Const64 = copy_plain _ _ _ tt
-  code_plain opcode.ArgumentReg = copy_plain _ _ _ tt
-  code_plain opcode.Trunc = copy_plain _ _ _ (arg_low t (child v.children 0) W32)
-  code_plain opcode.Upsilon = copy_plain _ _ _ (arg_low t (child v.children 0) W32)
-  code_plain opcode.Phi = copy_plain _ _ _ tt
-  code_plain opcode.Mod = remainder_plain op.Div refl v.kind.chill
-  code_plain opcode.UMod = remainder_plain op.UDiv refl v.kind.chill
-  code_plain opcode.RotL = rotate_left_plain (folds t (child v.children 1))
-  code_plain opcode.Select = select_plain (condition_of t (child v.children 0)) (condition_low t (child v.children 0))
-  code_plain opcode.Jump = only _ (one v.id op.Jump [] refl (All-nil IsLow))
-  code_plain opcode.Oops = only _ (one v.id op.Oops [] refl (All-nil IsLow))
-  code_plain opcode.Branch =
+  pub code_plain : (o : Opcode) → touches o ≡ false → All IsPlain (code_of t o v)
+  code_plain opcode.Nop e = All-nil IsPlain
+  code_plain opcode.Const32 e = copy_plain _ _ _ tt
+  code_plain opcode.Const64 e = copy_plain _ _ _ tt
+  code_plain opcode.ArgumentReg e = copy_plain _ _ _ tt
+  code_plain opcode.Trunc e = copy_plain _ _ _ (arg_low t (child v.children 0) W32)
+  code_plain opcode.Upsilon e = copy_plain _ _ _ (arg_low t (child v.children 0) W32)
+  code_plain opcode.Phi e = copy_plain _ _ _ tt
+  code_plain opcode.Mod e = remainder_plain op.Div refl v.kind.chill
+  code_plain opcode.UMod e = remainder_plain op.UDiv refl v.kind.chill
+  code_plain opcode.RotL e = rotate_left_plain (folds t (child v.children 1))
+  code_plain opcode.Select e = select_plain (condition_of t (child v.children 0)) (condition_low t (child v.children 0))
+  code_plain opcode.Jump e = only _ (one v.id op.Jump [] refl (All-nil IsLow))
+  code_plain opcode.Oops e = only _ (one v.id op.Oops [] refl (All-nil IsLow))
+  code_plain opcode.Branch e =
       let c = condition_of t (child v.children 0) in
       only _ (one v.id (op.BranchIf c.test) c.over refl (condition_low t (child v.children 0)))
-  code_plain opcode.Switch = only _ (one v.id (op.Switch (cases_in v.body)) _ refl (one_low t (child v.children 0)))
-  code_plain opcode.Return = return_plain v.children
-  code_plain o = computes_plain (op_of o) (one_op_plain o)
+  code_plain opcode.Switch e = only _ (one v.id (op.Switch (cases_in v.body)) _ refl (one_low t (child v.children 0)))
+  code_plain opcode.Return e = return_plain v.children
+  code_plain opcode.FramePointer e = absurd cc
+  code_plain opcode.SlotBase e = absurd cc
+  code_plain opcode.Load8Z e = absurd cc
+  code_plain opcode.Load8S e = absurd cc
+  code_plain opcode.Load16Z e = absurd cc
+  code_plain opcode.Load16S e = absurd cc
+  code_plain opcode.Load e = absurd cc
+  code_plain opcode.Store8 e = absurd cc
+  code_plain opcode.Store16 e = absurd cc
+  code_plain opcode.Store e = absurd cc
+  code_plain o e = computes_plain (op_of o) (one_op_plain o)
 
-  value_plain : All IsPlain (value_code t v)
+  value_plain : is_arithmetic_opcode v.kind.opcode ≡ true → All IsPlain (value_code t v)
   unfolding value_code
-  value_plain = pick (All IsPlain) (folds t v.id) [] (code_of t v.kind.opcode v) (All-nil IsPlain) (code_plain v.kind.opcode)
+  value_plain e =
+      pick (All IsPlain) (folds t v.id) [] (code_of t v.kind.opcode v) (All-nil IsPlain) (code_plain v.kind.opcode (arithmetic_touches v.kind.opcode e))
+
+  -- ---- accesses
+
+  pub before_plain : (pointer bytes : ℕ) → All IsPlain (before_access t v pointer bytes)
+  before_plain pointer bytes =
+      pick (All IsPlain) (folds t pointer || is_offset bytes (offset_in v.body)) [] (far_sum t v pointer) (All-nil IsPlain)
+      (all_two IsPlain _ _
+      (one v.id op.Move _ refl (low_two (use_at W64 (Imm _)) (def_at W64 (first_extra t.index v.id)) tt tt))
+      (one v.id op.Add _ refl (low_three (use_of t pointer) (use_at W64 (At (first_extra t.index v.id))) (def_at W64 (second_extra t.index v.id))
+      (use_low t pointer) tt tt)))
+
+  sum_low : (k : Known) → SpillsBelow 0 (sum_address t v k)
+  sum_low k =
+      let second = known t.index k.second in
+      pick (SpillsBelow 0) (is_constant second.opcode) (Addr (home t.index k.first) (whole second.word (offset_in v.body)))
+      (indexed_by t (home t.index k.first) k.second second) tt
+      (pick (SpillsBelow 0) (folds t k.second) (Indexed (home t.index k.first) (home t.index second.first) 3)
+      (Indexed (home t.index k.first) (home t.index k.second) 0) (tt, tt) (tt, tt))
+
+  address_low : (width : Width) (pointer bytes : ℕ) → IsLow (use_at width (address_of t v pointer bytes))
+  address_low width pointer bytes =
+      pick (SpillsBelow 0) (folds t pointer) (sum_address t v (known t.index pointer)) (home_address t v pointer bytes) (sum_low (known t.index pointer))
+      (pick (SpillsBelow 0) (is_offset bytes (offset_in v.body)) (Addr (home t.index pointer) (offset_in v.body)) (Addr (second_extra t.index v.id) (pos 0))
+      tt tt)
+
+  load_fine : (air_op : AirOp) (extent : Extent) → is_selected air_op ≡ true → All IsFine (load_of t v air_op extent)
+  load_fine air_op extent is =
+      let width = width_of v.ty in
+      let pointer = child v.children 0 in
+      let bytes = extent_bytes extent width in
+      All-append IsFine (before_access t v pointer bytes) _
+      (All-weaker IsPlain IsFine plain_fine (before_access t v pointer bytes) (before_plain pointer bytes))
+      (all_one IsFine _ (record { selected = is; low = low_two (use_at width (address_of t v pointer bytes)) (result_of t v) (address_low width pointer bytes) tt }))
+
+  store_fine : (air_op : AirOp) (extent : Extent) → is_selected air_op ≡ true → All IsFine (store_of t v air_op extent)
+  store_fine air_op extent is =
+      let from = child v.children 0 in
+      let width = width_at t.index from in
+      let pointer = child v.children 1 in
+      let bytes = extent_bytes extent width in
+      All-append IsFine (before_access t v pointer bytes) _
+      (All-weaker IsPlain IsFine plain_fine (before_access t v pointer bytes) (before_plain pointer bytes))
+      (all_one IsFine _ (record {
+        selected = is;
+        low = low_two (use_of t from) (use_at width (address_of t v pointer bytes)) (use_low t from) (address_low width pointer bytes);
+      }))
+
+  weakly : (o : Opcode) → touches o ≡ false → All IsFine (code_of t o v)
+  weakly o e = All-weaker IsPlain IsFine plain_fine (code_of t o v) (code_plain o e)
+
+  code_fine : (o : Opcode) → All IsFine (code_of t o v)
+  code_fine opcode.FramePointer = all_one IsFine _ (record { selected = refl; low = all_one IsLow (result_of t v) tt })
+  code_fine opcode.SlotBase =
+      all_one IsFine _ (record { selected = refl; low = low_two (use_at W64 (FrameSlot (slot_in v.body))) (result_of t v) tt tt })
+  code_fine opcode.Load8Z = load_fine op.Load8Z Byte refl
+  code_fine opcode.Load8S = load_fine op.Load8S Byte refl
+  code_fine opcode.Load16Z = load_fine op.Load16Z Half refl
+  code_fine opcode.Load16S = load_fine op.Load16S Half refl
+  code_fine opcode.Load = load_fine op.Load Whole refl
+  code_fine opcode.Store8 = store_fine op.Store8 Byte refl
+  code_fine opcode.Store16 = store_fine op.Store16 Half refl
+  code_fine opcode.Store = store_fine op.Store Whole refl
+  code_fine o = weakly o refl
+
+  value_fine : All IsFine (value_code t v)
+  unfolding value_code
+  value_fine = pick (All IsFine) (folds t v.id) [] (code_of t v.kind.opcode v) (All-nil IsFine) (code_fine v.kind.opcode)
 
 moves_plain : (x : Index) (vs : List Value) (value n : ℕ) → All IsPlain (argument_moves x vs value n)
 moves_plain x vs value zero = All-nil IsPlain
@@ -237,27 +393,39 @@ moves_plain x vs value (suc r) =
     (pick (All IsPlain) (names_argument vs r) (argument_move x value r ∷ []) []
     (only _ (one value op.Move _ refl (low_two _ _ tt tt))) (All-nil IsPlain))
 
-entry_plain : (x : Index) (vs : List Value) → All IsPlain (entry_of x vs).insts
+pub entry_plain : (x : Index) (vs : List Value) → All IsPlain (entry_of x vs).insts
 unfolding entry_of
 entry_plain x vs =
     All-append IsPlain (argument_moves x vs (last_id vs) 8) _ (moves_plain x vs (last_id vs) 8)
     (only _ (one (last_id vs) op.Jump [] refl (All-nil IsLow)))
 
-all_plain : (p : Procedure) → All (λ (b : AirBlock). All IsPlain b.insts) (selected p).blocks
-all_plain p = selected_all IsPlain value_plain entry_plain p
+all_fine : (p : Procedure) → All (λ (b : AirBlock). All IsFine b.insts) (selected p).blocks
+all_fine p =
+    selected_all IsFine value_fine (λ x vs. All-weaker IsPlain IsFine plain_fine (entry_of x vs).insts (entry_plain x vs)) p
 
 -- ---- what the composition asks
-pub arithmetic : (p : Procedure) → IsArithmetic (selected p)
-arithmetic p =
+pub arithmetic : (p : Procedure) → HasArithmeticAlone p → IsArithmetic (selected p)
+arithmetic p alone =
+    let Q = λ (v : Value). is_arithmetic_opcode v.kind.opcode ≡ true in
     All-weaker (λ (b : AirBlock). All IsPlain b.insts) (λ (b : AirBlock). All (λ (i : AirInst). is_arithmetic i.op ≡ true) b.insts)
     (λ b all. All-weaker IsPlain (λ (i : AirInst). is_arithmetic i.op ≡ true) (λ i plain. plain.arithmetic) b.insts all)
-    (selected p).blocks (all_plain p)
+    (selected p).blocks (selected_when Q IsPlain value_plain entry_plain p alone)
+
+pub are_selected : (p : Procedure) → IsSelected (selected p)
+are_selected p =
+    All-weaker (λ (b : AirBlock). All IsFine b.insts) (λ (b : AirBlock). All (λ (i : AirInst). is_selected i.op ≡ true) b.insts)
+    (λ b all. All-weaker IsFine (λ (i : AirInst). is_selected i.op ≡ true) (λ i fine. fine.selected) b.insts all)
+    (selected p).blocks (all_fine p)
 
 pub spills : (p : Procedure) → NamesSpillsBelow 0 (selected p)
 spills p =
-    All-weaker (λ (b : AirBlock). All IsPlain b.insts) (λ (b : AirBlock). All (λ (i : AirInst). All IsLow i.operands) b.insts)
-    (λ b all. All-weaker IsPlain (λ (i : AirInst). All IsLow i.operands) (λ i plain. plain.low) b.insts all)
-    (selected p).blocks (all_plain p)
+    All-weaker (λ (b : AirBlock). All IsFine b.insts) (λ (b : AirBlock). All (λ (i : AirInst). All IsLow i.operands) b.insts)
+    (λ b all. All-weaker IsFine (λ (i : AirInst). All IsLow i.operands) (λ i fine. fine.low) b.insts all)
+    (selected p).blocks (all_fine p)
+
+-- ---- sites
+abbrev pub IsQuiet : AirInst → Type 0
+IsQuiet i = makes_site (kind_of i.op) i.traps ≡ false
 
 quiet_kind : (k : Kind) → is_arithmetic_kind k ≡ true → makes_site k false ≡ false
 quiet_kind Copies e = refl
@@ -274,15 +442,5 @@ kind_arithmetic op.Shuffle e = refl
 kind_arithmetic op.Move e = refl
 kind_arithmetic _ e = e
 
-makes_none : (i : AirInst) → IsPlain i → makes_site (kind_of i.op) i.traps ≡ false
+pub makes_none : (i : AirInst) → IsPlain i → IsQuiet i
 makes_none i plain = ap (makes_site (kind_of i.op)) plain.traps ∙ quiet_kind (kind_of i.op) (kind_arithmetic i.op plain.arithmetic)
-
-its_inst : (q : AirProc) (b k : ℕ) (i : AirInst) → All (λ (b : AirBlock). All IsPlain b.insts) q.blocks → StandsAt q b k i → IsPlain i
-its_inst q b k i all at =
-    let in_block : All IsPlain at.of.insts = All-slice (λ (b : AirBlock). All IsPlain b.insts) q.blocks b at.of all at.block_there in
-    All-slice IsPlain at.of.insts k i in_block at.inst_there
-
--- no instruction makes a site
-pub sites : (p : Procedure) → HasOneSiteEach (selected p)
-sites p b c k l i j at other made also same =
-    absurd (not_both (sym (makes_none i (its_inst (selected p) b k i (all_plain p) at)) ∙ made))

@@ -24,9 +24,10 @@ use Rattle.air_ir.specs.Meaning.{meaning}
 use Rattle.air_ir.specs.Operands.{Empty, Held, Holds, read, word_of}
 use Rattle.air_ir.specs.Steps.{Goes, steps}
 use Rattle.air_ir.specs.declared.operand.Arg.TheVariants.{At}
-use Rattle.air_select.specs.Foldable.{condition_fits}
+use Rattle.air_fold.specs.Foldable.{constant_fits, pointers, sum_fits, value_fits}
 use Rattle.air_select.specs.Selected.{Tables, arg_of, folds, move, phi_in}
-use Rattle.air_select.specs.Tables.{child, home, location, width_at}
+use Rattle.air_select.specs.Temporaries.{home, location}
+use Rattle.air_fold.specs.Values.{child, width_at}
 use Rattle.air_select.proofs.Children.{unfolded, width_is, word_small}
 use Rattle.air_select.proofs.Copied.{child_here, first_child, moved, place_of_child, row_of_role}
 use Rattle.air_select.proofs.Does.{Does, Here, allows, are_words, gives_does, here, puts, result_small, rules, words_here}
@@ -81,7 +82,7 @@ module _ (p : Procedure) (t : Tables) (start : Start) (v : Value) (h : Here p t 
         moved p t start v h h.s junk (width_at t.index shape.x) (arg_of t shape.x) (location t.index phi) shape.wx
             (child_here p t start v h 0 shape.x shape.wx (place_of_child p t start v h v.children shape.x [] shape.are)
             (first_child p t start v h shape.x [] shape.are) shape.x_now
-            (λ k. ap (λ (q : Opcode). condition_fits t.index q 0 k) eo)),
+            (λ k. ap (λ (q : Opcode). value_fits t.index (pointers p) q 0 v.id k) eo)),
         location_related p t h.sound start h.st h.s h.related phi suits.0 suits.1 shape.wx (Holds (width_at t.index shape.x) shape.wx) suits.2
             (ap (λ (k : Width). read k (Holds (width_at t.index shape.x) shape.wx)) widths ∙ holds_word (width_at t.index shape.x) shape.wx
             (word_small p h.valid t h.sound start h.passed h.block h.before (v ∷ h.rest) h.stands h.st h.reached h.s h.related shape.x shape.wx shape.x_now)),
@@ -107,7 +108,8 @@ module _ (p : Procedure) (t : Tables) (start : Start) (v : Value) (h : Here p t 
       ∙ ap (λ (q : Opcode). result q v.kind.chill v.ty ws (types_of p v)) (sym eo) ∙ g) in
       let un : folds t shape.x ≡ false =
       unfolded p h.valid t h.sound start h.block v (here p t start v h) 0 shape.x (place_of_child p t start v h v.children shape.x [] shape.are)
-      (λ k. ap (λ (q : Opcode). condition_fits t.index q 0 k) eo) (λ width word. refl) in
+      (λ k. ap (λ (q : Opcode). value_fits t.index (pointers p) q 0 v.id k) eo)
+      (λ width word. ap (λ (q : Opcode). constant_fits q 0 width word) eo) (ap (λ (q : Opcode). sum_fits t.index (pointers p) q 0 v.id) eo) in
       let wide : width_at t.index shape.x ≡ W64 =
       width_is p h.valid t h.sound start h.passed h.block h.before (v ∷ h.rest) h.stands h.st h.reached h.s h.related shape.x ∙ ap width_of shape.x_taken in
       let in_home : read W64 (h.s.homes (home t.index shape.x)) ≡ Some shape.wx =

@@ -19,17 +19,19 @@ use Rattle.b3_ir.proofs.Typing.{allowed}
 use Rattle.b3_rules.specs.Rules.{types_of}
 use Rattle.b3_sound.proofs.Distinct.{stands}
 use Rattle.b3_sound.proofs.Kept.{IsKept}
-use Rattle.air_ir.specs.Forms.{AllFit, Fits, NoImmediate, OfSum, IsHome, IsWord, Word, BitOf, test_takes}
+use Rattle.air_ir.specs.Forms.{AllFit, Immediates, Fits, NoImmediate, OfSum, IsHome, IsWord, Word, BitOf, test_takes}
 use Rattle.air_ir.specs.declared.op.Test.TheVariants.{Bit, Compare, NonZero}
 use Rattle.air_ir.specs.declared.operand.Arg.TheVariants.{At, Imm}
-use Rattle.air_select.specs.Foldable.{bit_of, condition_fits, constant_fits, is_and, is_bit, is_bit_test, is_comparison, is_constant, second_immediates}
+use Rattle.air_fold.specs.Foldable.{first_immediates, bit_of, constant_fits, is_and, is_bit, is_bit_test, is_comparison, is_constant, pointers, second_immediates, sum_fits, value_fits}
 use Rattle.air_select.specs.Selected.{Condition, Tables, condition, condition_of, folded_condition, folds, use_of}
-use Rattle.air_select.specs.Tables.{child, home, known, known_in, width_at}
-use Rattle.air_select.specs.declared.known.Known.{Known}
+use Rattle.air_select.specs.Temporaries.{home}
+use Rattle.air_fold.specs.Values.{Index, child, known, known_in, width_at}
+use Rattle.air_fold.specs.declared.known.Known.{Known}
 use Rattle.air_select.proofs.Children.{fit_cases}
 use Rattle.air_select.proofs.Forms.{child_as, fit_one, fit_two}
 use Rattle.air_select.proofs.Operands.{constant_small, two_of}
 use Rattle.air_select.proofs.Returned.{contains_at, id_found, named_of, stands_somewhere}
+use Rattle.air_select.proofs.Plain.{no_value, takes_values}
 use Rattle.air_select.proofs.Setting.{IsSound}
 
 -- a condition is over what its test takes at a width
@@ -39,23 +41,25 @@ IsTested c = (width : Width) × AllFit (test_takes c.test width) c.over
 -- the opcodes of comparisons and of a bit's conjunction have two children of one type, none of which is a condition
 pub record IsPair (o : Opcode) : Type 0 where
   pub taken : (ty : Ty) (types : List Ty) → AllowsTypes o ty types → (a : Ty) × (a ≢ Void) × AreTaken a (Alike ∷ Alike ∷ []) NoMore types
-  pub plain : (t : Tables) (i : ℕ) (k : Known) → condition_fits t.index o i k ≡ false
+  pub plain : takes_values o ≡ false
+  pub no_sum : (x : Index) (f : List Bool) (i user : ℕ) → sum_fits x f o i user ≡ false
+  pub none_first : first_immediates o ≡ NoImmediate
 
 comparison_pair : (o : Opcode) → is_comparison o ≡ true → IsPair o
-comparison_pair opcode.Equal e = record { taken = λ ty types h. (h.alike, h.typed, h.children); plain = λ t i k. refl }
-comparison_pair opcode.NotEqual e = record { taken = λ ty types h. (h.alike, h.typed, h.children); plain = λ t i k. refl }
-comparison_pair opcode.LessThan e = record { taken = λ ty types h. (h.alike, h.typed, h.children); plain = λ t i k. refl }
-comparison_pair opcode.GreaterThan e = record { taken = λ ty types h. (h.alike, h.typed, h.children); plain = λ t i k. refl }
-comparison_pair opcode.LessEqual e = record { taken = λ ty types h. (h.alike, h.typed, h.children); plain = λ t i k. refl }
-comparison_pair opcode.GreaterEqual e = record { taken = λ ty types h. (h.alike, h.typed, h.children); plain = λ t i k. refl }
-comparison_pair opcode.Above e = record { taken = λ ty types h. (h.alike, h.typed, h.children); plain = λ t i k. refl }
-comparison_pair opcode.Below e = record { taken = λ ty types h. (h.alike, h.typed, h.children); plain = λ t i k. refl }
-comparison_pair opcode.AboveEqual e = record { taken = λ ty types h. (h.alike, h.typed, h.children); plain = λ t i k. refl }
-comparison_pair opcode.BelowEqual e = record { taken = λ ty types h. (h.alike, h.typed, h.children); plain = λ t i k. refl }
+comparison_pair opcode.Equal e = record { taken = λ ty types h. (h.alike, h.typed, h.children); plain = refl; no_sum = λ x f i user. refl; none_first = refl }
+comparison_pair opcode.NotEqual e = record { taken = λ ty types h. (h.alike, h.typed, h.children); plain = refl; no_sum = λ x f i user. refl; none_first = refl }
+comparison_pair opcode.LessThan e = record { taken = λ ty types h. (h.alike, h.typed, h.children); plain = refl; no_sum = λ x f i user. refl; none_first = refl }
+comparison_pair opcode.GreaterThan e = record { taken = λ ty types h. (h.alike, h.typed, h.children); plain = refl; no_sum = λ x f i user. refl; none_first = refl }
+comparison_pair opcode.LessEqual e = record { taken = λ ty types h. (h.alike, h.typed, h.children); plain = refl; no_sum = λ x f i user. refl; none_first = refl }
+comparison_pair opcode.GreaterEqual e = record { taken = λ ty types h. (h.alike, h.typed, h.children); plain = refl; no_sum = λ x f i user. refl; none_first = refl }
+comparison_pair opcode.Above e = record { taken = λ ty types h. (h.alike, h.typed, h.children); plain = refl; no_sum = λ x f i user. refl; none_first = refl }
+comparison_pair opcode.Below e = record { taken = λ ty types h. (h.alike, h.typed, h.children); plain = refl; no_sum = λ x f i user. refl; none_first = refl }
+comparison_pair opcode.AboveEqual e = record { taken = λ ty types h. (h.alike, h.typed, h.children); plain = refl; no_sum = λ x f i user. refl; none_first = refl }
+comparison_pair opcode.BelowEqual e = record { taken = λ ty types h. (h.alike, h.typed, h.children); plain = refl; no_sum = λ x f i user. refl; none_first = refl }
 comparison_pair _ e = absurd cc
 
 and_pair : (o : Opcode) → is_and o ≡ true → IsPair o
-and_pair opcode.BitAnd e = record { taken = λ ty types h. (h.alike, h.typed, h.children); plain = λ t i k. refl }
+and_pair opcode.BitAnd e = record { taken = λ ty types h. (h.alike, h.typed, h.children); plain = refl; no_sum = λ x f i user. refl; none_first = refl }
 and_pair _ e = absurd cc
 
 comparison_immediates : (o : Opcode) → is_comparison o ≡ true → second_immediates o ≡ OfSum
@@ -122,11 +126,14 @@ module _ (p : Procedure) (kept : IsKept p) (t : Tables) (sound : IsSound p t) wh
       let x : (known t.index c).first ≡ cs.0 = ap (λ (k : Known). k.first) s.is ∙ ap (λ (l : List ℕ). child l 0) cs.2 in
       let y : (known t.index c).second ≡ cs.1 = ap (λ (k : Known). k.second) s.is ∙ ap (λ (l : List ℕ). child l 1) cs.2 in
       let o = (known t.index c).opcode in
-      let a = child_as p kept t sound s.block w s.there o op_is 0 cs.0 row.0 (ap (λ (l : List ℕ). slice_get l 0) cs.2) (pair.plain t 0) cs.3 row.1 in
-      let b = child_as p kept t sound s.block w s.there o op_is 1 cs.1 row.0 (ap (λ (l : List ℕ). slice_get l 1) cs.2) (pair.plain t 1) cs.4 row.1 in
+      let a = child_as p kept t sound s.block w s.there o op_is 0 cs.0 row.0 (ap (λ (l : List ℕ). slice_get l 0) cs.2)
+      (λ k. no_value t.index (pointers p) o 0 w.id k pair.plain) (pair.no_sum t.index (pointers p) 0 w.id) cs.3 row.1 in
+      let b = child_as p kept t sound s.block w s.there o op_is 1 cs.1 row.0 (ap (λ (l : List ℕ). slice_get l 1) cs.2)
+      (λ k. no_value t.index (pointers p) o 1 w.id k pair.plain) (pair.no_sum t.index (pointers p) 1 w.id) cs.4 row.1 in
       record {
         width = width_of row.0;
-        first = subst (λ n. Fits (Word (width_of row.0) NoImmediate) (use_of t n)) (sym x) a;
+        first = subst (λ n. Fits (Word (width_of row.0) NoImmediate) (use_of t n)) (sym x)
+            (subst (λ (m : Immediates). Fits (Word (width_of row.0) m) (use_of t cs.0)) pair.none_first a);
         second = subst (λ n. Fits (Word (width_of row.0) (second_immediates o)) (use_of t n)) (sym y) b;
         second_typed = λ e. row.1 (sym cs.4 ∙ sym (ap (type_of p) y) ∙ e);
         second_width = ap width_of (sound.types (known t.index c).second ∙ ap (type_of p) y ∙ cs.4);
@@ -172,7 +179,7 @@ module _ (p : Procedure) (kept : IsKept p) (t : Tables) (sound : IsSound p t) wh
   module _ (b : ℕ) (v : Value) (here : Contains (values_of p b) v) (c : ℕ) (at : slice_get v.children 0 ≡ Some c) (typed : type_of p c ≢ Void) where
     -- which conditions fit
     abbrev pub Allows : Type 0
-    Allows = (k : Known) → condition_fits t.index v.kind.opcode 0 k ≡ true → (is_comparison k.opcode ≡ true) ⊎ (is_bit_test t.index k ≡ true)
+    Allows = (k : Known) → value_fits t.index (pointers p) v.kind.opcode 0 v.id k ≡ true → (is_comparison k.opcode ≡ true) ⊎ (is_bit_test t.index k ≡ true)
 
     bit_and_is : (k : Known) → is_bit_test t.index k ≡ true → is_and k.opcode ≡ true
     bit_and_is k e = (both (is_and k.opcode) (is_constant (known t.index k.second).opcode && is_bit (known t.index k.second).word) e).0
@@ -202,13 +209,15 @@ module _ (p : Procedure) (kept : IsKept p) (t : Tables) (sound : IsSound p t) wh
         else record { test = Bit (bit_of (known t.index (known t.index c).second).word); over = use_of t (known t.index c).first ∷ [] }))
         (sym (no_comparison (known t.index c).opcode is)) tested
 
-    pub condition_tested : Allows → ((width : Width) (word : ℕ) → constant_fits v.kind.opcode 0 width word ≡ false) → IsTested (condition_of t c)
-    condition_tested allows never = by (folds t c) refl
+    pub condition_tested : Allows → ((width : Width) (word : ℕ) → constant_fits v.kind.opcode 0 width word ≡ false)
+        → sum_fits t.index (pointers p) v.kind.opcode 0 v.id ≡ false → IsTested (condition_of t c)
+    condition_tested allows never no_sum = by (folds t c) refl
       where
         by : (f : Bool) → folds t c ≡ f → IsTested (if f then folded_condition t c else record { test = NonZero; over = use_of t c ∷ [] })
-        by true e = elim (fit_cases t b v.kind.opcode 0 c (sound.uses_fit b 0 c v here at e)) [
+        by true e = elim (fit_cases t (pointers p) b v.kind.opcode 0 v.id c (sound.uses_fit b 0 c v here at e)) [
           | inl constant ↦ absurd (let bad : true ≡ false = sym constant.fits ∙ never (width_at t.index c) (known t.index c).word in cc)
-          | inr condition ↦ folded_tested (allows (known t.index c) condition.fits)
+          | inr (inl in_sum) ↦ absurd (let bad : true ≡ false = sym in_sum.fits ∙ no_sum in cc)
+          | inr (inr value) ↦ folded_tested (allows (known t.index c) value.fits)
         ]
         by false e = (
           width_at t.index c,

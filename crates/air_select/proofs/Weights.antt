@@ -1,6 +1,7 @@
 -- What is selected weighs little: a value's instructions at most 120, and 32 for each child and case.
-use Rattle.std.proofs.Common.{◌≡◌, ℕ, zero, suc, ◌+◌, ◌*◌, ◌≤◌, Bool, true, false, List, [], ◌∷◌, ◌++◌, map, length, refl, ap, arith, length-append}
+use Rattle.std.proofs.Common.{◌≡◌, ℕ, pos, zero, suc, ◌+◌, ◌*◌, ◌≤◌, Bool, true, false, ◌||◌, List, [], ◌∷◌, ◌++◌, map, length, refl, ap, arith, length-append}
 use Rattle.std.specs.Prelude.{All, if◌then◌else◌, sum_by}
+use Rattle.std.specs.Int.{cast_unsigned, w64}
 use Rattle.std.specs.List.{flat_map}
 use Rattle.std.proofs.lemmas.List.{length-map}
 use Rattle.std.proofs.lemmas.List.Concat.{flat_map-cons, length-flat_map}
@@ -16,21 +17,27 @@ use Rattle.b3_ir.specs.declared.opcode.Opcode.TheVariants as opcode
 use Rattle.b3_ir.specs.declared.value.Body.{Body}
 use Rattle.b3_ir.specs.declared.value.Body.TheVariants.{Cases}
 use Rattle.b3_ir.specs.declared.value.Value.{Value}
+use Rattle.b3_meaning.specs.declared.role.Extent.{Extent}
+use Rattle.b3_meaning.specs.declared.role.Extent.TheVariants.{Byte, Half, Whole}
+use Rattle.air_ir.specs.Forms.{is_offset}
+use Rattle.air_ir.specs.Kinds.{extent_bytes}
 use Rattle.air_ir.specs.Weight.{arg_words, inst_weight, is_shuffle, op_words, weight}
 use Rattle.air_ir.specs.declared.op.AirOp.{AirOp}
 use Rattle.air_ir.specs.declared.op.AirOp.TheVariants as op
 use Rattle.air_ir.specs.declared.op.Test.TheVariants.{Bit, Compare, NonZero}
 use Rattle.air_ir.specs.declared.operand.Arg.{Arg}
-use Rattle.air_ir.specs.declared.operand.Arg.TheVariants.{At, Imm}
+use Rattle.air_ir.specs.declared.operand.Arg.TheVariants.{Addr, At, FrameSlot, Imm, Index as Indexed}
 use Rattle.air_ir.specs.declared.operand.Home.{Home}
 use Rattle.air_ir.specs.declared.operand.Home.TheVariants.{Tmp}
 use Rattle.air_ir.specs.declared.operand.Operand.{Operand}
 use Rattle.air_ir.specs.declared.procedure.AirBlock.{AirBlock}
 use Rattle.air_ir.specs.declared.procedure.AirInst.{AirInst}
 use Rattle.air_select.specs.Contract.{IsFew, IsWithinLimits, case_count, child_count}
-use Rattle.air_select.specs.Foldable.{bit_of, is_comparison}
-use Rattle.air_select.specs.Selected.{Condition, Tables, arg_of, argument_move, argument_moves, block_code, cases_in, chosen_rest, code_of, computes, condition, condition_of, copy_of, def_at, entry_of, folded_condition, folds, inst, last_id, move, names_argument, negative_amount, op_of, phi_in, quotient_of, register, register_in, rest_into, result_of, return_of, rotate_by, select_on, selected, selected_by, tables, turned, use_at, use_of, value_code}
-use Rattle.air_select.specs.Tables.{Index, argument, child, first_extra, home, known, location, place, second_extra, width_at, word_in}
+use Rattle.air_fold.specs.Foldable.{bit_of, is_comparison, is_constant, whole}
+use Rattle.air_fold.specs.declared.known.Known.{Known}
+use Rattle.air_select.specs.Selected.{Condition, Tables, access, address_of, arg_of, argument_move, argument_moves, before_access, block_code, cases_in, chosen_rest, code_of, computes, condition, condition_of, copy_of, def_at, entry_of, far_sum, folded_condition, folds, frame_of, home_address, indexed_by, inst, last_id, load_of, move, names_argument, negative_amount, op_of, phi_in, quotient_of, register, register_in, rest_into, result_of, return_of, rotate_by, select_on, selected, selected_by, slot_in, slot_of, store_of, sum_address, tables, turned, use_at, use_of, value_code}
+use Rattle.air_select.specs.Temporaries.{argument, first_extra, home, location, second_extra}
+use Rattle.air_fold.specs.Values.{Index, child, known, offset_in, place, width_at, word_in}
 use Rattle.air_select.proofs.Sites.{all_of, all_one, all_three, all_two}
 
 -- ---- operands
@@ -72,11 +79,15 @@ unfolding all_words
 no_shuffle op os n le true e = absurd cc
 no_shuffle op os n le false e = omega (arith, le)
 
-weigh : (value : ℕ) (op : AirOp) (os : List Operand) → is_shuffle op ≡ false → All IsShort os
-    → inst_weight (record { op = op; operands = os; value = value; traps = false }) ≤ op_words op + 3 * length os + 1
-weigh value op os other short =
+weigh_any : (value : ℕ) (op : AirOp) (os : List Operand) (traps : Bool) → is_shuffle op ≡ false → All IsShort os
+    → inst_weight (record { op = op; operands = os; value = value; traps = traps }) ≤ op_words op + 3 * length os + 1
+weigh_any value op os traps other short =
     let words = no_shuffle op os (3 * length os) (short_words os short) (is_shuffle op) other in
     omega (arith, words)
+
+weigh : (value : ℕ) (op : AirOp) (os : List Operand) → is_shuffle op ≡ false → All IsShort os
+    → inst_weight (record { op = op; operands = os; value = value; traps = false }) ≤ op_words op + 3 * length os + 1
+weigh value op os other short = weigh_any value op os false other short
 
 one_weight : (i : AirInst) (n : ℕ) → inst_weight i ≤ n → sum_by inst_weight (i ∷ []) ≤ n
 one_weight i n le = omega (arith, le, sum_by-cons inst_weight i [])
@@ -258,6 +269,70 @@ module _ (t : Tables) (v : Value) where
             (omega (arith, weigh v.id op.Return (use_at width (At (register 0)) ∷ []) refl (all_one IsShort (use_at width (At (register 0))) (omega arith)))),
       )
 
+  before_light : (pointer bytes : ℕ) → sum_by inst_weight (before_access t v pointer bytes) ≤ 19
+  before_light pointer bytes =
+      let k : Arg = Imm (cast_unsigned w64 (offset_in v.body)) in
+      let first = first_extra t.index v.id in
+      let second = second_extra t.index v.id in
+      let add : AirInst = inst v op.Add (use_of t pointer ∷ use_at W64 (At first) ∷ def_at W64 second ∷ []) in
+      pick (λ (is : List AirInst). sum_by inst_weight is ≤ 19) (folds t pointer || is_offset bytes (offset_in v.body)) [] (far_sum t v pointer) (omega arith)
+      (two_weights (move v W64 k first) add 8 11 (move_light W64 k first (omega arith) (omega arith)) (omega (
+        arith,
+        weigh v.id op.Add add.operands refl
+            (all_three IsShort (use_of t pointer) (use_at W64 (At first)) (def_at W64 second) (use_short t pointer) (omega arith) (omega arith)),
+      )))
+
+  -- an address takes at most four words beside the op's own: those of a base and an index
+  index_short : (base id : ℕ) (second : Known) → arg_words (indexed_by t (home t.index base) id second) ≤ 4
+  index_short base id second =
+      pick (λ (a : Arg). arg_words a ≤ 4) (folds t id) (Indexed (home t.index base) (home t.index second.first) 3)
+      (Indexed (home t.index base) (home t.index id) 0) (omega arith) (omega arith)
+
+  sum_short : (k : Known) → arg_words (sum_address t v k) ≤ 4
+  sum_short k =
+      let second = known t.index k.second in
+      pick (λ (a : Arg). arg_words a ≤ 4) (is_constant second.opcode) (Addr (home t.index k.first) (whole second.word (offset_in v.body)))
+      (indexed_by t (home t.index k.first) k.second second) (omega arith) (index_short k.first k.second second)
+
+  address_short : (pointer bytes : ℕ) → arg_words (address_of t v pointer bytes) ≤ 4
+  address_short pointer bytes =
+      pick (λ (a : Arg). arg_words a ≤ 4) (folds t pointer) (sum_address t v (known t.index pointer)) (home_address t v pointer bytes)
+      (sum_short (known t.index pointer))
+      (pick (λ (a : Arg). arg_words a ≤ 4) (is_offset bytes (offset_in v.body)) (Addr (home t.index pointer) (offset_in v.body))
+      (Addr (second_extra t.index v.id) (pos 0)) (omega arith) (omega arith))
+
+  -- an access is behind what stands before it
+  access_light : (air_op : AirOp) (before : List AirInst) (a b : Operand) → op_words air_op ≤ 1 → is_shuffle air_op ≡ false
+      → sum_by inst_weight before ≤ 19 → arg_words a.arg ≤ 4 → arg_words b.arg ≤ 4
+      → sum_by inst_weight (before ++ access v air_op (a ∷ b ∷ []) ∷ []) ≤ allowance v
+  unfolding all_words
+  access_light air_op before a b few other light short short' =
+      let os : List Operand = a ∷ b ∷ [] in
+      let all : all_words os ≤ 8 =
+      omega (arith, short, short', sum_by-cons (λ (o : Operand). arg_words o.arg) a (b ∷ []), sum_by-cons (λ (o : Operand). arg_words o.arg) b []) in
+      let words = no_shuffle air_op os 8 all (is_shuffle air_op) other in
+      let one : inst_weight (access v air_op os) ≤ 12 = omega (arith, words, few) in
+      omega (arith, light, one, sum_by-append inst_weight before (access v air_op os ∷ []), one_weight (access v air_op os) 12 one)
+
+  load_light : (air_op : AirOp) (extent : Extent) → op_words air_op ≤ 1 → is_shuffle air_op ≡ false
+      → sum_by inst_weight (load_of t v air_op extent) ≤ allowance v
+  load_light air_op extent few other =
+      let width = width_of v.ty in
+      let pointer = child v.children 0 in
+      let bytes = extent_bytes extent width in
+      access_light air_op (before_access t v pointer bytes) (use_at width (address_of t v pointer bytes)) (result_of t v) few other (before_light pointer bytes)
+      (address_short pointer bytes) (omega arith)
+
+  store_light : (air_op : AirOp) (extent : Extent) → op_words air_op ≤ 1 → is_shuffle air_op ≡ false
+      → sum_by inst_weight (store_of t v air_op extent) ≤ allowance v
+  store_light air_op extent few other =
+      let from = child v.children 0 in
+      let width = width_at t.index from in
+      let pointer = child v.children 1 in
+      let bytes = extent_bytes extent width in
+      access_light air_op (before_access t v pointer bytes) (use_of t from) (use_at width (address_of t v pointer bytes)) few other (before_light pointer bytes)
+      (omega (arith, use_short t from)) (address_short pointer bytes)
+
   code_light : (o : Opcode) → sum_by inst_weight (code_of t o v) ≤ allowance v
   code_light opcode.Nop = omega arith
   code_light opcode.Const32 = copy_light (width_of v.ty) (Imm (word_in v.body)) (3 * place t.index v.id) (omega arith)
@@ -268,6 +343,32 @@ module _ (t : Tables) (v : Value) where
       copy_light (width_at t.index (child v.children 0)) (arg_of t (child v.children 0)) (3 * place t.index (phi_in v.body) + 1)
       (arg_short t (child v.children 0))
   code_light opcode.Phi = copy_light (width_of v.ty) (At (location t.index v.id)) (3 * place t.index v.id) (omega arith)
+  code_light opcode.FramePointer =
+      omega (
+        arith,
+        one_weight (frame_of t v) 5 (omega (
+          arith,
+          weigh v.id op.FramePointer (frame_of t v).operands refl
+              (all_one IsShort (result_of t v) (home_short (width_of v.ty) (3 * place t.index v.id))),
+        )),
+      )
+  code_light opcode.SlotBase =
+      omega (
+        arith,
+        one_weight (slot_of t v) 9 (omega (
+          arith,
+          weigh v.id op.SlotAddress (slot_of t v).operands refl
+              (all_two IsShort (use_at W64 (FrameSlot (slot_in v.body))) (result_of t v) (omega arith) (home_short (width_of v.ty) (3 * place t.index v.id))),
+        )),
+      )
+  code_light opcode.Load8Z = load_light op.Load8Z Byte (omega arith) refl
+  code_light opcode.Load8S = load_light op.Load8S Byte (omega arith) refl
+  code_light opcode.Load16Z = load_light op.Load16Z Half (omega arith) refl
+  code_light opcode.Load16S = load_light op.Load16S Half (omega arith) refl
+  code_light opcode.Load = load_light op.Load Whole (omega arith) refl
+  code_light opcode.Store8 = store_light op.Store8 Byte (omega arith) refl
+  code_light opcode.Store16 = store_light op.Store16 Half (omega arith) refl
+  code_light opcode.Store = store_light op.Store Whole (omega arith) refl
   code_light opcode.Mod = remainder_light op.Div (omega arith) refl v.kind.chill
   code_light opcode.UMod = remainder_light op.UDiv (omega arith) refl v.kind.chill
   code_light opcode.RotL = rotate_left_light (folds t (child v.children 1))

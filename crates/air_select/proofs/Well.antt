@@ -1,20 +1,24 @@
 -- What is selected is well formed.
-use Rattle.std.proofs.Common.{◌≡◌, ℕ, zero, suc, ◌+◌, ◌<◌, inl, inr, Bool, true, false, ◌&&◌, List, [], ◌∷◌, ◌++◌, map, Some, None, length, refl, sym, ap, ◌∙◌, subst, arith}
+use Rattle.std.proofs.Common.{◌≡◌, ℕ, zero, suc, ◌+◌, ◌<◌, inl, inr, Bool, true, false, ◌&&◌, ◌||◌, List, [], ◌∷◌, ◌++◌, map, Some, None, length, refl, sym, ap, ◌∙◌, subst, arith}
 use Rattle.std.specs.Prelude.{All, Contains, if◌then◌else◌, slice_get}
 use Rattle.std.specs.List.{flat_map}
 use Rattle.std.proofs.lemmas.List.{append-nil, append_assoc, length-map}
 use Rattle.std.proofs.lemmas.List.Concat.{flat_map-cons}
 use Rattle.std.proofs.lemmas.List.Elements.{All-append, All-cons, All-contains, All-map, All-nil, All-weaker}
 use Rattle.b3_base.specs.declared.word.Width.TheVariants.{W64}
-use Rattle.b3_ir.specs.Fits.{HasCases, HasTargets, IsBody, IsPlain, reported_count}
+use Rattle.b3_ir.specs.Fits.{HasCases, HasTargets, IsBody, IsPlain, IsSlot, reported_count}
 use Rattle.b3_ir.specs.Procedure.{AllFit as ValuesFit, Block, Procedure, StandsAt, no_block, values_of}
 use Rattle.b3_ir.specs.Table.{is_terminal, row_of}
 use Rattle.b3_ir.specs.declared.opcode.Opcode.{Opcode}
 use Rattle.b3_ir.specs.declared.opcode.Opcode.TheVariants as opcode
 use Rattle.b3_ir.specs.declared.opcode.Ty.{Ty}
+use Rattle.b3_ir.specs.declared.procedure.SlotLine.{SlotLine}
 use Rattle.b3_ir.specs.declared.value.Body.{Body}
-use Rattle.b3_ir.specs.declared.value.Body.TheVariants.{Plain, Argument, Targets, Cases}
+use Rattle.b3_ir.specs.declared.value.Body.TheVariants.{Plain, Argument, Slot, Targets, Cases}
 use Rattle.b3_ir.specs.declared.value.Value.{Value}
+use Rattle.b3_ir.specs.Types.{width_of}
+use Rattle.b3_meaning.specs.declared.role.Extent.{Extent}
+use Rattle.b3_meaning.specs.declared.role.Extent.TheVariants.{Byte, Half, Whole}
 use Rattle.b3_rules.specs.Paths.{successors_in}
 use Rattle.b3_rules.specs.Rules.{IsArgumentIn}
 use Rattle.std.proofs.lemmas.Option.{get_or_from_slice_get, slice_get_within}
@@ -22,19 +26,21 @@ use Rattle.b3_rules.specs.Valid.{IsValidProcedure, ValueAt}
 use Rattle.b3_rules.specs.declared.rule.Rule.TheVariants as rule
 use Rattle.b3_sound.proofs.Distinct.{stands}
 use Rattle.b3_sound.proofs.FromValid.{is_kept}
-use Rattle.b3_sound.proofs.Kept.{EndsBlock, IsKept}
+use Rattle.b3_sound.proofs.Kept.{EndsBlock, IsKept, NamesSlot}
 use Rattle.b3_sound.proofs.Lists.{contains_head, contains_tail}
-use Rattle.air_ir.specs.Forms.{AnyWord, Result, Word}
-use Rattle.air_ir.specs.Kinds.{target_count}
+use Rattle.air_ir.specs.Forms.{AnyWord, Result, Word, is_offset}
+use Rattle.air_ir.specs.Kinds.{extent_bytes, target_count}
 use Rattle.air_ir.specs.WellFormed.{IsGoodBlock, IsGoodInst, IsWellFormed}
+use Rattle.air_ir.specs.declared.op.AirOp.{AirOp}
 use Rattle.air_ir.specs.declared.op.AirOp.TheVariants as op
 use Rattle.air_ir.specs.declared.operand.Arg.TheVariants.{At}
 use Rattle.air_ir.specs.declared.procedure.AirInst.{AirInst}
 use Rattle.air_ir.specs.declared.procedure.AirProc.{AirProc}
 use Rattle.air_select.specs.Contract.{IsBuilt, is_built}
-use Rattle.air_select.specs.Foldable.{is_and, is_comparison, is_constant}
-use Rattle.air_select.specs.Selected.{Tables, arg_of, argument_move, argument_moves, block_code, cases_in, code_of, def_at, entry_of, folds, inst, last_id, move, names_argument, op_of, register, register_in, return_of, selected_by, targets_of, use_at, value_code}
-use Rattle.air_select.specs.Tables.{argument, child, tmp_count, width_at}
+use Rattle.air_fold.specs.Foldable.{is_add, is_and, is_comparison, is_constant, is_shl}
+use Rattle.air_select.specs.Selected.{Tables, arg_of, argument_move, argument_moves, before_access, block_code, cases_in, code_of, def_at, entry_of, far_sum, folds, inst, last_id, load_of, move, names_argument, op_of, register, register_in, return_of, selected_by, slot_in, store_of, targets_of, use_at, value_code}
+use Rattle.air_select.specs.Temporaries.{argument, tmp_count}
+use Rattle.air_fold.specs.Values.{child, offset_in, width_at}
 use Rattle.air_select.proofs.Forms.{fit_none, fit_two}
 use Rattle.air_select.proofs.Good.{Has, code_has}
 use Rattle.air_select.proofs.Named.{IsOwnInst, entry_own, value_own}
@@ -54,6 +60,20 @@ pick : {X : Type 0} (P : X → Type 0) (b : Bool) (x y : X) → P x → P y → 
 pick P true x y p q = p
 pick P false x y p q = q
 
+inner_before : (t : Tables) (v : Value) (pointer bytes : ℕ) → All IsInner (before_access t v pointer bytes)
+inner_before t v pointer bytes =
+    pick (All IsInner) (folds t pointer || is_offset bytes (offset_in v.body)) [] (far_sum t v pointer) (All-nil IsInner) (all_two IsInner _ _ refl refl)
+
+inner_load : (t : Tables) (v : Value) (air_op : AirOp) (extent : Extent) → target_count air_op ≡ None → All IsInner (load_of t v air_op extent)
+inner_load t v air_op extent e =
+    let bytes = extent_bytes extent (width_of v.ty) in
+    All-append IsInner (before_access t v (child v.children 0) bytes) _ (inner_before t v (child v.children 0) bytes) (all_one IsInner _ e)
+
+inner_store : (t : Tables) (v : Value) (air_op : AirOp) (extent : Extent) → target_count air_op ≡ None → All IsInner (store_of t v air_op extent)
+inner_store t v air_op extent e =
+    let bytes = extent_bytes extent (width_at t.index (child v.children 0)) in
+    All-append IsInner (before_access t v (child v.children 1) bytes) _ (inner_before t v (child v.children 1) bytes) (all_one IsInner _ e)
+
 inner_code : (t : Tables) (v : Value) (o : Opcode) → is_terminal o ≡ false → All IsInner (code_of t o v)
 inner_code t v opcode.Nop e = All-nil IsInner
 inner_code t v opcode.Const32 e = all_one IsInner _ refl
@@ -62,6 +82,16 @@ inner_code t v opcode.ArgumentReg e = all_one IsInner _ refl
 inner_code t v opcode.Trunc e = all_one IsInner _ refl
 inner_code t v opcode.Upsilon e = all_one IsInner _ refl
 inner_code t v opcode.Phi e = all_one IsInner _ refl
+inner_code t v opcode.FramePointer e = all_one IsInner _ refl
+inner_code t v opcode.SlotBase e = all_one IsInner _ refl
+inner_code t v opcode.Load8Z e = inner_load t v op.Load8Z Byte refl
+inner_code t v opcode.Load8S e = inner_load t v op.Load8S Byte refl
+inner_code t v opcode.Load16Z e = inner_load t v op.Load16Z Half refl
+inner_code t v opcode.Load16S e = inner_load t v op.Load16S Half refl
+inner_code t v opcode.Load e = inner_load t v op.Load Whole refl
+inner_code t v opcode.Store8 e = inner_store t v op.Store8 Byte refl
+inner_code t v opcode.Store16 e = inner_store t v op.Store16 Half refl
+inner_code t v opcode.Store e = inner_store t v op.Store Whole refl
 inner_code t v opcode.Mod e = pick (All IsInner) v.kind.chill _ _ (all_three IsInner _ _ _ refl refl refl) (all_two IsInner _ _ refl refl)
 inner_code t v opcode.UMod e = pick (All IsInner) v.kind.chill _ _ (all_three IsInner _ _ _ refl refl refl) (all_two IsInner _ _ refl refl)
 inner_code t v opcode.RotL e = pick (All IsInner) (folds t (child v.children 1)) _ _ (all_one IsInner _ refl) (all_two IsInner _ _ refl refl)
@@ -135,12 +165,19 @@ no_successors o ty n (Cases cases blocks) e fits = absurd (by_cases o e fits)
 no_successors o ty n _ e fits = refl
 
 -- what is folded is no terminal
-plain_terminal : (o : Opcode) → is_terminal o ≡ true → (is_constant o ≡ false) × (is_comparison o ≡ false) × (is_and o ≡ false)
-plain_terminal opcode.Jump e = (refl, refl, refl)
-plain_terminal opcode.Oops e = (refl, refl, refl)
-plain_terminal opcode.Branch e = (refl, refl, refl)
-plain_terminal opcode.Switch e = (refl, refl, refl)
-plain_terminal opcode.Return e = (refl, refl, refl)
+record IsNoKind (o : Opcode) : Type 0 where
+  constant : is_constant o ≡ false
+  comparison : is_comparison o ≡ false
+  conjunction : is_and o ≡ false
+  sum : is_add o ≡ false
+  shift : is_shl o ≡ false
+
+plain_terminal : (o : Opcode) → is_terminal o ≡ true → IsNoKind o
+plain_terminal opcode.Jump e = record { constant = refl; comparison = refl; conjunction = refl; sum = refl; shift = refl }
+plain_terminal opcode.Oops e = record { constant = refl; comparison = refl; conjunction = refl; sum = refl; shift = refl }
+plain_terminal opcode.Branch e = record { constant = refl; comparison = refl; conjunction = refl; sum = refl; shift = refl }
+plain_terminal opcode.Switch e = record { constant = refl; comparison = refl; conjunction = refl; sum = refl; shift = refl }
+plain_terminal opcode.Return e = record { constant = refl; comparison = refl; conjunction = refl; sum = refl; shift = refl }
 plain_terminal _ e = absurd cc
 
 true_and_false : (b : Bool) → b ≡ true → b ≡ false → ⊥
@@ -151,10 +188,13 @@ front_true true b e = refl
 front_true false b e = absurd cc
 
 folded_inner : (t : Tables) (b : ℕ) (v : Value) → is_terminal v.kind.opcode ≡ true → IsFoldedKind t b v → ⊥
-folded_inner t b v ends (inl constant) = true_and_false (is_constant v.kind.opcode) constant (plain_terminal v.kind.opcode ends).0
-folded_inner t b v ends (inr (inl comparison)) = true_and_false (is_comparison v.kind.opcode) comparison (plain_terminal v.kind.opcode ends).1
-folded_inner t b v ends (inr (inr bit)) =
-    true_and_false (is_and v.kind.opcode) (front_true (is_and v.kind.opcode) _ bit) (plain_terminal v.kind.opcode ends).2
+folded_inner t b v ends (inl constant) = true_and_false (is_constant v.kind.opcode) constant (plain_terminal v.kind.opcode ends).constant
+folded_inner t b v ends (inr (inl comparison)) =
+    true_and_false (is_comparison v.kind.opcode) comparison (plain_terminal v.kind.opcode ends).comparison
+folded_inner t b v ends (inr (inr (inl bit))) =
+    true_and_false (is_and v.kind.opcode) (front_true (is_and v.kind.opcode) _ bit) (plain_terminal v.kind.opcode ends).conjunction
+folded_inner t b v ends (inr (inr (inr (inl sum)))) = true_and_false (is_add v.kind.opcode) sum (plain_terminal v.kind.opcode ends).sum
+folded_inner t b v ends (inr (inr (inr (inr shift)))) = true_and_false (is_shl v.kind.opcode) shift (plain_terminal v.kind.opcode ends).shift
 
 module _ (p : Procedure) (valid : IsValidProcedure p) (fit : ValuesFit p.blocks) (built : IsBuilt p) (t : Tables) (sound : IsSound p t) where
   q : AirProc
@@ -222,8 +262,28 @@ module _ (p : Procedure) (valid : IsValidProcedure p) (fit : ValuesFit p.blocks)
   register_below o (Argument reg) argument is = let le = argument is in omega (arith, le)
   register_below o _ argument is = omega arith
 
+  slots_are : length q.slots ≡ length p.slots
+  unfolding q selected_by
+  slots_are = length-map p.slots (λ (slot : SlotLine). slot.bytes)
+
+  slot_below : (body : Body) → IsSlot body → NamesSlot p body → slot_in body < length q.slots
+  slot_below (Slot number) is names = omega (arith, names, slots_are)
+  slot_below _ is names = absurd is
+
+  -- what a SlotBase names is a slot
+  slot_named : (b : ℕ) (v : Value) → Contains (values_of p b) v → v.kind.opcode ≡ opcode.SlotBase → slot_in v.body < length q.slots
+  slot_named b v here is =
+      let st = stands p b v here in
+      let rules = kept.rules b st.0 v st.1 in
+      slot_below v.body (subst (λ (o : Opcode). IsBody (row_of o).carries v.ty (reported_count v) v.body) is rules.fits.body) rules.slot
+
   abbrev IsBuiltValue : Value → Type 0
   IsBuiltValue v = is_built v.kind.opcode ≡ true
+
+  code_by : (b : ℕ) (v : Value) (j : ℕ) → StandsAt p b j v → is_built v.kind.opcode ≡ true → (f : Bool) → folds t v.id ≡ f
+      → All (Has p valid fit t sound) (if f then [] else code_of t v.kind.opcode v)
+  code_by b v j at built true e = All-nil (Has p valid fit t sound)
+  code_by b v j at built false e = code_has p valid fit t sound b j v at e v.kind.opcode refl built
 
   value_good : (b : ℕ) (block : Block) → slice_get p.blocks b ≡ Some block → (v : Value) → Contains block.values v → All (IsGoodInst q) (value_code t v)
   unfolding q selected_by value_code
@@ -232,11 +292,10 @@ module _ (p : Procedure) (valid : IsValidProcedure p) (fit : ValuesFit p.blocks)
       let at = here_at b v in_values in
       let is_built : is_built v.kind.opcode ≡ true =
       All-contains IsBuiltValue block.values v (All-slice (λ (x : Block). All IsBuiltValue x.values) p.blocks b block built there) has in
-      let operands : All (Has p valid fit t sound) (value_code t v) =
-      pick (All (Has p valid fit t sound)) (folds t v.id) [] (code_of t v.kind.opcode v) (All-nil (Has p valid fit t sound))
-      (code_has p valid fit t sound b at.0 v at.1 v.kind.opcode refl is_built) in
+      let operands : All (Has p valid fit t sound) (value_code t v) = code_by b v at.0 at.1 is_built (folds t v.id) refl in
       let named : All (IsOwnInst q t tmps_are) (value_code t v) =
-      value_own q t tmps_are v (register_below v.kind.opcode v.body (λ is. (valid rule.Arguments (ValueAt b at.0 v) at.1 is).1)) in
+      value_own q t tmps_are v (register_below v.kind.opcode v.body (λ is. (valid rule.Arguments (ValueAt b at.0 v) at.1 is).1))
+      (slot_named b v in_values) in
       λ k d lt. record { operands = operands k d lt; names = named k d lt }
 
   -- ---- blocks

@@ -8,20 +8,21 @@ use Rattle.b3_ir.specs.declared.opcode.Ty.{Ty}
 use Rattle.b3_ir.specs.declared.value.Body.{Body}
 use Rattle.b3_ir.specs.declared.value.Body.TheVariants.{Cases}
 use Rattle.b3_ir.specs.declared.value.Value.{Value}
-use Rattle.air_ir.specs.Kinds.{Kind, Copies, Computes, Branches, Jumps, Switches, Returns, Fails, kind_of}
+use Rattle.air_ir.specs.Kinds.{Kind, Copies, Computes, Loads, Stores, SlotAddresses, FramePointers, Branches, Jumps, Switches, Returns, Fails, kind_of}
 use Rattle.air_ir.specs.WellFormed as air
 use Rattle.air_ir.specs.declared.op.AirOp.{AirOp}
 use Rattle.air_ir.specs.declared.op.AirOp.TheVariants.{BranchIf, SelectIf, Shuffle}
 use Rattle.air_ir.specs.declared.op.Test.{Test}
 use Rattle.air_ir.specs.declared.op.Test.TheVariants.{Bit, Compare}
+use Rattle.air_ir.specs.declared.operand.Arg.{Arg}
 use Rattle.air_ir.specs.declared.operand.Arg.TheVariants.{Imm}
 use Rattle.air_ir.specs.declared.operand.Operand.{Operand}
 use Rattle.air_ir.specs.declared.procedure.AirBlock.{AirBlock}
 use Rattle.air_ir.specs.declared.procedure.AirInst.{AirInst}
 use Rattle.air_ir.specs.declared.procedure.AirProc.{AirProc}
-use Rattle.air_select.specs.Foldable.{is_and, is_comparison, is_constant, is_foldable}
-use Rattle.air_select.specs.Selected.{condition, tables, turned, use_of}
-use Rattle.air_select.specs.Tables.{word_in}
+use Rattle.air_fold.specs.Foldable.{is_add, is_and, is_comparison, is_constant, is_foldable, is_store}
+use Rattle.air_select.specs.Selected.{condition, sum_address, tables, turned, use_of}
+use Rattle.air_fold.specs.Values.{known_in, word_in}
 
 -- the procedure at a place of a module
 abbrev pub procedure_at : List Kept → ℕ → Procedure
@@ -29,18 +30,8 @@ procedure_at m k = (slice_index_or m k (empty_kept [] 0)).procedure
 
 -- ---- what is asked
 
--- the opcodes that are selected: no access, call, site or start word of the frame
+-- the opcodes that are selected: no call and no site but that of an access
 abbrev pub is_built : Opcode → Bool
-is_built opcode.FramePointer = false
-is_built opcode.SlotBase = false
-is_built opcode.Load8Z = false
-is_built opcode.Load8S = false
-is_built opcode.Load16Z = false
-is_built opcode.Load16S = false
-is_built opcode.Load = false
-is_built opcode.Store8 = false
-is_built opcode.Store16 = false
-is_built opcode.Store = false
 is_built opcode.CCall = false
 is_built opcode.Patchpoint = false
 is_built opcode.Check = false
@@ -51,6 +42,30 @@ is_built _ = true
 
 abbrev pub IsBuilt : Procedure → Type 0
 IsBuilt p = All (λ (b : Block). All (λ (v : Value). is_built v.kind.opcode ≡ true) b.values) p.blocks
+
+-- those of them that are selected as arithmetic: no access, slot or frame pointer either
+abbrev pub is_arithmetic_opcode : Opcode → Bool
+is_arithmetic_opcode opcode.FramePointer = false
+is_arithmetic_opcode opcode.SlotBase = false
+is_arithmetic_opcode opcode.Load8Z = false
+is_arithmetic_opcode opcode.Load8S = false
+is_arithmetic_opcode opcode.Load16Z = false
+is_arithmetic_opcode opcode.Load16S = false
+is_arithmetic_opcode opcode.Load = false
+is_arithmetic_opcode opcode.Store8 = false
+is_arithmetic_opcode opcode.Store16 = false
+is_arithmetic_opcode opcode.Store = false
+is_arithmetic_opcode opcode.CCall = false
+is_arithmetic_opcode opcode.Patchpoint = false
+is_arithmetic_opcode opcode.Check = false
+is_arithmetic_opcode opcode.CheckAdd = false
+is_arithmetic_opcode opcode.CheckSub = false
+is_arithmetic_opcode opcode.CheckMul = false
+is_arithmetic_opcode _ = true
+
+abbrev pub HasArithmeticAlone : Procedure → Type 0
+HasArithmeticAlone p =
+    All (λ (b : Block). All (λ (v : Value). is_arithmetic_opcode v.kind.opcode ≡ true) b.values) p.blocks
 
 -- ---- sizes
 
@@ -84,7 +99,7 @@ ReturnsType p ty = (block : ℕ) × (k : ℕ) × (v : Value) × (i : ℕ) × (j 
 
 -- ---- ops
 
--- the kinds of ops that are selected: copies, what computes a word, and what ends a block
+-- the kinds of ops of arithmetic: copies, what computes a word, and what ends a block
 abbrev pub is_arithmetic_kind : Kind → Bool
 is_arithmetic_kind Copies = true
 is_arithmetic_kind Computes = true
@@ -103,6 +118,22 @@ is_arithmetic op = is_arithmetic_kind (kind_of op)
 abbrev pub IsArithmetic : AirProc → Type 0
 IsArithmetic q = All (λ (b : AirBlock). All (λ (i : AirInst). is_arithmetic i.op ≡ true) b.insts) q.blocks
 
+-- the kinds of ops that are selected: those of arithmetic, loads, stores, the addresses of slots and the frame
+-- pointer; again a Shuffle isn't
+abbrev pub is_selected_kind : Kind → Bool
+is_selected_kind (Loads extent extends) = true
+is_selected_kind (Stores extent) = true
+is_selected_kind SlotAddresses = true
+is_selected_kind FramePointers = true
+is_selected_kind kind = is_arithmetic_kind kind
+
+abbrev pub is_selected : AirOp → Bool
+is_selected Shuffle = false
+is_selected op = is_selected_kind (kind_of op)
+
+abbrev pub IsSelected : AirProc → Type 0
+IsSelected q = All (λ (b : AirBlock). All (λ (i : AirInst). is_selected i.op ≡ true) b.insts) q.blocks
+
 -- ---- folded values
 
 -- a foldable value is made by no instruction
@@ -118,7 +149,10 @@ abbrev pub carried_word : Opcode → Ty → ℕ → ℕ
 carried_word opcode.RotL ty word = turned (width_of ty) word
 carried_word op ty word = word
 
--- the instruction has this word as its second operand
+-- the instruction has this word as its first operand, and as its second
+abbrev pub HasFirst : ℕ → AirInst → Type 0
+HasFirst word i = (o : Operand) × (slice_get i.operands 0 ≡ Some o) × (o.arg ≡ Imm word)
+
 abbrev pub HasSecond : ℕ → AirInst → Type 0
 HasSecond word i = (o : Operand) × (slice_get i.operands 1 ≡ Some o) × (o.arg ≡ Imm word)
 
@@ -145,6 +179,22 @@ CarriesConstants p q = (b j c m : ℕ) (v k : Value) → StandsAt p b j v → St
     → slice_get v.children 1 ≡ Some k.id
     → IsMade q b v (HasSecond (carried_word v.kind.opcode v.ty (word_in k.body)))
 
+-- and a foldable 0 by the store that stores it
+abbrev pub CarriesStored : Procedure → AirProc → Type 0
+CarriesStored p q = (b j c m : ℕ) (v k : Value) → StandsAt p b j v → StandsAt p c m k
+    → is_store v.kind.opcode ≡ true → is_constant k.kind.opcode ≡ true → is_foldable p k.id ≡ true
+    → slice_get v.children 0 ≡ Some k.id → IsMade q b v (HasFirst 0)
+
+-- the instruction has this address
+abbrev pub HasAddress : Arg → AirInst → Type 0
+HasAddress address i = (k : ℕ) × (o : Operand) × (slice_get i.operands k ≡ Some o) × (o.arg ≡ address)
+
+-- a foldable sum is carried by the access whose pointer it is, as its address
+abbrev pub CarriesSums : Procedure → AirProc → Type 0
+CarriesSums p q = (b j c m : ℕ) (v k : Value) → StandsAt p b j v → StandsAt p c m k
+    → is_add k.kind.opcode ≡ true → is_foldable p k.id ≡ true → Contains v.children k.id
+    → IsMade q b v (HasAddress (sum_address (tables p) v (known_in c k)))
+
 -- a foldable comparison is carried by the value whose condition it is
 abbrev pub CarriesComparisons : Procedure → AirProc → Type 0
 CarriesComparisons p q = (b j c m : ℕ) (v k : Value) → StandsAt p b j v → StandsAt p c m k
@@ -161,5 +211,7 @@ CarriesBits p q = (b j c m d n : ℕ) (v k w : Value) (x : ℕ) → StandsAt p b
 pub record IsFolded (p : Procedure) (q : AirProc) : Type 0 where
   pub none : NoneIsMade p q
   pub constants : CarriesConstants p q
+  pub stored : CarriesStored p q
+  pub sums : CarriesSums p q
   pub comparisons : CarriesComparisons p q
   pub bits : CarriesBits p q

@@ -1,6 +1,5 @@
-pub mod Tables
-pub mod Foldable
-pub mod Indexed
-pub mod Tallied
+pub mod Temporaries
+pub mod Returning
 pub mod Selected
 pub mod Contract
+pub mod Sample

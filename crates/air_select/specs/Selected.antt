@@ -1,5 +1,6 @@
 -- The procedure of Air that is selected for a procedure of B3.
-use Rattle.std.specs.Prelude.{ℕ, zero, suc, ◌+◌, ◌-◌, ◌%◌, Bool, false, if◌then◌else◌, List, [], ◌∷◌, ◌++◌, map, Option, Some, None, slice_index_or}
+use Rattle.std.specs.Prelude.{ℕ, pos, ◌||◌, zero, suc, ◌+◌, ◌-◌, ◌%◌, Bool, false, if◌then◌else◌, List, [], ◌∷◌, ◌++◌, map, Option, Some, None, slice_index_or}
+use Rattle.std.specs.Int.{cast_unsigned, w64}
 use Rattle.std.specs.List.{flat_map, list_any}
 use Rattle.std.specs.Prelude.{nat_eq}
 use Rattle.b3_base.specs.Word.{bits}
@@ -14,14 +15,18 @@ use Rattle.b3_ir.specs.declared.opcode.Ty.{Ty}
 use Rattle.b3_ir.specs.declared.opcode.Ty.TheVariants.{Int32}
 use Rattle.b3_ir.specs.declared.procedure.SlotLine.{SlotLine}
 use Rattle.b3_ir.specs.declared.value.Body.{Body}
-use Rattle.b3_ir.specs.declared.value.Body.TheVariants.{Argument, Cases, Target}
+use Rattle.b3_ir.specs.declared.value.Body.TheVariants.{Argument, Cases, Slot, Target}
 use Rattle.b3_ir.specs.declared.value.Value.{Value}
+use Rattle.b3_meaning.specs.declared.role.Extent.{Extent}
+use Rattle.b3_meaning.specs.declared.role.Extent.TheVariants.{Byte, Half, Whole}
 use Rattle.b3_rules.specs.Paths.{successors_in}
 use Rattle.b3_rules.specs.Rules.{first_return}
 use Rattle.stackmap.specs.declared.site.Returns.{Returns}
 use Rattle.stackmap.specs.declared.site.Returns.TheVariants as returns
 use Rattle.a64_inst.specs.declared.inst.Cond.{Cond}
 use Rattle.a64_inst.specs.declared.inst.Cond.TheVariants.{Eq, Ne, Hs, Lo, Hi, Ls, Ge, Lt, Gt, Le}
+use Rattle.air_ir.specs.Forms.{is_offset}
+use Rattle.air_ir.specs.Kinds.{extent_bytes}
 use Rattle.air_ir.specs.declared.op.AirOp.{AirOp}
 use Rattle.air_ir.specs.declared.op.AirOp.TheVariants as op
 use Rattle.air_ir.specs.declared.op.Test.{Test}
@@ -29,14 +34,16 @@ use Rattle.air_ir.specs.declared.op.Test.TheVariants.{Compare, NonZero, Bit}
 use Rattle.air_ir.specs.declared.operand.Home.{Home}
 use Rattle.air_ir.specs.declared.operand.Home.TheVariants.{Reg}
 use Rattle.air_ir.specs.declared.operand.Arg.{Arg}
-use Rattle.air_ir.specs.declared.operand.Arg.TheVariants.{At, Imm}
+use Rattle.air_ir.specs.declared.operand.Arg.TheVariants.{Addr, At, FrameSlot, Imm, Index as Indexed}
 use Rattle.air_ir.specs.declared.operand.Role.TheVariants.{Use, Def}
 use Rattle.air_ir.specs.declared.operand.Operand.{Operand}
 use Rattle.air_ir.specs.declared.procedure.AirBlock.{AirBlock}
 use Rattle.air_ir.specs.declared.procedure.AirInst.{AirInst}
 use Rattle.air_ir.specs.declared.procedure.AirProc.{AirProc}
-use Rattle.air_select.specs.Foldable.{bit_of, is_comparison, is_foldable}
-use Rattle.air_select.specs.Tables.{Index, argument, child, first_extra, home, ids_of, index_of, known, location, place, second_extra, tmp_count, width_at, word_in}
+use Rattle.air_fold.specs.Foldable.{bit_of, is_comparison, is_constant, is_foldable, whole}
+use Rattle.air_select.specs.Temporaries.{argument, first_extra, home, location, second_extra, tmp_count}
+use Rattle.air_fold.specs.declared.known.Known.{Known}
+use Rattle.air_fold.specs.Values.{Index, child, ids_of, index_of, known, offset_in, place, width_at, word_in}
 
 -- what selection looks up: of each id its place and what is known of it, and whether its value is folded
 pub record Tables : Type 0 where
@@ -115,10 +122,19 @@ abbrev pub cases_in : Body → List ℕ
 cases_in (Cases cases targets) = cases
 cases_in _ = []
 
+-- the number of a slot
+abbrev pub slot_in : Body → ℕ
+slot_in (Slot number) = number
+slot_in _ = 0
+
 -- ---- instructions
 
 abbrev pub inst : Value → AirOp → List Operand → AirInst
 inst v op operands = record { op = op; operands = operands; value = v.id; traps = false }
+
+-- a load or a store traps where its value does
+abbrev pub access : Value → AirOp → List Operand → AirInst
+access v op operands = record { op = op; operands = operands; value = v.id; traps = v.kind.traps }
 
 abbrev pub move : Value → Width → Arg → Home → AirInst
 move v width from to = inst v op.Move (use_at width from ∷ def_at width to ∷ [])
@@ -219,6 +235,73 @@ module _ (t : Tables) where
       move v (width_at t.index c) (arg_of c) (register 0)
       ∷ inst v op.Return (use_at (width_at t.index c) (At (register 0)) ∷ []) ∷ []
 
+  -- ---- accesses
+
+  -- the sum of a pointer and an offset that doesn't fit in an address
+  abbrev pub far_offset : Value → AirInst
+  far_offset v = move v W64 (Imm (cast_unsigned w64 (offset_in v.body))) (first_extra t.index v.id)
+
+  abbrev pub far_pointer : Value → ℕ → AirInst
+  far_pointer v pointer = inst v op.Add (
+      use_of pointer ∷ use_at W64 (At (first_extra t.index v.id)) ∷ def_at W64 (second_extra t.index v.id) ∷ [])
+
+  abbrev pub far_sum : Value → ℕ → List AirInst
+  far_sum v pointer = far_offset v ∷ far_pointer v pointer ∷ []
+
+  -- what stands before an access of so many bytes
+  abbrev pub before_access : Value → ℕ → ℕ → List AirInst
+  before_access v pointer bytes =
+      if folds t pointer || is_offset bytes (offset_in v.body) then [] else far_sum v pointer
+
+  -- the address at a pointer in its home
+  abbrev pub home_address : Value → ℕ → ℕ → Arg
+  home_address v pointer bytes =
+      if is_offset bytes (offset_in v.body)
+      then Addr (home t.index pointer) (offset_in v.body)
+      else Addr (second_extra t.index v.id) (pos 0)
+
+  -- the address at a base and another child of a sum, of which this is known: a folded one is a shift by 3
+  abbrev pub indexed_by : Home → ℕ → Known → Arg
+  indexed_by base id k =
+      if folds t id then Indexed base (home t.index k.first) 3 else Indexed base (home t.index id) 0
+
+  -- the address at a folded sum: a constant goes into the offset, and any other child is an index
+  abbrev pub sum_address : Value → Known → Arg
+  sum_address v k =
+      let second = known t.index k.second in
+      if is_constant second.opcode
+      then Addr (home t.index k.first) (whole second.word (offset_in v.body))
+      else indexed_by (home t.index k.first) k.second second
+
+  -- the address of an access of so many bytes
+  abbrev pub address_of : Value → ℕ → ℕ → Arg
+  address_of v pointer bytes =
+      if folds t pointer then sum_address v (known t.index pointer) else home_address v pointer bytes
+
+  -- a load from the first child
+  abbrev pub load_of : Value → AirOp → Extent → List AirInst
+  load_of v op extent =
+      let width = width_of v.ty in
+      let pointer = child v.children 0 in
+      let bytes = extent_bytes extent width in
+      before_access v pointer bytes
+      ++ access v op (use_at width (address_of v pointer bytes) ∷ result_of v ∷ []) ∷ []
+
+  -- a store of the first child at the second
+  abbrev pub store_of : Value → AirOp → Extent → List AirInst
+  store_of v op extent =
+      let width = width_at t.index (child v.children 0) in
+      let pointer = child v.children 1 in
+      let bytes = extent_bytes extent width in
+      before_access v pointer bytes
+      ++ access v op (use_of (child v.children 0) ∷ use_at width (address_of v pointer bytes) ∷ []) ∷ []
+
+  abbrev pub slot_of : Value → AirInst
+  slot_of v = inst v op.SlotAddress (use_at W64 (FrameSlot (slot_in v.body)) ∷ result_of v ∷ [])
+
+  abbrev pub frame_of : Value → AirInst
+  frame_of v = inst v op.FramePointer (result_of v ∷ [])
+
   -- the width, the source and the destination of a value that copies a word: the low half of a child is copied at
   -- 32 bits, an Upsilon's child goes to the location of its Phi, and a Phi has what stands in its location
   abbrev pub copied : Opcode → Value → Width × Arg × Home
@@ -238,6 +321,8 @@ module _ (t : Tables) where
   code_of opcode.Const32 v = copy_of v (copied opcode.Const32 v) ∷ []
   code_of opcode.Const64 v = copy_of v (copied opcode.Const64 v) ∷ []
   code_of opcode.ArgumentReg v = copy_of v (copied opcode.ArgumentReg v) ∷ []
+  code_of opcode.FramePointer v = frame_of v ∷ []
+  code_of opcode.SlotBase v = slot_of v ∷ []
   code_of opcode.Trunc v = copy_of v (copied opcode.Trunc v) ∷ []
   code_of opcode.Upsilon v = copy_of v (copied opcode.Upsilon v) ∷ []
   code_of opcode.Phi v = copy_of v (copied opcode.Phi v) ∷ []
@@ -245,6 +330,14 @@ module _ (t : Tables) where
   code_of opcode.UMod v = remainder v op.UDiv
   code_of opcode.RotL v = rotate_left v
   code_of opcode.Select v = select_on v (condition_of (child v.children 0))
+  code_of opcode.Load8Z v = load_of v op.Load8Z Byte
+  code_of opcode.Load8S v = load_of v op.Load8S Byte
+  code_of opcode.Load16Z v = load_of v op.Load16Z Half
+  code_of opcode.Load16S v = load_of v op.Load16S Half
+  code_of opcode.Load v = load_of v op.Load Whole
+  code_of opcode.Store8 v = store_of v op.Store8 Byte
+  code_of opcode.Store16 v = store_of v op.Store16 Half
+  code_of opcode.Store v = store_of v op.Store Whole
   code_of opcode.Jump v = inst v op.Jump [] ∷ []
   code_of opcode.Oops v = inst v op.Oops [] ∷ []
   code_of opcode.Branch v = branch_on v (condition_of (child v.children 0))

@@ -6,6 +6,7 @@ ghost use Rattle.air_select.specs.Selected as code;
 use crate::tables::{def_at, use_at};
 use air_ir::{AirInst, AirInsts, AirOp, Arg, Home, Operand, Operands};
 use b3_base::{NoMemory, Width};
+use b3_ir::Value;
 use std::alloc::Global;
 
 /// Adds an instruction that is made for a value, by its id.
@@ -22,6 +23,23 @@ pub(crate) fn push(
         operands,
         value,
         traps: false,
+    })
+}
+
+/// Adds a load or a store, which traps where its value does.
+pub(crate) fn push_access(
+    insts: &mut AirInsts,
+    v: &Value,
+    op: AirOp,
+    operands: Operands,
+) -> Result<(), NoMemory>
+    ensures { OnOk result (insts.new ≡ insts.old ++ code.access v.now op operands ∷ []) }
+{
+    insts.push(AirInst {
+        op,
+        operands,
+        value: v.id,
+        traps: v.kind.traps,
     })
 }
 

@@ -4,11 +4,12 @@ ghost use Rattle.std.specs.Prelude.{◌≡◌, ◌++◌, ◌∷◌, [], ◌<◌,
 ghost use Rattle.b3_ir.specs.Naming.{all_values};
 ghost use Rattle.b3_ir.specs.Procedure.{values_of};
 ghost use Rattle.b3_rules.specs.Rules.{first_return};
-ghost use Rattle.air_select.specs.Indexed as indexed;
+ghost use Rattle.air_select.specs.Returning as returning;
 ghost use Rattle.air_select.specs.Selected as code;
 
 use crate::code::{push, push_move};
-use crate::tables::Index;
+use crate::tables::argument;
+use air_fold::Index;
 use air_ir::{AirBlock, AirInsts, AirOp, Arg, Home, Operands};
 use b3_base::{Ids, NoMemory, Width};
 use b3_ir::{Body, Opcode, Proc, Reg, Ty, Value};
@@ -69,7 +70,7 @@ fn push_arguments(
     for r in 0..8u8 {
         if names_argument(p, r) {
             let from = Arg::At(Home::Reg(Reg(r)));
-            push_move(alloc, insts, value, Width::W64, from, index.argument(r))?;
+            push_move(alloc, insts, value, Width::W64, from, argument(index, r))?;
         }
     }
     Ok(())
@@ -107,7 +108,7 @@ fn returns_of(index: &Index, value: &Value) -> Returns
 
 /// Whether a value is a Return.
 fn is_return(value: &Value) -> bool
-    ensures { result ≡ indexed.is_return value.now.kind.opcode }
+    ensures { result ≡ returning.is_return value.now.kind.opcode }
 {
     matches!(value.kind.opcode, Opcode::Return)
 }

@@ -10,61 +10,18 @@ ghost use Rattle.stackmap.specs.declared.site.Returns.TheVariants as returns;
 ghost use Rattle.air_ir.specs.Run.{HasBlocksOf};
 ghost use Rattle.air_ir.specs.Weight.{weight};
 ghost use Rattle.air_ir.specs.WellFormed.{HasOneSiteEach, IsWellFormed, NamesSpillsBelow};
-ghost use Rattle.air_select.specs.Contract.{IsArithmetic, IsBuilt, IsFew, IsFolded, IsWithinLimits, ReturnsType, child_count, procedure_at};
+ghost use Rattle.air_select.specs.Contract.{HasArithmeticAlone, IsArithmetic, IsBuilt, IsFew, IsFolded, IsSelected, IsWithinLimits, ReturnsType, child_count, procedure_at};
 ghost use Rattle.air_select.specs.Selected as code;
-ghost use Rattle.air_select.specs.Indexed as indexed;
-ghost use Rattle.air_select.specs.Tables as tables;
 
 use crate::entry::{entry, returns};
-use crate::known::{Known, known_in};
-use crate::tables::{Index, Tables};
-use crate::uses::folded_values;
+use crate::tables::{Tables, tmp_count};
 use crate::values::push_value;
+use air_fold::{folded_values, index_of};
 use air_ir::{AirBlock, AirBlocks, AirInsts, AirProc};
-use b3_base::{Ids, NoMemory, Seq};
+use b3_base::{Ids, NoMemory};
 use b3_ir::{Body, Proc, Value};
 use b3_validate::Valid;
-use indexmap::IndexSet;
 use std::alloc::Global;
-
-/// Adds the values of a block to the ids of those before, and to what is known of them.
-fn note_block(
-    ids: &mut IndexSet<u32>,
-    known: &mut Seq<Known>,
-    p: &Proc,
-    block: usize,
-) -> Result<(), NoMemory>
-    requires in_blocks { block < length p.now.procedure.blocks }
-    requires valid { IsValidProcedure p.now.procedure }
-    requires ids { ids.old.keys ≡ indexed.ids_before p.now.procedure block 0 }
-    ensures ids { OnOk result (ids.new.keys ≡ indexed.ids_before p.now.procedure (block + 1) 0) }
-    ensures known { OnOk result (known.new ≡ known.old
-        ++ map (tables.known_in block) (values_of p.now.procedure block)) }
-{
-    p.whole();
-    let mut at = p.first(block);
-    while let Some(node) = at {
-        let value = p.value(node);
-        ids.insert_full(value.id)?;
-        known.push(known_in(block as u32, value))?;
-        at = p.next(node);
-    }
-    Ok(())
-}
-
-/// The ids of all values, and what is known of them.
-fn index_of(alloc: Global, p: &Proc) -> Result<Index, NoMemory>
-    requires valid { IsValidProcedure p.now.procedure }
-    requires few { total p.now.procedure ≤ 16384 }
-    ensures { IfOk result (λ x. x ≡ tables.index_of p.now.procedure) }
-{
-    let mut ids = IndexSet::new(alloc);
-    let mut known = Seq::new(alloc);
-    for block in 0..p.blocks() {
-        note_block(&mut ids, &mut known, p, block)?;
-    }
-    Ok(Index { ids, known })
-}
 
 /// What is looked up of a procedure.
 fn tables_of(alloc: Global, p: &Proc) -> Result<Tables, NoMemory>
@@ -162,7 +119,7 @@ fn selected(alloc: Global, p: &Proc) -> Result<AirProc, NoMemory>
     let t = tables_of(alloc, p)?;
     Ok(AirProc {
         blocks: blocks_of(alloc, p, &t)?,
-        tmps: t.index.tmp_count(),
+        tmps: tmp_count(&t.index),
         slots: slot_sizes(alloc, p)?,
         returns: returns(p, &t.index),
     })
@@ -180,7 +137,8 @@ pub fn select(alloc: Global, valid: &Valid, proc: usize) -> Result<AirProc, NoMe
     ensures well { IfOk result (λ q. IsWellFormed q) }
     ensures sites { IfOk result (λ q. HasOneSiteEach q) }
     ensures spills { IfOk result (λ q. NamesSpillsBelow 0 q) }
-    ensures arithmetic { IfOk result (λ q. IsArithmetic q) }
+    ensures selected { IfOk result (λ q. IsSelected q) }
+    ensures arithmetic { IfOk result (λ q. HasArithmeticAlone (procedure_at valid.now proc) → IsArithmetic q) }
     ensures light { IfOk result (λ q. weight q ≤ 120 * total (procedure_at valid.now proc)
         + 32 * child_count (procedure_at valid.now proc) + 256) }
     ensures few { IfOk result (λ q. IsFew (procedure_at valid.now proc) q) }

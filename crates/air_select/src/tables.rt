@@ -1,34 +1,15 @@
 //! What selection looks up.
 
-ghost use Rattle.std.specs.Prelude.{◌≡◌, ◌≤◌, ◌<◌, ◌+◌, ◌*◌, IfOk, length, map};
-ghost use Rattle.air_ir.specs.declared.operand.Home.TheVariants as homes;
+ghost use Rattle.std.specs.Prelude.{◌≡◌, ◌+◌, ◌*◌};
+ghost use Rattle.air_fold.specs.Values as values;
 ghost use Rattle.air_select.specs.Selected as code;
-ghost use Rattle.air_select.specs.Tables as tables;
+ghost use Rattle.air_select.specs.Temporaries as temporaries;
 
-use crate::known::{Known, unknown};
-use crate::rows::width_of;
+use air_fold::{Index, child, width_of};
 use air_ir::{Arg, Home, Operand, Role};
 use b3_base::{Seq, Width};
-use indexmap::IndexSet;
+use b3_ir::Value;
 use std::marker::Model;
-
-/// The ids of all values, in order, and beside each what is known of its value.
-#[derive(Drop)]
-pub(crate) struct Index {
-    pub(crate) ids: IndexSet<u32>,
-    pub(crate) known: Seq<Known>,
-}
-
-impl Model for Index {
-    ghost use Rattle.std.specs.Prelude.{◌≤◌, length};
-    ghost use Rattle.air_select.specs.Tables as tables;
-
-    ghost Value = { tables.Index };
-
-    ghost view = { λ x. record { ids = x.ids.keys; known = x.known } };
-
-    ghost invariant = { λ x. length x.ids.keys ≤ 16384 };
-}
 
 /// What selection looks up: of each id its place and what is known of it, and whether its value is folded.
 #[derive(Drop)]
@@ -45,71 +26,39 @@ impl Model for Tables {
     ghost view = { λ t. record { index = t.index; folds = t.folds } };
 }
 
-impl Index {
-    /// The place of the value that an id names, past the last where it names none.
-    pub(crate) fn place(&self, id: u32) -> u32
-        ensures place { result ≡ tables.place self.now id }
-        ensures most { result ≤ 16384 }
-    {
-        match self.ids.get_index_of(&id) {
-            Some(place) => place as u32,
-            None => self.ids.len() as u32,
-        }
-    }
+/// The home of a value.
+pub(crate) fn home(index: &Index, id: u32) -> Home
+    ensures { result ≡ temporaries.home index.now id }
+{
+    Home::Tmp(3 * index.place(id))
+}
 
-    /// What is known of the value that an id names.
-    pub(crate) fn known(&self, id: u32) -> Known
-        ensures { result ≡ tables.known self.now id }
-    {
-        let place = self.place(id) as usize;
-        if place < self.known.len() {
-            *self.known.get(place)
-        } else {
-            unknown()
-        }
-    }
+/// The first temporary that the instructions of a value use on the way.
+pub(crate) fn first_extra(index: &Index, id: u32) -> Home
+    ensures { result ≡ temporaries.first_extra index.now id }
+{
+    Home::Tmp(3 * index.place(id) + 1)
+}
 
-    /// The width of the word of the value that an id names.
-    pub(crate) fn width_at(&self, id: u32) -> Width
-        ensures { result ≡ tables.width_at self.now id }
-    {
-        width_of(self.known(id).ty)
-    }
+/// The second one.
+pub(crate) fn second_extra(index: &Index, id: u32) -> Home
+    ensures { result ≡ temporaries.second_extra index.now id }
+{
+    Home::Tmp(3 * index.place(id) + 2)
+}
 
-    /// The home of a value.
-    pub(crate) fn home(&self, id: u32) -> Home
-        ensures { result ≡ tables.home self.now id }
-    {
-        Home::Tmp(3 * self.place(id))
-    }
+/// The temporary of an argument register.
+pub(crate) fn argument(index: &Index, r: u8) -> Home
+    ensures { result ≡ temporaries.argument index.now r }
+{
+    Home::Tmp(3 * index.count() + u32::from(r))
+}
 
-    /// The first temporary that the instructions of a value use on the way.
-    pub(crate) fn first_extra(&self, id: u32) -> Home
-        ensures { result ≡ tables.first_extra self.now id }
-    {
-        Home::Tmp(3 * self.place(id) + 1)
-    }
-
-    /// The second one.
-    pub(crate) fn second_extra(&self, id: u32) -> Home
-        ensures { result ≡ tables.second_extra self.now id }
-    {
-        Home::Tmp(3 * self.place(id) + 2)
-    }
-
-    /// The temporary of an argument register.
-    pub(crate) fn argument(&self, r: u8) -> Home
-        ensures { result ≡ tables.argument self.now r }
-    {
-        Home::Tmp(3 * self.ids.len() as u32 + u32::from(r))
-    }
-
-    /// The number of temporaries.
-    pub(crate) fn tmp_count(&self) -> u32
-        ensures { result ≡ tables.tmp_count self.now }
-    {
-        3 * self.ids.len() as u32 + 8
-    }
+/// The number of temporaries.
+pub(crate) fn tmp_count(index: &Index) -> u32
+    ensures { result ≡ temporaries.tmp_count index.now }
+{
+    3 * index.count() + 8
 }
 
 impl Tables {
@@ -128,7 +77,7 @@ impl Tables {
         if self.folds(id) {
             Arg::Imm(self.index.known(id).word)
         } else {
-            Arg::At(self.index.home(id))
+            Arg::At(home(&self.index, id))
         }
     }
 
@@ -160,4 +109,18 @@ pub(crate) fn def_at(width: Width, to: Home) -> Operand
         width,
         arg: Arg::At(to),
     }
+}
+
+/// The operand of a child of a value.
+pub(crate) fn use_child(t: &Tables, v: &Value, at: usize) -> Operand
+    ensures { result ≡ code.use_of t.now (values.child v.now.children at) }
+{
+    t.use_of(child(&v.children, at))
+}
+
+/// The result of a value.
+pub(crate) fn result_of(t: &Tables, v: &Value) -> Operand
+    ensures { result ≡ code.result_of t.now v.now }
+{
+    def_at(width_of(v.ty), home(&t.index, v.id))
 }

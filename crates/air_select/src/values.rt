@@ -2,30 +2,20 @@
 
 ghost use Rattle.std.specs.Prelude.{◌≡◌, ◌++◌, ◌∷◌, [], map, OnOk, IfOk};
 ghost use Rattle.air_select.specs.Selected as code;
-ghost use Rattle.air_select.specs.Tables as tables;
+ghost use Rattle.air_fold.specs.Values as values;
 
+use crate::access::{push_frame_pointer, push_load, push_slot, push_store};
 use crate::code::{four, one, push, push_move, three, two};
-use crate::known::{child, word_in};
-use crate::rows::{bit_of, condition, is_comparison, op_of, turned, width_of};
-use crate::tables::{Tables, def_at, use_at};
+use crate::rows::{condition, op_of, turned};
+use crate::tables::{
+    Tables, argument, def_at, first_extra, home, result_of, second_extra, use_at, use_child,
+};
+use air_fold::{bit_of, child, is_comparison, width_of, word_in};
 use air_ir::{AirInsts, AirOp, Arg, Home, Operand, Operands, Test};
 use b3_base::{NoMemory, Width, Words};
 use b3_ir::{Body, Opcode, Reg, Value};
+use b3_meaning::Extent;
 use std::alloc::Global;
-
-/// The operand of a child of a value.
-fn use_child(t: &Tables, v: &Value, at: usize) -> Operand
-    ensures { result ≡ code.use_of t.now (tables.child v.now.children at) }
-{
-    t.use_of(child(&v.children, at))
-}
-
-/// The result of a value.
-fn result_of(t: &Tables, v: &Value) -> Operand
-    ensures { result ≡ code.result_of t.now v.now }
-{
-    def_at(width_of(v.ty), t.index.home(v.id))
-}
 
 /// The test of a condition.
 fn test_of(t: &Tables, id: u32) -> Test
@@ -94,7 +84,7 @@ fn push_quotient(
 ) -> Result<(), NoMemory>
     ensures { OnOk result (insts.new ≡ insts.old ++ code.quotient_of t.now v.now divide ∷ []) }
 {
-    let to = def_at(width_of(v.ty), t.index.first_extra(v.id));
+    let to = def_at(width_of(v.ty), first_extra(&t.index, v.id));
     let operands = three(alloc, use_child(t, v, 0), use_child(t, v, 1), to)?;
     push(insts, v.id, divide, operands)
 }
@@ -110,7 +100,7 @@ fn push_rest(
     ensures { OnOk result (insts.new ≡ insts.old ++ code.rest_into t.now v.now to ∷ []) }
 {
     let width = width_of(v.ty);
-    let quotient = use_at(width, Arg::At(t.index.first_extra(v.id)));
+    let quotient = use_at(width, Arg::At(first_extra(&t.index, v.id)));
     let operands = four(
         alloc,
         quotient,
@@ -129,8 +119,8 @@ fn push_choice(alloc: Global, insts: &mut AirInsts, t: &Tables, v: &Value) -> Re
     let operands = four(
         alloc,
         use_child(t, v, 1),
-        use_at(width, Arg::At(t.index.second_extra(v.id))),
-        use_at(width, Arg::At(t.index.first_extra(v.id))),
+        use_at(width, Arg::At(second_extra(&t.index, v.id))),
+        use_at(width, Arg::At(first_extra(&t.index, v.id))),
         result_of(t, v),
     )?;
     push(insts, v.id, AirOp::SelectIf(Test::NonZero), operands)
@@ -148,10 +138,10 @@ fn push_remainder(
 {
     push_quotient(alloc, insts, t, v, divide)?;
     if v.kind.chill {
-        push_rest(alloc, insts, t, v, t.index.second_extra(v.id))?;
+        push_rest(alloc, insts, t, v, second_extra(&t.index, v.id))?;
         return push_choice(alloc, insts, t, v);
     }
-    push_rest(alloc, insts, t, v, t.index.home(v.id))
+    push_rest(alloc, insts, t, v, home(&t.index, v.id))
 }
 
 /// Adds a rotation right.
@@ -187,7 +177,7 @@ fn push_rotate_left(
         let word = turned(width_of(v.ty), t.index.known(amount).word);
         return push_rotation(alloc, insts, t, v, Arg::Imm(word));
     }
-    let extra = t.index.first_extra(v.id);
+    let extra = first_extra(&t.index, v.id);
     let operands = two(alloc, use_child(t, v, 1), def_at(Width::W32, extra))?;
     push(insts, v.id, AirOp::Neg, operands)?;
     push_rotation(alloc, insts, t, v, Arg::At(extra))
@@ -204,8 +194,8 @@ fn push_three(operands: &mut Operands, a: Operand, b: Operand, c: Operand) -> Re
 
 /// The operands of a choice: those of its test, the two words, and the result.
 fn choice(alloc: Global, t: &Tables, v: &Value) -> Result<Operands, NoMemory>
-    ensures { IfOk result (λ os. os ≡ (code.condition_of t.now (tables.child v.now.children 0)).over
-        ++ code.use_of t.now (tables.child v.now.children 1) ∷ code.use_of t.now (tables.child v.now.children 2)
+    ensures { IfOk result (λ os. os ≡ (code.condition_of t.now (values.child v.now.children 0)).over
+        ++ code.use_of t.now (values.child v.now.children 1) ∷ code.use_of t.now (values.child v.now.children 2)
         ∷ code.result_of t.now v.now ∷ []) }
 {
     let mut operands = tested(alloc, t, child(&v.children, 0))?;
@@ -218,7 +208,7 @@ fn choice(alloc: Global, t: &Tables, v: &Value) -> Result<Operands, NoMemory>
 /// Adds a choice by a condition.
 fn push_select(alloc: Global, insts: &mut AirInsts, t: &Tables, v: &Value) -> Result<(), NoMemory>
     ensures { OnOk result (insts.new ≡ insts.old
-        ++ code.select_on t.now v.now (code.condition_of t.now (tables.child v.now.children 0))) }
+        ++ code.select_on t.now v.now (code.condition_of t.now (values.child v.now.children 0))) }
 {
     let operands = choice(alloc, t, v)?;
     let test = test_of(t, child(&v.children, 0));
@@ -228,7 +218,7 @@ fn push_select(alloc: Global, insts: &mut AirInsts, t: &Tables, v: &Value) -> Re
 /// Adds a branch by a condition.
 fn push_branch(alloc: Global, insts: &mut AirInsts, t: &Tables, v: &Value) -> Result<(), NoMemory>
     ensures { OnOk result (insts.new ≡ insts.old
-        ++ code.branch_on t.now v.now (code.condition_of t.now (tables.child v.now.children 0))) }
+        ++ code.branch_on t.now v.now (code.condition_of t.now (values.child v.now.children 0))) }
 {
     let id = child(&v.children, 0);
     let operands = tested(alloc, t, id)?;
@@ -249,7 +239,7 @@ fn cases_in(alloc: Global, body: &Body) -> Result<Words, NoMemory>
 fn push_switch(alloc: Global, insts: &mut AirInsts, t: &Tables, v: &Value) -> Result<(), NoMemory>
     ensures { OnOk result (insts.new ≡ insts.old
         ++ code.inst v.now (AirOp.Switch (code.cases_in v.now.body))
-        (code.use_of t.now (tables.child v.now.children 0) ∷ []) ∷ []) }
+        (code.use_of t.now (values.child v.now.children 0) ∷ []) ∷ []) }
 {
     let cases = cases_in(alloc, &v.body)?;
     let operands = one(alloc, use_child(t, v, 0))?;
@@ -294,20 +284,20 @@ fn copied(t: &Tables, v: &Value) -> (Width, Arg, Home)
     ensures { result ≡ code.copied t.now v.now.kind.opcode v.now }
 {
     let width = width_of(v.ty);
-    let home = t.index.home(v.id);
+    let to = home(&t.index, v.id);
     let id = child(&v.children, 0);
     match v.kind.opcode {
         Opcode::ArgumentReg => {
-            let argument = t.index.argument(register_in(&v.body));
-            (Width::W64, Arg::At(argument), home)
+            let from = argument(&t.index, register_in(&v.body));
+            (Width::W64, Arg::At(from), to)
         }
-        Opcode::Trunc => (Width::W32, t.arg_of(id), home),
+        Opcode::Trunc => (Width::W32, t.arg_of(id), to),
         Opcode::Upsilon => {
-            let location = t.index.first_extra(phi_in(&v.body));
+            let location = first_extra(&t.index, phi_in(&v.body));
             (t.index.width_at(id), t.arg_of(id), location)
         }
-        Opcode::Phi => (width, Arg::At(t.index.first_extra(v.id)), home),
-        _ => (width, Arg::Imm(word_in(&v.body)), home),
+        Opcode::Phi => (width, Arg::At(first_extra(&t.index, v.id)), to),
+        _ => (width, Arg::Imm(word_in(&v.body)), to),
     }
 }
 
@@ -339,6 +329,16 @@ fn push_code(alloc: Global, insts: &mut AirInsts, t: &Tables, v: &Value) -> Resu
         | Opcode::Trunc
         | Opcode::Upsilon
         | Opcode::Phi => push_copy(alloc, insts, t, v),
+        Opcode::FramePointer => push_frame_pointer(alloc, insts, t, v),
+        Opcode::SlotBase => push_slot(alloc, insts, t, v),
+        Opcode::Load8Z => push_load(alloc, insts, t, v, AirOp::Load8Z, Extent::Byte),
+        Opcode::Load8S => push_load(alloc, insts, t, v, AirOp::Load8S, Extent::Byte),
+        Opcode::Load16Z => push_load(alloc, insts, t, v, AirOp::Load16Z, Extent::Half),
+        Opcode::Load16S => push_load(alloc, insts, t, v, AirOp::Load16S, Extent::Half),
+        Opcode::Load => push_load(alloc, insts, t, v, AirOp::Load, Extent::Whole),
+        Opcode::Store8 => push_store(alloc, insts, t, v, AirOp::Store8, Extent::Byte),
+        Opcode::Store16 => push_store(alloc, insts, t, v, AirOp::Store16, Extent::Half),
+        Opcode::Store => push_store(alloc, insts, t, v, AirOp::Store, Extent::Whole),
         Opcode::Mod => push_remainder(alloc, insts, t, v, AirOp::Div),
         Opcode::UMod => push_remainder(alloc, insts, t, v, AirOp::UDiv),
         Opcode::RotL => push_rotate_left(alloc, insts, t, v),

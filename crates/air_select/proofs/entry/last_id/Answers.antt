@@ -2,7 +2,7 @@ use Rattle.std.proofs.Common.{List, ◌∙◌, refl}
 use Rattle.b3_ir.specs.Procedure.{values_of}
 use Rattle.b3_ir.specs.declared.value.Value.{Value}
 use Rattle.air_select.proofs.Entries.{last_from, last_is}
-use Rattle.air_select.proofs.Walks.{walk_next, walk_smaller}
+use Rattle.air_fold.proofs.Walks.{walk_next, walk_smaller}
 use Rattle.air_select.proofs.entry.last_id.Goals as goal
 
 pub loop-at-smaller : goal.loop-at-smaller

@@ -3,7 +3,7 @@ use Rattle.b3_ir.specs.Procedure.{values_from, values_of}
 use Rattle.b3_ir.specs.declared.value.Value.{Value}
 use Rattle.air_select.specs.Selected.{names_argument}
 use Rattle.air_select.proofs.Entries.{argument_found, argument_passed}
-use Rattle.air_select.proofs.Walks.{walk_here, walk_next, walk_smaller}
+use Rattle.air_fold.proofs.Walks.{walk_here, walk_next, walk_smaller}
 use Rattle.air_select.proofs.entry.names_argument.Goals as goal
 
 pub loop-at-smaller : goal.loop-at-smaller

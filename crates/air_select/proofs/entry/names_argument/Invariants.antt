@@ -2,7 +2,7 @@ use Rattle.std.proofs.Common.{List, length}
 use Rattle.b3_ir.specs.Procedure.{values_from, values_of}
 use Rattle.b3_ir.specs.declared.value.Value.{Value}
 use Rattle.air_select.specs.Selected.{names_argument}
-use Rattle.air_select.proofs.Walks.{IsWalked}
+use Rattle.air_fold.proofs.Walks.{IsWalked}
 use Rattle.air_select.proofs.entry.names_argument.Given as goal
 
 abbrev pub invariant-loop-at : goal.invariant-loop-at

@@ -2,7 +2,7 @@ use Rattle.std.proofs.Common.{◌∙◌, drop, Some, sym}
 use Rattle.b3_ir.specs.Procedure.{values_from, values_of}
 use Rattle.b3_rules.specs.Rules.{first_return}
 use Rattle.air_select.proofs.Entries.{return_found, return_passed}
-use Rattle.air_select.proofs.Walks.{walk_here, walk_next, walk_smaller}
+use Rattle.air_fold.proofs.Walks.{walk_here, walk_next, walk_smaller}
 use Rattle.air_select.proofs.entry.return_in.Goals as goal
 
 pub loop-at-smaller : goal.loop-at-smaller

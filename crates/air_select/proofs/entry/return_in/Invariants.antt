@@ -1,7 +1,7 @@
 use Rattle.std.proofs.Common.{length}
 use Rattle.b3_ir.specs.Procedure.{values_from, values_of}
 use Rattle.b3_rules.specs.Rules.{first_return}
-use Rattle.air_select.proofs.Walks.{IsWalked}
+use Rattle.air_fold.proofs.Walks.{IsWalked}
 use Rattle.air_select.proofs.entry.return_in.Given as goal
 
 abbrev pub invariant-loop-at : goal.invariant-loop-at

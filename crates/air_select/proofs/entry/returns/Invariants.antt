@@ -1,7 +1,7 @@
 use Rattle.std.proofs.Common.{◌≡◌, drop}
 use Rattle.b3_ir.specs.Naming.{all_values}
 use Rattle.b3_rules.specs.Rules.{first_return}
-use Rattle.air_select.proofs.Places.{row}
+use Rattle.air_fold.proofs.Places.{row}
 use Rattle.air_select.proofs.entry.returns.Given as goal
 
 abbrev pub invariant-loop-block : goal.invariant-loop-block

@@ -1,7 +1,7 @@
 use Rattle.std.proofs.Common.{[], refl}
 use Rattle.b3_ir.specs.Procedure.{values_of}
-use Rattle.air_select.proofs.Listed.{code_end, code_next, low_targets, with_code}
-use Rattle.air_select.proofs.Walks.{walk_next, walk_smaller, walk_stands}
+use Rattle.air_select.proofs.Coded.{code_end, code_next, low_targets, with_code}
+use Rattle.air_fold.proofs.Walks.{walk_next, walk_smaller, walk_stands}
 use Rattle.air_select.proofs.procedure.block_of.Goals as goal
 
 pub loop-at-smaller : goal.loop-at-smaller

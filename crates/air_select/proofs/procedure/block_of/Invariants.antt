@@ -1,7 +1,7 @@
 use Rattle.std.proofs.Common.{[], length}
 use Rattle.b3_ir.specs.Procedure.{values_from, values_of}
-use Rattle.air_select.proofs.Listed.{with_code}
-use Rattle.air_select.proofs.Walks.{IsWalked}
+use Rattle.air_select.proofs.Coded.{with_code}
+use Rattle.air_fold.proofs.Walks.{IsWalked}
 use Rattle.air_select.proofs.procedure.block_of.Given as goal
 
 abbrev pub invariant-loop-at : goal.invariant-loop-at

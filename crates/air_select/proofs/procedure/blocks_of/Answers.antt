@@ -5,7 +5,7 @@ use Rattle.b3_ir.specs.Procedure.{no_block, values_of}
 use Rattle.b3_rules.specs.Valid.{Header}
 use Rattle.b3_rules.specs.declared.rule.Rule.TheVariants.{Endings}
 use Rattle.air_select.specs.Selected.{entry_of}
-use Rattle.air_select.proofs.Listed.{block_added}
+use Rattle.air_select.proofs.Coded.{block_added}
 use Rattle.air_select.proofs.procedure.blocks_of.Goals as goal
 
 pub entry-requires : goal.entry-requires

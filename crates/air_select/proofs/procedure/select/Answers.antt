@@ -10,12 +10,13 @@ use Rattle.air_ir.specs.Run.{HasBlocksOf}
 use Rattle.air_ir.specs.Weight.{weight}
 use Rattle.air_ir.specs.WellFormed.{HasOneSiteEach, IsWellFormed, NamesSpillsBelow}
 use Rattle.air_ir.specs.declared.procedure.AirProc.{AirProc}
-use Rattle.air_select.specs.Contract.{IsArithmetic, IsFew, IsFolded, IsWithinLimits, ReturnsType, child_count, procedure_at}
+use Rattle.air_select.specs.Contract.{HasArithmeticAlone, IsArithmetic, IsFew, IsFolded, IsSelected, IsWithinLimits, ReturnsType, child_count, procedure_at}
 use Rattle.air_select.specs.Selected.{selected, tables}
 use Rattle.air_select.proofs.Folded.{is_folded}
 use Rattle.air_select.proofs.Returned as returned
 use Rattle.air_select.proofs.Selecting.{at_is, if_ok, kept_slots, same, valid_at}
-use Rattle.air_select.proofs.Sites.{arithmetic, sites, spills}
+use Rattle.air_select.proofs.OneSite.{sites}
+use Rattle.air_select.proofs.Sites.{are_selected, arithmetic, spills}
 use Rattle.air_select.proofs.Sound.{sound}
 use Rattle.air_select.proofs.Weights.{few, light}
 use Rattle.air_select.proofs.Well.{well}
@@ -57,13 +58,16 @@ pub returns-clause-well : goal.returns-clause-well
 returns-clause-well c = by c IsWellFormed (well (asked c) (valid c) (fits c) c.requires.built (tables (asked c)) (sound (asked c) (valid c)))
 
 pub returns-clause-sites : goal.returns-clause-sites
-returns-clause-sites c = by c HasOneSiteEach (sites (asked c))
+returns-clause-sites c = by c HasOneSiteEach (sites (asked c) (valid c))
 
 pub returns-clause-spills : goal.returns-clause-spills
 returns-clause-spills c = by c (NamesSpillsBelow 0) (spills (asked c))
 
+pub returns-clause-selected : goal.returns-clause-selected
+returns-clause-selected c = by c IsSelected (are_selected (asked c))
+
 pub returns-clause-arithmetic : goal.returns-clause-arithmetic
-returns-clause-arithmetic c = by c IsArithmetic (arithmetic (asked c))
+returns-clause-arithmetic c = by c (λ q. HasArithmeticAlone (asked c) → IsArithmetic q) (arithmetic (asked c))
 
 pub returns-clause-light : goal.returns-clause-light
 returns-clause-light c = by c (λ q. weight q ≤ 120 * total (asked c) + 32 * child_count (asked c) + 256) (light (asked c))

@@ -1,5 +1,5 @@
 use Rattle.b3_ir.specs.declared.procedure.SlotLine.{SlotLine}
-use Rattle.air_select.proofs.Places.{map_item}
+use Rattle.air_fold.proofs.Places.{map_item}
 use Rattle.air_select.proofs.procedure.slot_sizes.Goals as goal
 
 pub loop-at-preserved : goal.loop-at-preserved

@@ -1,0 +1,4 @@
+pub mod Values
+pub mod Foldable
+pub mod Indexed
+pub mod Tallied

@@ -1,8 +1,0 @@
-use Rattle.std.proofs.Common.{◌∙◌}
-use Rattle.air_select.proofs.Masks.{mask_is}
-use Rattle.air_select.proofs.rows.is_mask.Goals as goal
-
-pub returns : goal.returns
-returns c =
-    c.is_some.ensures ∙ mask_is c.args.width c.args.word c.bit_mask_from.result
-    c.bit_mask_from.ensures.named c.bit_mask_from.ensures.range c.bit_mask_from.ensures.none

@@ -1,9 +1,0 @@
-use Rattle.std.proofs.Common.{◌≡◌, drop}
-use Rattle.air_select.specs.Foldable.{uses_from}
-use Rattle.air_select.specs.Tallied.{with_all}
-use Rattle.air_select.proofs.uses.note_value.Given as goal
-
-abbrev pub invariant-loop-at : goal.invariant-loop-at
-invariant-loop-at l =
-    with_all l.index l.tallies (uses_from l.block l.value.kind.opcode l.at (drop l.at l.children))
-    ≡ with_all l.index l.initial.tallies (uses_from l.block l.value.kind.opcode 0 l.children)
