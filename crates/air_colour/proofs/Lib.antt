@@ -15,3 +15,6 @@ mod Example
 mod Given
 mod Assigned
 mod Working
+mod Members
+mod Active
+mod Bars

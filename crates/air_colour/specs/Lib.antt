@@ -10,3 +10,4 @@ pub mod Progress
 pub mod Homes
 pub mod Assigned
 pub mod Worklist
+pub mod Members

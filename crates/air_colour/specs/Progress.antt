@@ -1,5 +1,5 @@
 -- How far joining has come.
-use Rattle.std.specs.Prelude.{◌≡◌, ℕ, ◌<◌, Bool, true, false, List, ◌++◌, length, slice_index_or}
+use Rattle.std.specs.Prelude.{◌≡◌, ℕ, ◌<◌, ◌⊎◌, Bool, true, false, List, ◌++◌, length, slice_index_or, Contains}
 use Rattle.air_graph.specs.Edges.{EdgeSet}
 use Rattle.air_colour.specs.Interference.{Graph, IsIn, count}
 use Rattle.air_colour.specs.Classes.{classes_of, Moves, after_joins, JoinsFrom}
@@ -50,3 +50,13 @@ pub record IsJoinedSoFar (k : ℕ) (g : Graph) (moves : Moves) (first : ℕ → 
     → ℕ) : Type 0 where
   pub more : (rest : List ℕ) → JoinsFrom k g moves class rest → JoinsFrom k g moves first (joins ++ rest)
   pub after : (rest : List ℕ) → after_joins g moves first (joins ++ rest) ≡ after_joins g moves class rest
+
+-- the move can be joined no more: a home isn't in the graph, or the classes of both are one or interfere
+abbrev pub IsOver : Graph → (ℕ → ℕ) → Move → Type 0
+IsOver g class m =
+    IsIn g m.from → IsIn g m.to
+    → (class m.from ≡ class m.to) ⊎ ((classes_of g class).meets (class m.from) (class m.to) ≡ true)
+
+-- each move that may be joined yet is in the list
+abbrev pub AreActive : Graph → Moves → (ℕ → ℕ) → List ℕ → Type 0
+AreActive g moves class active = (j : ℕ) → j < moves.count → Contains active j ⊎ IsOver g class (moves.at j)

@@ -8,7 +8,8 @@ ghost use Rattle.air_colour.specs.Colouring.{IsColouring};
 ghost use Rattle.air_colour.specs.Homes.{home_graph, register_of, IsStarted};
 
 use crate::choose::choose;
-use crate::homes::{give_registers, mark_registers, spread, stand_alone};
+use crate::classes::Classes;
+use crate::homes::{give_registers, mark_registers, spread};
 use crate::moves::{Move, join_moves};
 use crate::simplify::simplify;
 use air_graph::Edges;
@@ -29,7 +30,7 @@ fn colour_classes(
     edges: &mut Edges,
     left: &mut [bool],
     fixed: &[bool],
-    class: &mut [usize],
+    class: &mut Classes,
     given: &mut [Option<usize>],
     temporaries: usize,
     k: usize,
@@ -39,15 +40,16 @@ fn colour_classes(
     requires start { IsStarted edges.old left.old fixed.now class.old given.old temporaries k }
     requires few { length moves.now ≤ 2 ^ 32 }
     requires interference { IsInterference (home_graph edges.old temporaries k) }
+    ensures long { IfOk result (λ _. length class.new ≡ length class.old) }
     ensures below { IfOk result (λ _. (u : ℕ) → u < length class.new
         → slice_index_or class.new u 0 < length given.new) }
     ensures coloured { IfOk result (λ joins. IsColouring k (home_graph edges.old temporaries k)
         (register_of temporaries) (moves_of moves.now) joins.items (λ u. given_in given.new (class_in class.new u))) }
 {
     let joins = join_moves(alloc, edges, left, fixed, class, moves, k)?;
-    give_registers(given, class, temporaries, k);
+    give_registers(given, class.as_slice(), temporaries, k);
     let order = simplify(alloc, edges, left, fixed, k)?;
-    choose(edges, given, &order, k);
+    choose(alloc, edges, given, &order, k)?;
     Ok(joins)
 }
 
@@ -71,7 +73,7 @@ pub(crate) fn colour_homes(
     let homes = temporaries + k;
     let fixed = mark_registers(alloc, temporaries, homes)?;
     let mut left = vec![in alloc; true; homes]?;
-    let mut class = stand_alone(alloc, homes)?;
+    let mut class = Classes::new(alloc, homes)?;
     let mut given = vec![in alloc; None; homes]?;
     let joins = colour_classes(
         alloc,
@@ -84,6 +86,6 @@ pub(crate) fn colour_homes(
         k,
         moves,
     )?;
-    let given = spread(alloc, &given, &class)?;
+    let given = spread(alloc, &given, class.as_slice())?;
     Ok(Colouring { given, joins })
 }

@@ -25,18 +25,6 @@ pub(crate) fn mark_registers(
     Ok(fixed)
 }
 
-/// Each home is a class by itself.
-pub(crate) fn stand_alone(alloc: Global, homes: usize) -> Result<Vec<usize>, NoMemory>
-    ensures long { IfOk result (λ class. length class.items ≡ homes) }
-    ensures alone { IfOk result (λ class. (x : ℕ) → x < homes → slice_index_or class.items x x ≡ x) }
-{
-    let mut class = Vec::new(alloc);
-    for u in 0..homes {
-        class.push(u)?;
-    }
-    Ok(class)
-}
-
 /// Gives each register to its class.
 pub(crate) fn give_registers(
     given: &mut [Option<usize>],

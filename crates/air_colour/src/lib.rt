@@ -3,11 +3,14 @@
 
 mod assign;
 mod choose;
+mod classes;
 mod colouring;
 mod homes;
 mod joining;
 mod moves;
 mod simplify;
+#[cfg(test)]
+mod slow;
 #[cfg(test)]
 mod tests;
 mod worklist;

@@ -3,6 +3,7 @@
 ghost use Rattle.std.specs.Prelude.{◌≡◌, ◌<◌, ◌≤◌, length};
 
 use crate::colour;
+use crate::slow::{fault, graph_of, is_spilled, random_table};
 use air_graph::{Copied, Interference};
 use air_ir::{Assignment, Home};
 use b3_base::NoMemory;
@@ -166,5 +167,34 @@ fn a_register_takes_a_temporary_whose_neighbours_are_its_own(rt: HostRuntime) ->
     if a.homes.len() == 27 {
         assert_eq!(rt; *a.homes.get(0), Some(Reg(3)));
     }
+    Ok(())
+}
+
+/// What is wrong with the colouring of a graph that is made from a number, whether a temporary is spilled, and how many
+/// moves are joined.
+fn random_fault(alloc: Global, seed: u64) -> Result<(u32, bool, usize), Fail> {
+    let table = random_table(alloc, seed)?;
+    let graph = graph_of(alloc, &table)?;
+    if graph.moves() > 1000 {
+        return Err("too many".into());
+    }
+    let a = colour(alloc, graph)?;
+    Ok((fault(alloc, &table, &a)?, is_spilled(&a), a.joins.len()))
+}
+
+// Each colouring is checked by counting anew. In some of these graphs a temporary is spilled, and in some none.
+#[test]
+fn colourings_of_random_graphs_pass_a_slow_checker(rt: HostRuntime) -> Result<(), Fail> {
+    let mut spilled: usize = 0;
+    let mut joins: usize = 0;
+    for seed in 0..300 {
+        let (fault, spills, joined) = random_fault(rt.alloc(), seed)?;
+        assert_eq!(rt; fault, 0);
+        if spills {
+            spilled = spilled.wrapping_add(1);
+        }
+        joins = joins.wrapping_add(joined);
+    }
+    assert!(rt; spilled > 50 && spilled < 250 && joins > 1000);
     Ok(())
 }
