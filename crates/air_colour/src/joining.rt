@@ -46,16 +46,21 @@ fn counts(edges: &Edges, left: &[bool], fixed: &[bool], x: usize, k: usize) -> b
     left[x] && significant(edges, left, fixed, x, k)
 }
 
-/// How many significant neighbours the class `a` has.
+/// How many significant neighbours the class `a` has. It stops at the first `k`.
 fn significant_near(edges: &Edges, left: &[bool], fixed: &[bool], a: usize, k: usize) -> usize
     requires room { HasRoom edges.now (length left.now) (length fixed.now) }
     requires a { a < length left.now }
-    ensures { result ≡ count (λ x. significant_left k edges.now left.now fixed.now x
+    ensures some { result ≤ count (λ x. significant_left k edges.now left.now fixed.now x
+        && has edges.now a x) (length left.now) }
+    ensures all { result < k → result ≡ count (λ x. significant_left k edges.now left.now fixed.now x
         && has edges.now a x) (length left.now) }
 {
     let mut many: usize = 0;
     let near = edges.near(a);
     for x in near {
+        if k <= many {
+            return many;
+        }
         if counts(edges, left, fixed, *x as usize, k) {
             many += 1;
         }
@@ -63,7 +68,7 @@ fn significant_near(edges: &Edges, left: &[bool], fixed: &[bool], a: usize, k: u
     many
 }
 
-/// How many significant neighbours the class `b` has that aren't neighbours of `a`.
+/// How many significant neighbours the class `b` has that aren't neighbours of `a`. It stops at the first `most`.
 fn significant_beyond(
     edges: &Edges,
     left: &[bool],
@@ -71,16 +76,22 @@ fn significant_beyond(
     a: usize,
     b: usize,
     k: usize,
+    most: usize,
 ) -> usize
     requires room { HasRoom edges.now (length left.now) (length fixed.now) }
     requires a { a < length left.now }
     requires b { b < length left.now }
-    ensures { result ≡ count (λ x. (significant_left k edges.now left.now fixed.now x && not (has edges.now a x))
+    ensures some { result ≤ count (λ x. (significant_left k edges.now left.now fixed.now x && not (has edges.now a x))
         && has edges.now b x) (length left.now) }
+    ensures all { result < most → result ≡ count (λ x. (significant_left k edges.now left.now fixed.now x
+        && not (has edges.now a x)) && has edges.now b x) (length left.now) }
 {
     let mut many: usize = 0;
     let near = edges.near(b);
     for y in near {
+        if most <= many {
+            return many;
+        }
         let x = *y as usize;
         if counts(edges, left, fixed, x, k) && !edges.has(a, x) {
             many += 1;
@@ -101,7 +112,7 @@ fn briggs(edges: &Edges, left: &[bool], fixed: &[bool], a: usize, b: usize, k: u
     if first >= k {
         return false;
     }
-    significant_beyond(edges, left, fixed, a, b, k) < k - first
+    significant_beyond(edges, left, fixed, a, b, k, k - first) < k - first
 }
 
 /// Whether the neighbour `x` holds a register, interferes with `a`, or has fewer than `k` neighbours.

@@ -10,15 +10,17 @@ pub returns-then-first-k : goal.returns-then-first-k
 returns-then-first-k c =
     let all = split_count (λ x. slice_index_or c.args.left.now x false) (has c.args.edges.now c.args.a) (has c.args.edges.now c.args.b)
     (is_significant c.args.k (graph_of c.args.edges.now c.args.left.now c.args.fixed.now)) (length c.args.left.now) in
-    (λ t. absurd (false≢true t), λ lt. absurd (omega (arith, all, lt, c.significant_near-first.ensures, c.if-first-k.true)))
+    (λ t. absurd (false≢true t), λ lt. absurd (omega (arith, all, lt, c.significant_near-first.ensures.some, c.if-first-k.true)))
 
 pub returns : goal.returns
 returns c =
     let all = split_count (λ x. slice_index_or c.args.left.now x false) (has c.args.edges.now c.args.a) (has c.args.edges.now c.args.b)
-    (is_significant c.args.k (graph_of c.args.edges.now c.args.left.now c.args.fixed.now)) (length c.args.left.now) in (
+    (is_significant c.args.k (graph_of c.args.edges.now c.args.left.now c.args.fixed.now)) (length c.args.left.now) in
+    let first = c.significant_near-first.ensures.all (omega (arith, c.if-first-k.false)) in (
       λ t.
           let lt = ltb-true c.significant_beyond.result (c.args.k - c.significant_near-first.result) t in
-          omega (arith, all, lt, c.significant_near-first.ensures, c.significant_beyond.ensures, c.if-first-k.false),
+          let beyond = c.significant_beyond.ensures.all lt in
+          omega (arith, all, lt, first, beyond, c.if-first-k.false),
       λ lt. lt-ltb c.significant_beyond.result (c.args.k - c.significant_near-first.result)
-          (omega (arith, all, lt, c.significant_near-first.ensures, c.significant_beyond.ensures, c.if-first-k.false)),
+          (omega (arith, all, lt, first, c.significant_beyond.ensures.some, c.if-first-k.false)),
     )
