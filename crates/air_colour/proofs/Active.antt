@@ -1,18 +1,14 @@
 -- Moves that can be joined no more, and lists of those that are active.
-use Rattle.std.proofs.Common.{◌≡◌, ℕ, ◌+◌, ◌<◌, ◌≤◌, ◌↔◌, ◌⊎◌, inl, inr, Bool, true, false, cond, List, [], ◌∷◌, ◌++◌, length, get_or, drop, arith, sym, ◌∙◌, ap, subst, add-one, slice_index_or, drop-cons}
+use Rattle.std.proofs.Common.{◌≡◌, ℕ, ◌+◌, ◌<◌, ◌≤◌, ◌↔◌, ◌⊎◌, inl, inr, Bool, true, false, cond, List, [], ◌∷◌, ◌++◌, length, get_or, drop, arith, sym, ◌∙◌, ap, subst, add-one, drop-cons}
 use Rattle.std.specs.Prelude.{◌==◌, Contains, suc, zero}
 use Rattle.std.proofs.lemmas.Bool.{cases_lt, false≢true}
 use Rattle.std.proofs.lemmas.List.Elements.{Contains-append_left, Contains-push, Contains-push_cases}
-use Rattle.std.proofs.lemmas.Grind.{get_or_default_zero}
 use Rattle.std.proofs.lemmas.List.{drop_all}
-use Rattle.air_graph.specs.Edges.{EdgeSet}
-use Rattle.air_colour.specs.Interference.{Graph, IsIn, IsInterference}
+use Rattle.air_colour.specs.Interference.{Graph, IsInterference}
 use Rattle.air_colour.specs.Classes.{classes_of, merged, MayJoinMove, Moves, after_move, stays, goes}
 use Rattle.air_colour.specs.declared.moves.Move.{Move}
-use Rattle.air_colour.specs.Kept.{graph_of, has}
-use Rattle.air_colour.specs.Progress.{AreActive, IsKept, IsOver, IsState, class_in}
-use Rattle.air_colour.proofs.Merging.{class_stands, meets_members, members_meet}
-use Rattle.air_colour.proofs.Same.{same_in, same_sym}
+use Rattle.air_colour.specs.Progress.{AreActive, IsOver}
+use Rattle.air_colour.proofs.Merging.{meets_members, members_meet}
 
 -- ---- a move that can be joined no more
 
@@ -49,41 +45,7 @@ over_never k g class m is over may =
       | inr t ↦ inr (t, meets_back g class (class m.from) (class m.to) is t)
     ])
 
--- ---- as the lists say it
-
-module _ (g : Graph) (edges : EdgeSet) (left fixed : List Bool) (class : List ℕ) (m : Move) (state : IsState edges left fixed class)
-    (kept : IsKept g edges left fixed class) where
-  at_zero : (u : ℕ) → u < length class → slice_index_or class u 0 ≡ class_in class u
-  at_zero u lt = sym (get_or_default_zero class u u lt)
-
-  in_list : (u : ℕ) → IsIn g u → u < length class
-  in_list u there = let lt = there.0 in let names = kept.same.names in let classes = state.classes in omega arith
-
-  -- a home is none of the graph
-  pub over_outside : length class ≤ m.from ⊎ length class ≤ m.to → IsOver g (class_in class) m
-  over_outside out from to =
-      let lf = in_list m.from from in
-      let lt = in_list m.to to in
-      absurd (elim out [ inl le ↦ omega (arith, le, lf) | inr le ↦ omega (arith, le, lt) ])
-
-  -- the classes are one, or have an edge
-  pub over_inside : m.from < length class → m.to < length class
-      → (slice_index_or class m.from 0 ≡ slice_index_or class m.to 0) ⊎ (has edges (slice_index_or class m.from 0) (slice_index_or class m.to 0) ≡ true)
-      → IsOver g (class_in class) m
-  over_inside lf lt why from to =
-      let c : Graph = classes_of g (class_in class) in
-      let in_from : IsIn (graph_of edges left fixed) (class_in class m.from) = same_in c (graph_of edges left fixed) (same_sym (graph_of edges left fixed) c
-      kept.same) (class_in class m.from) (class_stands g (class_in class) kept.classing m.from from) in
-      let in_to : IsIn (graph_of edges left fixed) (class_in class m.to) = same_in c (graph_of edges left fixed) (same_sym (graph_of edges left fixed) c
-      kept.same) (class_in class m.to) (class_stands g (class_in class) kept.classing m.to to) in
-      elim why [
-        | inl e ↦ inl (sym (at_zero m.from lf) ∙ e ∙ at_zero m.to lt)
-        | inr t ↦ inr (sym (kept.same.meets (class_in class m.from) (class_in class m.to) in_from in_to)
-            ∙ sym (ap (λ (x : ℕ). has edges x (class_in class m.to)) (at_zero m.from lf)) ∙ sym (ap (λ (x : ℕ). has edges (slice_index_or class m.from 0) x)
-            (at_zero m.to lt)) ∙ t)
-      ]
-
--- ---- the list of a pass
+-- ---- the lists of a pass
 
 -- each move that may be joined yet is in one of two lists
 abbrev pub AreActiveIn : Graph → Moves → (ℕ → ℕ) → List ℕ → List ℕ → Type 0

@@ -105,8 +105,9 @@ fn join_move(
     Ok(true)
 }
 
-/// One pass over the moves that are active: each is joined, if it may be, and its number is added to `joins`. Those that
-/// are active afterwards are put into `still`. True where some were joined. It is refused for want of memory alone.
+/// One pass over the active moves, outside of which each can be joined no more: each is joined, if it may be, and its
+/// number is added to `joins`. Those that are active afterwards are put into `still`. True where some were joined. It is
+/// refused for want of memory alone.
 fn join_pass(
     alloc: Global,
     edges: &mut Edges,

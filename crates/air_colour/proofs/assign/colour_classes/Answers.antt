@@ -55,7 +55,8 @@ returns-clause-coloured c =
     let kept0 = started_kept c.args.edges.now c.args.left.now c.args.fixed.now c.args.class.now c.args.given.now c.args.temporaries c.args.k c.requires.start
     c.requires.interference in
     let joined = c.in_ok-joins.ensures.joined (home_graph c.args.edges.now c.args.temporaries c.args.k) c.requires.interference kept0 in
-    let long : length c.join_moves.new.class ≡ length c.args.class.now = let a = c.in_ok-joins.ensures.state.classes in let b = c.requires.start.class_long in let d = c.requires.start.left_long in omega arith in
+    let long : length c.join_moves.new.class ≡ length c.args.class.now =
+    let a = c.in_ok-joins.ensures.state.classes in let b = c.requires.start.class_long in let d = c.requires.start.left_long in omega arith in
     let slice : c.as_slice.result.now ≡ c.join_moves.new.class = c.as_slice.ensures in
     let own = subst (λ (l : List ℕ). (r : ℕ) → r < c.args.k → given_in c.give_registers.new.given (slice_index_or l (c.args.temporaries + r) 0) ≡ Some r)
     slice c.give_registers.ensures.own in

@@ -21,8 +21,8 @@ loop-i-preserved c =
     record {
       long = c.first_free.ensures.long ∙ bars;
       chosen = λ left fixed long s start.
-          chosen_step (length c.args.bars.now) c.args.edges.now c.loop-i.given c.args.order.now (c.loop-i.i - 1) (graph_of c.args.edges.now left fixed) c.first_free.result
-          refl (long ∙ sym same_length) s here
+          chosen_step (length c.args.bars.now) c.args.edges.now c.loop-i.given c.args.order.now (c.loop-i.i - 1) (graph_of c.args.edges.now left fixed)
+          c.first_free.result refl (long ∙ sym same_length) s here
           (subst (λ (i : ℕ). IsChosenFrom (length c.args.bars.now) (graph_of c.args.edges.now left fixed) (given_in c.loop-i.given) c.args.order.now i) more
           (c.loop-i.invariant.chosen left fixed long s start))
           (subst (λ (n : ℕ). IfSome c.first_free.result (λ r. (r < n) × (IsTaken c.args.edges.now c.loop-i.given
