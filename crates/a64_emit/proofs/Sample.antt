@@ -11,7 +11,6 @@ use Rattle.air_ir.specs.declared.operand.Home.TheVariants.{Spill}
 use Rattle.air_ir.specs.declared.operand.Operand.{Operand}
 use Rattle.air_ir.specs.declared.procedure.AirInst.{AirInst}
 use Rattle.a64_emit.specs.Sample.{entry, inst, last, made, procedure, used, x0, above_x1, fills, loads, points, stores, x1}
-use Rattle.a64_emit.specs.Built.{IsBuilt, is_built}
 
 abbrev Names : Operand → Type 0
 Names o = NamesOwn procedure o.role o.arg
@@ -103,24 +102,3 @@ sample_good = record {
   entry = omega arith;
   blocks = All-cons (IsGoodBlock procedure) entry (last ∷ []) entry_good (All-cons (IsGoodBlock procedure) last [] last_good (All-nil (IsGoodBlock procedure)));
 }
-
-abbrev IsBuiltInst : AirInst → Type 0
-IsBuiltInst i = is_built i.op i.traps ≡ true
-
-abbrev IsBuiltBlock : AirBlock → Type 0
-IsBuiltBlock b = All IsBuiltInst b.insts
-
-pub sample_built : IsBuilt procedure
-sample_built =
-    All-cons IsBuiltBlock entry (last ∷ [])
-    (All-cons IsBuiltInst fills (points ∷ stores ∷ inst op.Jump [] ∷ []) refl
-    (All-cons IsBuiltInst points (stores ∷ inst op.Jump [] ∷ []) refl
-    (All-cons IsBuiltInst stores (inst op.Jump [] ∷ []) refl
-    (All-cons IsBuiltInst (inst op.Jump []) [] refl (All-nil IsBuiltInst)))))
-    (All-cons IsBuiltBlock last []
-    (All-cons IsBuiltInst loads (inst op.Return (used x0 ∷ []) ∷ []) refl
-    (All-cons IsBuiltInst (inst op.Return (used x0 ∷ [])) [] refl (All-nil IsBuiltInst)))
-    (All-nil IsBuiltBlock))
-
-pub sample_light : weight procedure < 2 ^ 24
-sample_light = omega arith
