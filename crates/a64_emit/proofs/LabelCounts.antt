@@ -198,7 +198,8 @@ insts_times label f next own targets (i ∷ body) last inner =
     let sum = sum_by-cons (λ (i : AirInst). own_labels i.op) i (body ++ last ∷ []) in
     let zero_here : own + own_labels i.op ≡ own = omega arith in
     let same = ap (λ n. below n label) zero_here in
-    let e : own + sum_by (λ (i : AirInst). own_labels i.op) (body ++ last ∷ []) ≡ own + sum_by (λ (i : AirInst). own_labels i.op) (i ∷ (body ++ last ∷ [])) = omega arith in
+    let e : own + sum_by (λ (i : AirInst). own_labels i.op) (body ++ last ∷ [])
+    ≡ own + sum_by (λ (i : AirInst). own_labels i.op) (i ∷ (body ++ last ∷ [])) = omega arith in
     let same_rest = ap (λ n. below n label) e in
     omega arith
 
