@@ -3,10 +3,11 @@ use Rattle.std.proofs.Common.{◌≡◌, ℕ, suc, ◌+◌, ◌<◌, ◌≤◌, 
 use Rattle.std.specs.Prelude.{nat_eq, slice_get, if◌then◌else◌}
 use Rattle.std.proofs.lemmas.Bool.{ne_eqb}
 use Rattle.std.proofs.lemmas.Option.{slice_get_within}
-use Rattle.a64_inst.specs.declared.inst.Cond.TheVariants.{Eq}
+use Rattle.a64_inst.specs.declared.inst.Cond.{Cond}
+use Rattle.a64_inst.specs.declared.inst.Cond.TheVariants.{Eq, Hi}
 use Rattle.a64_inst.specs.declared.inst.Inst.{Inst}
 use Rattle.a64_inst.specs.declared.item.Item.{Item}
-use Rattle.a64_inst.specs.declared.item.Item.TheVariants.{If, Jump, Plain}
+use Rattle.a64_inst.specs.declared.item.Item.TheVariants.{If, Jump, Label, Plain}
 use Rattle.b3_base.specs.declared.word.Width.{Width}
 use Rattle.air_ir.specs.Kinds.{target_count}
 use Rattle.air_ir.specs.declared.frame.Frame.{Frame}
@@ -18,10 +19,12 @@ use Rattle.air_ir.specs.declared.operand.Operand.{Operand}
 use Rattle.a64_layout.specs.Branch.{size_in}
 use Rattle.a64_layout.specs.Layout.{Set, place}
 use Rattle.a64_layout.proofs.Least.{place-next, place_mono}
-use Rattle.a64_emit.specs.Code.{arg_at, branch_item, branches, compared, fetch, fetch_tested, inst_items, jump_to, source_at, width_at}
+use Rattle.a64_emit.specs.Code.{arg_at, branch_item, branches, compared, fetch, fetch_tested, inst_items, source_at, width_at}
 use Rattle.a64_emit.specs.Computing.{reg_of}
 use Rattle.a64_emit.specs.Places.{epilogue, leave, plains, restores}
-use Rattle.a64_emit.specs.Switched.{compare_case, switch_items}
+use Rattle.a64_emit.specs.Switched.{case_items, cases_in_order, compare_word, jump_to, search_items, switch_items}
+use Rattle.a64_emit.specs.Trees.{Leaf, Node, Tree, node_count, tree}
+use Rattle.a64_emit.specs.declared.case.Case.{Case}
 use Rattle.a64_emit.proofs.Positions.{Among, among_first, among_rest}
 
 pub some_same : (a b : ℕ) → Some a ≡ Some b → a ≡ b
@@ -94,16 +97,24 @@ jump_words next label lt =
     let no : nat_eq label next ≡ false = ne_eqb label next (λ e. omega arith) in
     subst (λ b. HasWords (if b then [] else Jump label ∷ [])) (sym no) (words_first (Jump label) [] (λ long. omega arith))
 
+pub if_size : (cond : Cond) (label : ℕ) (long : Bool) → 1 ≤ size_in long (Some (If cond label))
+if_size cond label true = omega arith
+if_size cond label false = omega arith
+
+pub search_words : (width : Width) (reg other next label : ℕ) (t : Tree Case) → other < next → HasWords (search_items width reg other next label t)
+unfolding search_items
+search_words width reg other next label (Leaf cases) lt = words_right (case_items width reg cases) (jump_to next other) (jump_words next other lt)
+search_words width reg other next label (Node before case behind) lt =
+    let first : List Item = search_items width reg other label (label + 1) before in
+    let rest : List Item = search_items width reg other next (label + 1 + node_count before) behind in
+    words_left (plains (compare_word width reg case.word) ++ If Eq case.target ∷ If Hi label ∷ first) (Label label ∷ rest)
+    (words_right (plains (compare_word width reg case.word)) (If Eq case.target ∷ If Hi label ∷ first)
+    (words_first (If Eq case.target) (If Hi label ∷ first) (if_size Eq case.target)))
+
 pub switch_words : (width : Width) (reg next label : ℕ) (cases targets : List ℕ) → length targets ≡ suc (length cases)
     → ((j : ℕ) → j < length targets → get_or targets j 0 < next) → HasWords (switch_items width reg next label cases targets)
-unfolding switch_items
-switch_words width reg next label [] [] count below = absurd (omega arith)
-switch_words width reg next label [] (target ∷ targets) count below = jump_words next target (below 0 (omega arith))
-switch_words width reg next label (case ∷ cases) [] count below = absurd (omega arith)
-switch_words width reg next label (case ∷ cases) (target ∷ targets) count below =
-    words_right (plains (compare_case width reg case)) (If Eq target ∷ switch_items width reg next label cases targets)
-    (words_first (If Eq target) (switch_items width reg next label cases targets)
-    (λ long. elim long as (λ b. 1 ≤ size_in b (Some (If Eq target))) [ true ↦ omega arith | false ↦ omega arith ]))
+switch_words width reg next label cases targets count below =
+    search_words width reg (get_or targets (length cases) 0) next label (tree (cases_in_order width cases targets)) (below (length cases) (omega arith))
 
 plain_words : (insts : List Inst) → 0 < length insts → HasWords (plains insts)
 plain_words [] some = absurd (omega arith)

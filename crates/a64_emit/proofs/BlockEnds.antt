@@ -1,7 +1,9 @@
 -- Whatever ends a block, its items lead where it does; and words stand behind each label of a block.
-use Rattle.std.proofs.Common.{◌≡◌, ℕ, suc, ◌+◌, ◌-◌, ◌<◌, ⊎_elim, List, [], ◌∷◌, ◌++◌, Some, None, length, get_or, refl, sym, ap, subst, arith}
+use Rattle.std.proofs.Common.{◌≡◌, ℕ, suc, ◌+◌, ◌-◌, ◌<◌, ◌≤◌, ⊎_elim, List, [], ◌∷◌, ◌++◌, Some, None, length, get_or, refl, sym, ap, subst, arith}
+use Rattle.std.specs.Prelude.{slice_get}
 use Rattle.std.proofs.lemmas.Bool.{cases_lt}
 use Rattle.std.proofs.lemmas.Option.{slice_get-get_or}
+use Rattle.a64_inst.specs.declared.item.Item.TheVariants.{Label}
 use Rattle.air_ir.specs.Forms.{AllFit, HasOperands}
 use Rattle.air_ir.specs.Kinds.{target_count}
 use Rattle.air_ir.specs.Steps.{State}
@@ -40,11 +42,13 @@ pub record AtEnd (z : Setting) (targets_of : List ℕ) (next label k : ℕ) (o :
   pub usable : AllUsable z os
   pub within : AllWithin z targets_of
   pub items : Among z.code k (inst_items z.frame next label targets_of o os)
+  pub above : length z.procedure.blocks ≤ label
   pub at : NextAt z next (k + length (inst_items z.frame next label targets_of o os))
   pub ahead : next < length z.procedure.blocks
       → place z.code z.long (k + length (inst_items z.frame next label targets_of o os)) < place z.code z.long (length z.code)
 
-module _ (z : Setting) (set : IsSet z) (serves : IsFrameOf z.procedure z.frame) (unmarked : (k : ℕ) → run.mark_before z.code k ≡ None) where
+module _ (z : Setting) (set : IsSet z) (serves : IsFrameOf z.procedure z.frame) (unmarked : (k : ℕ) → run.mark_before z.code k ≡ None)
+    (placed : (k label : ℕ) → slice_get z.code k ≡ Some (Label label) → position_of z.code label ≡ k) where
   ends_by : (o : AirOp) (i : AirInst) (s : State) (targets_of : List ℕ) (next label k : ℕ) (c : Machine) → i.op ≡ o
       → AtEnd z targets_of next label k o i.operands
       → IsRelated z s c → Ends z targets_of i s k c
@@ -58,7 +62,8 @@ module _ (z : Setting) (set : IsSet z) (serves : IsFrameOf z.procedure z.frame) 
       jump_ends z set serves unmarked i s targets_of next k c is (no_operands i.operands e.operands.2) (omega arith) (e.within 0 (omega arith)) e.items e.at rel
   ends_by (op.Switch cases) i s targets_of next label k c is e rel =
       let count : suc (length cases) ≡ length targets_of = some_same (suc (length cases)) (length targets_of) e.ends in
-      switch_ends z set serves unmarked i s cases targets_of next label k c e.operands.0 is e.operands.1 e.usable (sym count) e.within e.items e.at e.ahead rel
+      switch_ends z set serves unmarked placed i s cases targets_of next label k c e.operands.0 is e.operands.1 e.usable (sym count) e.within e.items e.at
+      e.ahead e.above rel
   ends_by op.Return i s targets_of next label k c is e rel = return_ends z set serves unmarked i s targets_of k c is e.operands e.items rel
   ends_by op.Oops i s targets_of next label k c is e rel = oops_ends z set serves unmarked i s targets_of k c is (no_operands i.operands e.operands.2)
   ends_by o i s targets_of next label k c is e rel = absurd (none_some (length targets_of) e.ends)

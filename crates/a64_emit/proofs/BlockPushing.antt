@@ -7,7 +7,7 @@ use Rattle.a64_inst.specs.declared.item.Item.TheVariants.{Label}
 use Rattle.air_ir.specs.declared.frame.Frame.{Frame}
 use Rattle.air_ir.specs.declared.procedure.AirBlock.{AirBlock}
 use Rattle.air_ir.specs.declared.procedure.AirInst.{AirInst}
-use Rattle.a64_emit.specs.Code.{block_labels, blocks_items, inst_items, insts_items}
+use Rattle.a64_emit.specs.Code.{block_labels, blocks_items, inst_items, insts_items, own_labels}
 
 dropped : {X : Type 0} (xs : List X) (k : ℕ) (x : X) → slice_get xs k ≡ Some x → drop k xs ≡ x ∷ drop (suc k) xs
 dropped [] k x there = absurd cc
@@ -65,3 +65,17 @@ pub labels_left : (blocks : List AirBlock) (b : ℕ) (block : AirBlock) → slic
 labels_left blocks b block there =
     ap (sum_by block_labels) (dropped blocks b block there) ∙ sum_by-cons block_labels block (drop (suc b) blocks)
     ∙ ap (λ n. block_labels block + sum_by block_labels (drop n blocks)) (one_more b)
+
+-- the labels of an instruction of a block
+pub labels_within : (insts : List AirInst) (k : ℕ) (i : AirInst) → slice_get insts k ≡ Some i
+    → own_labels i.op ≤ sum_by (λ (i : AirInst). own_labels i.op) insts
+labels_within [] k i there = absurd cc
+labels_within (a ∷ insts) zero i there =
+    let same : a ≡ i = cc in
+    let here : own_labels a.op ≡ own_labels i.op = ap (λ (j : AirInst). own_labels j.op) same in
+    let sum = sum_by-cons (λ (i : AirInst). own_labels i.op) a insts in
+    omega arith
+labels_within (a ∷ insts) (suc k) i there =
+    let sum = sum_by-cons (λ (i : AirInst). own_labels i.op) a insts in
+    let more = labels_within insts k i there in
+    omega arith

@@ -26,13 +26,13 @@ use Rattle.a64_emit.specs.Code.{inst_code, inst_items, insts_items}
 use Rattle.a64_emit.specs.Emitted.{CarriesOut, Lands, LeadsUnlessLost}
 use Rattle.a64_emit.specs.Places.{plains}
 use Rattle.a64_emit.specs.Related.{IsRelated}
-use Rattle.a64_emit.specs.Setting.{IsSet, Setting, meaning_of}
-use Rattle.a64_emit.proofs.Branching.{alike_related, item_proper}
+use Rattle.a64_emit.specs.Setting.{IsSet, Setting}
+use Rattle.a64_emit.proofs.Branching.{alike_related, label_runs}
 use Rattle.a64_emit.proofs.Computes.{Carried}
 use Rattle.a64_emit.proofs.Endings.{Ends, ReachesUnlessLost, among_plains}
 use Rattle.a64_emit.proofs.Instructions.{AreOpen, inst_runs}
 use Rattle.a64_emit.proofs.Positions.{Among, among_first, among_rest, length_plains}
-use Rattle.a64_emit.proofs.Straight.{Reaches, Runs, leads_by, leads_on, runs_more, runs_none, straight_runs}
+use Rattle.a64_emit.proofs.Straight.{Reaches, Runs, leads_by, leads_on, straight_runs}
 
 -- the items of an instruction that doesn't end its block
 inner_items : (f : Frame) (next label : ℕ) (targets : List ℕ) (o : AirOp) (os : List Operand) → target_count o ≡ None
@@ -162,15 +162,6 @@ module _ (z : Setting) (set : IsSet z) (serves : IsFrameOf z.procedure z.frame) 
       (inst_runs z set serves i s c z.procedure.returns mine.built mine.inner mine.operands mine.opened rel)
 
 module _ (z : Setting) (set : IsSet z) (serves : IsFrameOf z.procedure z.frame) where
-  label_step : (k b : ℕ) (c : Machine) → slice_get z.code k ≡ Some (Label b) → run.item_step (meaning_of z) z.code (run.At k c) ≡ run.At (k + 1) c
-  unfolding run.item_step
-  label_step k b c there = rw there refl
-
-  -- a label is passed
-  pub label_runs : (s : State) (k b : ℕ) (c : Machine) → slice_get z.code k ≡ Some (Label b) → IsRelated z s c → Runs z k c 1 c
-  label_runs s k b c there rel =
-      runs_more z k c c 0 c (label_step k b c there) (item_proper z set serves s k c (Label b) there tt rel) rel.frame.words.pc (runs_none z (k + 1) c c refl)
-
   -- the prologue has instructions, and so has each run with its label
   entry_leads : (next : air.Config) (from : World) (n : ℕ) (c d : Machine) → 1 ≤ n → (enters : Runs z 0 c n d)
       → ReachesUnlessLost z from next n enters.last → LeadsUnlessLost z from next 0 c
@@ -190,7 +181,7 @@ module _ (z : Setting) (set : IsSet z) (serves : IsFrameOf z.procedure z.frame) 
       → slice_get z.code k ≡ Some (Label b)
       → IsRelated z s c → ((d : Machine) → IsRelated z s d → BlockEnds z block.targets block.insts s (k + 1) d) → CarriesOut z b s k c
   block_carries b block s k c there label rel ends =
-      let runs = label_runs s k b c label rel in
+      let runs = label_runs z set serves s k b c label rel in
       let e = ends runs.last (alike_related z s c runs.last runs.alike (runs.small rel.frame.words.pc) rel) in
       record {
         junk = [];
@@ -206,7 +197,7 @@ module _ (z : Setting) (set : IsSet z) (serves : IsFrameOf z.procedure z.frame) 
   entry_carries block s n c d there label some small enters rel ends =
       let here : 0 + n ≡ n = omega arith in
       let rel_last = alike_related z s d enters.last enters.alike (enters.small small) rel in
-      let runs = label_runs s n 0 enters.last label rel_last in
+      let runs = label_runs z set serves s n 0 enters.last label rel_last in
       let e = ends runs.last (alike_related z s enters.last runs.last runs.alike (runs.small rel_last.frame.words.pc) rel_last) in
       let at_label : ReachesUnlessLost z s.world e.next n enters.last = reaches_after z s.world e.next n 1 enters.last enters.last runs e.reaches in
       record {

@@ -37,7 +37,8 @@ use Rattle.a64_layout.specs.Branch.{opposite_cond, size_in}
 use Rattle.a64_layout.specs.Layout.{place}
 use Rattle.a64_layout.specs.Machine.{Machine, moved_to}
 use Rattle.a64_layout.specs.Run as run
-use Rattle.a64_emit.specs.Code.{branch_code, branch_item, branches, compared, fetch, fetch_tested, jump_to, source_at, source_of, width_at}
+use Rattle.a64_emit.specs.Switched.{jump_to}
+use Rattle.a64_emit.specs.Code.{branch_code, branch_item, branches, compared, fetch, fetch_tested, source_at, source_of, width_at}
 use Rattle.a64_emit.specs.Computing.{reg_of, testing}
 use Rattle.a64_emit.specs.Fitting.{IsSummed}
 use Rattle.a64_emit.specs.Places.{plains}

@@ -20,7 +20,8 @@ use Rattle.a64_layout.specs.Run.{At, item_step}
 use Rattle.a64_layout.specs.declared.branch.Test.{Test as Branched}
 use Rattle.a64_layout.specs.declared.branch.Test.TheVariants as on
 use Rattle.a64_layout.proofs.Least.{place-next, place_mono}
-use Rattle.a64_emit.specs.Code.{branch_item, branches, jump_to}
+use Rattle.a64_emit.specs.Code.{branch_item, branches}
+use Rattle.a64_emit.specs.Switched.{jump_to}
 use Rattle.a64_emit.specs.Emitted.{IsProperAt, IsSafeItem}
 use Rattle.a64_emit.specs.Related.{IsRelated}
 use Rattle.a64_emit.specs.Setting.{IsSet, Setting, address_of, meaning_of}
@@ -152,6 +153,14 @@ module _ (z : Setting) (set : IsSet z) (serves : IsFrameOf z.procedure z.frame) 
       → item_step (meaning_of z) z.code (At k c) ≡ At (k + 1) c → IsRelated z s c → Runs z k c 1 c
   one_runs s k c item there safe step rel =
       runs_more z k c c 0 c step (item_proper s k c item there safe rel) rel.frame.words.pc (runs_none z (k + 1) c c refl)
+
+  label_step : (k b : ℕ) (c : Machine) → slice_get z.code k ≡ Some (Label b) → item_step (meaning_of z) z.code (At k c) ≡ At (k + 1) c
+  unfolding item_step
+  label_step k b c there = rw there refl
+
+  -- a label is passed
+  pub label_runs : (s : State) (k b : ℕ) (c : Machine) → slice_get z.code k ≡ Some (Label b) → IsRelated z s c → Runs z k c 1 c
+  label_runs s k b c there rel = one_runs s k c (Label b) there tt (label_step k b c there) rel
 
   -- the branches of a test lead to the one target or to the other
   pub branches_reach : (from : World) (s : State) (test : Test) (width : Width) (reg k next then_label else_label : ℕ) (c : Machine) (passes : Bool)

@@ -75,6 +75,7 @@ prologue_some f = omega arith
 module _ (z : Setting) (set : IsSet z) (serves : IsFrameOf z.procedure z.frame) (well : IsWellFormed z.procedure) (no_tmps : z.procedure.tmps ≡ 0)
     (built : IsBuilt z.procedure)
     (is_code : z.code ≡ emitted z.procedure z.frame) (unmarked : (k : ℕ) → run.mark_before z.code k ≡ None)
+    (placed : (k label : ℕ) → slice_get z.code k ≡ Some (Label label) → position_of z.code label ≡ k)
     (b : ℕ) (block : AirBlock) (there : slice_get z.procedure.blocks b ≡ Some block) where
   good : IsGoodBlock z.procedure block
   good = all_at (IsGoodBlock z.procedure) z.procedure.blocks b block there well.blocks
@@ -172,6 +173,7 @@ module _ (z : Setting) (set : IsSet z) (serves : IsFrameOf z.procedure z.frame) 
         (inst_open (length good.body) good.last last_there);
     within = λ j lt. (good.targets j 0 lt).1;
     items = among_last;
+    above = stands.above;
     at = λ lt. next_at lt;
     ahead = λ lt. subst (λ k. place z.code z.long k < place z.code z.long (length z.code)) (next_at lt).0 (behind (b + 1) lt);
   }
@@ -196,7 +198,7 @@ module _ (z : Setting) (set : IsSet z) (serves : IsFrameOf z.procedure z.frame) 
   block_ends s d rel =
       subst (λ insts. BlockEnds z block.targets insts s start d) (sym good.parts)
       (body_ends z set serves unmarked block.targets (b + 1) stands.own good.last end words_end
-      (λ s c rel. terminal_ends z set serves unmarked good.last s block.targets (b + 1) stands.own end c at_end rel)
+      (λ s c rel. terminal_ends z set serves unmarked placed good.last s block.targets (b + 1) stands.own end c at_end rel)
       good.body s start d inner (subst (λ insts. Among z.code start (items_of insts)) good.parts among_all) refl rel)
 
   label_there : slice_get z.code (position_of z.code b) ≡ Some (Label b)

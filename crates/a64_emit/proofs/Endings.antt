@@ -33,7 +33,7 @@ use Rattle.a64_layout.specs.Machine.{Machine, moved_to}
 use Rattle.a64_layout.specs.Run as run
 use Rattle.a64_run.specs.Machine.{returned_word}
 use Rattle.a64_run.specs.Placement.{visible}
-use Rattle.a64_emit.specs.Code.{jump_to}
+use Rattle.a64_emit.specs.Switched.{jump_to}
 use Rattle.a64_emit.specs.Emitted.{IsProperAt, IsSafeItem, Returns as HasReturned}
 use Rattle.a64_emit.specs.Places.{epilogue, plains, restores}
 use Rattle.a64_emit.specs.Related.{Carries, IsRelated}

@@ -22,6 +22,7 @@ use Rattle.air_ir.specs.declared.procedure.AirProc.{AirProc}
 use Rattle.air_ir.specs.WellFormed.{IsGoodInst, IsWellFormed}
 use Rattle.a64_emit.specs.Accesses.{access_kind}
 use Rattle.a64_emit.specs.Code.{source_at, source_of, width_at}
+use Rattle.a64_emit.specs.Switched.{AreDifferent}
 use Rattle.a64_emit.specs.Fitting.{FitsSource, IsFitting, IsFittingBlock, IsLoaded, IsReached, IsStored, IsTested}
 
 word_fits : (immediates : Immediates) (width : Width) (arg : Arg) (scratch : ℕ) → IsWord immediates width arg
@@ -88,6 +89,11 @@ word_store_fits : (width other : Width) (os : List Operand) → AreThese (takes 
 word_store_fits W32 other os fits = store_fits op.Store W32 StrW os refl fits
 word_store_fits W64 other os fits = store_fits op.Store W64 StrX os refl fits
 
+switch_fits : (width : Width) (cases : List ℕ) (os : List Operand) → AllFit (home width ∷ []) os → AreDifferent width cases → AreDifferent (width_at os 0) cases
+unfolding AllFit
+switch_fits width cases [] fits differ = absurd fits
+switch_fits width cases (a ∷ os) fits differ = subst (λ w. AreDifferent w cases) (sym fits.0.1) differ
+
 pub fitting : (r : Returns) (o : AirOp) (os : List Operand) → HasOperands r o os → IsFitting o os
 fitting r (op.SetIf t) os has = test_fits t has.0 _ os has.2
 fitting r (op.SelectIf t) os has = test_fits t has.0 _ os has.2
@@ -104,6 +110,7 @@ fitting r op.Load os has = word_load_fits has.0 has.1 os has.2
 fitting r op.Store8 os has = store_fits op.Store8 W32 Strb os refl has.2
 fitting r op.Store16 os has = store_fits op.Store16 W32 Strh os refl has.2
 fitting r op.Store os has = word_store_fits has.0 has.1 os has.2
+fitting r (op.Switch cases) os has = switch_fits has.0 cases os has.1 has.2
 fitting r o os has = tt
 
 fit_at : (p : AirProc) (i : AirInst) → IsGoodInst p i → IsFitting i.op i.operands

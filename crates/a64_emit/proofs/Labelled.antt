@@ -1,12 +1,13 @@
 -- Emitted code is well labelled.
 use Rattle.std.proofs.Common.{◌≡◌, ℕ, zero, suc, ◌+◌, ◌-◌, ◌/◌, ◌%◌, ◌^◌, ◌<◌, ◌≤◌, ◌⊎◌, Bool, true, false, ⊎_elim, List, [], ◌∷◌, ◌++◌, length, get_or, refl, sym, subst, arith}
-use Rattle.std.specs.Prelude.{All, nat_eq, nat_le, nat_lt, if◌then◌else◌}
+use Rattle.std.specs.Prelude.{All, nat_eq, nat_le, nat_lt, if◌then◌else◌, sum_by}
 use Rattle.std.proofs.lemmas.Bool.{cases_lt}
 use Rattle.std.proofs.lemmas.Bool.Decides.{nat_tests}
 use Rattle.std.proofs.lemmas.Int.{ints}
 use Rattle.std.proofs.lemmas.List.Elements.{All-head, All-tail}
-use Rattle.b3_base.specs.Arithmetic.{low}
-use Rattle.a64_inst.specs.declared.inst.Cond.TheVariants.{Eq}
+use Rattle.std.proofs.lemmas.List.Sums.{sum_by-cons}
+use Rattle.air_ir.specs.Meaning.{case_number}
+use Rattle.a64_inst.specs.declared.inst.Cond.TheVariants.{Eq, Hi}
 use Rattle.b3_base.specs.Word.{bits}
 use Rattle.b3_base.specs.declared.word.Width.{Width}
 use Rattle.b3_base.specs.declared.word.Width.TheVariants.{W32, W64}
@@ -36,17 +37,20 @@ use Rattle.air_ir.specs.declared.procedure.AirBlock.{AirBlock}
 use Rattle.air_ir.specs.declared.procedure.AirInst.{AirInst}
 use Rattle.air_ir.specs.declared.procedure.AirProc.{AirProc}
 use Rattle.a64_emit.specs.Accesses.{access_kind, below_x29, upper}
-use Rattle.a64_emit.specs.Code.{arg_at, block_labels, blocks_items, branch_item, branches, compared, compute_code, copy_reg, bring, emitted, fetch, fetch_address, fetch_below, fetch_tested, frame_address, inst_code, inst_items, insts_items, jump_to, load_code, put_result, result_at, result_reg, slot_offset, source_at, source_of, store_code, test_at, test_count, width_at}
+use Rattle.a64_emit.specs.Code.{arg_at, block_labels, blocks_items, branch_item, branches, compared, compute_code, copy_reg, bring, emitted, fetch, fetch_address, fetch_below, fetch_tested, frame_address, inst_code, inst_items, insts_items, load_code, own_labels, put_result, result_at, result_reg, slot_offset, source_at, source_of, store_code, test_at, test_count, width_at}
 use Rattle.a64_emit.specs.Computing.{computing, move_reg, reg_of, sum_with}
 use Rattle.a64_emit.specs.Constants.{constant, filling, half_count, half_move, half_moves, half_word, is_inverted}
 use Rattle.a64_emit.specs.Fitting.{IsComputed, IsFitting, IsLoaded, IsStored, IsTested}
 use Rattle.a64_emit.specs.Places.{above_sp, epilogue, leave, load_at, lower_sp, plains, prologue, restores, saves, spill_offset, store_at, unless_zero}
-use Rattle.a64_emit.specs.Switched.{compare_case, is_sum_word, switch_items}
-use Rattle.a64_inst.proofs.RangedValues.{in_width-lt}
+use Rattle.a64_emit.specs.Switched.{case_items, case_of, cases_in_order, compare_word, is_sum_word, jump_to, search_items, sorted_words, switch_items}
+use Rattle.a64_emit.specs.Trees.{Leaf, Node, Tree, node_count, tree}
+use Rattle.a64_emit.specs.declared.case.Case.{Case}
 use Rattle.a64_emit.specs.declared.source.Source.{Source}
 use Rattle.a64_emit.specs.declared.source.Source.TheVariants.{Constant}
 use Rattle.a64_emit.proofs.AccessesWell.{HasSmallHomes, IsSmallHome, access_well}
-use Rattle.a64_emit.proofs.Positions.{Each, each_append}
+use Rattle.a64_emit.proofs.LabelCounts.{all_labels}
+use Rattle.a64_emit.proofs.Sorting.{each_map, search_labels, sorted_small}
+use Rattle.a64_emit.proofs.Trees.{Each, each_append, each_left, each_right, each_weaker, in_order, tree_order}
 use Rattle.a64_emit.proofs.Shapes.{computing_plain, move_plain, sum_plain, testing_plain}
 
 -- ---- instructions
@@ -311,6 +315,7 @@ module _ (f : Frame) (limit : f.bytes < 2 ^ 21) where
   code_well op.SlotAddress os small fits = frame_address_well (slot_offset f (arg_at os 0)) (arg_at os 1) (small 1)
   code_well op.FramePointer os small fits = frame_address_well 0 (arg_at os 0) (small 0)
   code_well (op.BranchIf t) os small fits = compute_well (op.BranchIf t) os small tt
+  code_well (op.Switch cases) os small fits = compute_well (op.Switch cases) os small tt
   code_well o os small fits = compute_well o os small fits
 
   -- ---- the frame
@@ -394,24 +399,40 @@ word_well : (width : Width) (reg word : ℕ) → reg ≤ 31 → AllWell (constan
 word_well W32 reg word le = well_append (constant W32 16 word) _ (constant_well W32 16 word (omega arith)) ((omega arith, le, omega arith, omega arith, omega arith), tt)
 word_well W64 reg word le = well_append (constant W64 16 word) _ (constant_well W64 16 word (omega arith)) ((omega arith, le, omega arith, omega arith, omega arith), tt)
 
-case_well : (width : Width) (reg case : ℕ) → reg ≤ 31 → AllWell (compare_case width reg case)
-case_well width reg case le =
-    elim (is_sum_word width (low width case)) as (λ b. is_sum_word width (low width case) ≡ b → AllWell (if b then sum_with width true true 31 reg (low width case) ∷ [] else
-    constant width 16 (low width case) ++ AddSubReg width true true 31 reg 16 0 0 ∷ [])) [
-      | true ↦ λ e. ((sum_plain width true true 31 reg (Constant (low width case)) (omega arith) le (omega arith) (in_width-lt width case, e)).fields, tt)
-      | false ↦ λ e. word_well width reg (low width case) le
+compare_well : (width : Width) (reg word : ℕ) → reg ≤ 31 → word < 2 ^ bits width → AllWell (compare_word width reg word)
+compare_well width reg word le small =
+    elim (is_sum_word width word) as (λ b. is_sum_word width word ≡ b → AllWell (if b then sum_with width true true 31 reg word ∷ [] else
+    constant width 16 word ++ AddSubReg width true true 31 reg 16 0 0 ∷ [])) [
+      | true ↦ λ e. ((sum_plain width true true 31 reg (Constant word) (omega arith) le (omega arith) (small, e)).fields, tt)
+      | false ↦ λ e. word_well width reg word le
     ] refl
 
-switch_fair : (n : ℕ) (width : Width) (reg next label : ℕ) (cases targets : List ℕ) → reg ≤ 31 → ((j : ℕ) → j < length targets → get_or targets j 0 < n)
-    → Each (IsFair n) (switch_items width reg next label cases targets)
-unfolding switch_items
-switch_fair n width reg next label [] [] le below = tt
-switch_fair n width reg next label [] (target ∷ targets) le below = jump_fair n next target (below 0 (omega arith))
-switch_fair n width reg next label (case ∷ cases) [] le below = tt
-switch_fair n width reg next label (case ∷ cases) (target ∷ targets) le below =
-    each_append (IsFair n) (plains (compare_case width reg case)) (If Eq target ∷ switch_items width reg next label cases targets)
-    (plains_fair n (compare_case width reg case) (case_well width reg case le))
-    (below 0 (omega arith), switch_fair n width reg next label cases targets le (λ j lt. below (suc j) (omega arith)))
+-- a case of a width, which leads to a label below a number
+abbrev pub IsCaseOf : ℕ → Width → Case → Type 0
+IsCaseOf n width case = (case.word < 2 ^ bits width) × (case.target < n)
+
+cases_fair : (n : ℕ) (width : Width) (reg : ℕ) (cases : List Case) → reg ≤ 31 → Each (IsCaseOf n width) cases → Each (IsFair n) (case_items width reg cases)
+unfolding case_items
+cases_fair n width reg [] le are = tt
+cases_fair n width reg (case ∷ cases) le are =
+    each_append (IsFair n) (plains (compare_word width reg case.word)) (If Eq case.target ∷ case_items width reg cases)
+    (plains_fair n (compare_word width reg case.word) (compare_well width reg case.word le are.0.0)) (are.0.1, cases_fair n width reg cases le are.1)
+
+search_fair : (n : ℕ) (width : Width) (reg other next label : ℕ) (t : Tree Case) → reg ≤ 31 → Each (IsCaseOf n width) (in_order t) → other < n
+    → label + node_count t ≤ n → Each (IsFair n) (search_items width reg other next label t)
+unfolding search_items node_count in_order
+search_fair n width reg other next label (Leaf cases) le are lt most =
+    each_append (IsFair n) (case_items width reg cases) (jump_to next other) (cases_fair n width reg cases le are) (jump_fair n next other lt)
+search_fair n width reg other next label (Node before case behind) le are lt most =
+    let first : List Item = search_items width reg other label (label + 1) before in
+    let rest : List Item = search_items width reg other next (label + 1 + node_count before) behind in
+    let are_first = each_left (IsCaseOf n width) (in_order before) (case ∷ in_order behind) are in
+    let are_rest = each_right (IsCaseOf n width) (in_order before) (case ∷ in_order behind) are in
+    each_append (IsFair n) (plains (compare_word width reg case.word) ++ If Eq case.target ∷ If Hi label ∷ first) (Label label ∷ rest)
+    (each_append (IsFair n) (plains (compare_word width reg case.word)) (If Eq case.target ∷ If Hi label ∷ first)
+    (plains_fair n (compare_word width reg case.word) (compare_well width reg case.word le are_rest.0.0))
+    (are_rest.0.1, (omega arith, search_fair n width reg other label (label + 1) before le are_first lt (omega arith))))
+    (omega arith, search_fair n width reg other next (label + 1 + node_count before) behind le are_rest.1 lt (omega arith))
 
 pub get_or_none : {X : Type 0} (xs : List X) (j : ℕ) (d : X) → length xs ≤ j → get_or xs j d ≡ d
 get_or_none [] j d le = refl
@@ -423,14 +444,23 @@ target_below : (n : ℕ) (targets : List ℕ) (j : ℕ) → 0 < n → ((j : ℕ)
 target_below n targets j some below =
     ⊎_elim (λ lt. below j lt) (λ ge. let none : get_or targets j 0 ≡ 0 = get_or_none targets j 0 ge in omega arith) (cases_lt j (length targets))
 
--- an instruction whose code is fair in a procedure of so many blocks
-pub record IsFairInst (n : ℕ) (targets : List ℕ) (o : AirOp) (os : List Operand) : Type 0 where
+-- the cases of a Switch are of its width, and lead to its targets
+pub cases_lead : (n : ℕ) (width : Width) (cases targets : List ℕ) → 0 < n → ((j : ℕ) → j < length targets → get_or targets j 0 < n)
+    → Each (IsCaseOf n width) (cases_in_order width cases targets)
+cases_lead n width cases targets some below =
+    each_map (IsCaseOf n width) (case_of width cases targets) (sorted_words width cases)
+    (each_weaker (λ word. word < 2 ^ bits width) (λ word. IsCaseOf n width (case_of width cases targets word))
+    (λ word small. (small, target_below n targets (case_number width word cases) some below)) (sorted_words width cases) (sorted_small width cases))
+
+-- an instruction whose code is fair in a procedure of so many labels, of which its own are those from one on
+pub record IsFairInst (n label : ℕ) (targets : List ℕ) (o : AirOp) (os : List Operand) : Type 0 where
   pub small : AreSmall os
   pub fits : IsFitting o os
   pub below : (j : ℕ) → j < length targets → get_or targets j 0 < n
+  pub most : label + own_labels o ≤ n
 
 module _ (f : Frame) (limit : f.bytes < 2 ^ 21) (goods : All (IsGoodSaved f.bytes) f.saved) (n : ℕ) (some : 0 < n) where
-  pub inst_fair : (next label : ℕ) (targets : List ℕ) (o : AirOp) (os : List Operand) → IsFairInst n targets o os → Each (IsFair n) (inst_items f next label targets o os)
+  pub inst_fair : (next label : ℕ) (targets : List ℕ) (o : AirOp) (os : List Operand) → IsFairInst n label targets o os → Each (IsFair n) (inst_items f next label targets o os)
   unfolding inst_items
   inst_fair next label targets (op.BranchIf t) os h =
       let reg : ℕ = reg_of (source_at os 0 15) in
@@ -443,7 +473,14 @@ module _ (f : Frame) (limit : f.bytes < 2 ^ 21) (goods : All (IsGoodSaved f.byte
       let reg : ℕ = reg_of (source_at os 0 15) in
       let le = source_small 15 (arg_at os 0) (omega arith) (h.small 0) in
       each_append (IsFair n) (plains (fetch f 15 (arg_at os 0))) (switch_items (width_at os 0) reg next label cases targets)
-      (plains_fair n (fetch f 15 (arg_at os 0)) (fetch_well f limit 15 (arg_at os 0) (omega arith))) (switch_fair n (width_at os 0) reg next label cases targets le h.below)
+      (plains_fair n (fetch f 15 (arg_at os 0)) (fetch_well f limit 15 (arg_at os 0) (omega arith)))
+      (let t : Tree Case = tree (cases_in_order (width_at os 0) cases targets) in
+      let are : Each (IsCaseOf n (width_at os 0)) (in_order t) =
+      subst (Each (IsCaseOf n (width_at os 0))) (sym (tree_order (cases_in_order (width_at os 0) cases targets)))
+      (cases_lead n (width_at os 0) cases targets some h.below) in
+      let count = search_labels (width_at os 0) cases targets in
+      search_fair n (width_at os 0) reg (get_or targets (length cases) 0) next label t le are (target_below n targets (length cases) some h.below)
+      (omega (arith, h.most)))
   inst_fair next label targets op.Return os h = plains_fair n (epilogue f) (epilogue_well f limit goods)
   inst_fair next label targets op.Oops os h = (omega arith, tt)
   inst_fair next label targets o os h = plains_fair n (inst_code f o os) (code_well f limit o os h.small h.fits)
@@ -478,31 +515,43 @@ names_small p os named k =
     (cases_lt k (length os))
 
 module _ (p : AirProc) (f : Frame) (well : IsGoodProc p) (limit : f.bytes < 2 ^ 21) (goods : All (IsGoodSaved f.bytes) f.saved) where
-  insts_fair : (next label : ℕ) (targets : List ℕ) (insts : List AirInst) → All (IsGoodInst p) insts → ((j : ℕ) → j < length targets → get_or targets j 0 < length p.blocks)
-      → Each (IsFair (length p.blocks)) (insts_items f next label targets insts)
+  abbrev IsFairHere : Item → Type 0
+  IsFairHere = IsFair (all_labels p)
+
+  insts_fair : (next label : ℕ) (targets : List ℕ) (insts : List AirInst) → All (IsGoodInst p) insts
+      → ((j : ℕ) → j < length targets → get_or targets j 0 < length p.blocks) → label + sum_by (λ (i : AirInst). own_labels i.op) insts ≤ all_labels p
+      → Each IsFairHere (insts_items f next label targets insts)
   unfolding insts_items
-  insts_fair next label targets [] good below = tt
-  insts_fair next label targets (i ∷ insts) good below =
+  insts_fair next label targets [] good below most = tt
+  insts_fair next label targets (i ∷ insts) good below most =
       let here = All-head (IsGoodInst p) i insts good in
-      each_append (IsFair (length p.blocks)) (inst_items f next label targets i.op i.operands) (insts_items f next label targets insts)
-      (inst_fair f limit goods (length p.blocks) well.entry next label targets i.op i.operands
-      (record { small = names_small p i.operands here.names; fits = fitting p.returns i.op i.operands here.operands; below = below }))
-      (insts_fair next label targets insts (All-tail (IsGoodInst p) i insts good) below)
+      let sum = sum_by-cons (λ (i : AirInst). own_labels i.op) i insts in
+      let some = well.entry in
+      each_append IsFairHere (inst_items f next label targets i.op i.operands) (insts_items f next label targets insts)
+      (inst_fair f limit goods (all_labels p) (omega arith) next label targets i.op i.operands
+      (record {
+        small = names_small p i.operands here.names;
+        fits = fitting p.returns i.op i.operands here.operands;
+        below = λ j lt. let less = below j lt in omega arith;
+        most = omega arith;
+      }))
+      (insts_fair next label targets insts (All-tail (IsGoodInst p) i insts good) below (omega arith))
 
   blocks_fair : (first label : ℕ) (blocks : List AirBlock) → All (IsGoodBlock p) blocks → first + length blocks ≤ length p.blocks
-      → Each (IsFair (length p.blocks)) (blocks_items f first label blocks)
+      → label + sum_by block_labels blocks ≤ all_labels p → Each IsFairHere (blocks_items f first label blocks)
   unfolding blocks_items
-  blocks_fair first label [] good le = tt
-  blocks_fair first label (block ∷ blocks) good le =
-      let here = All-head (IsGoodBlock p) block blocks good in (
+  blocks_fair first label [] good le most = tt
+  blocks_fair first label (block ∷ blocks) good le most =
+      let here = All-head (IsGoodBlock p) block blocks good in
+      let sum = sum_by-cons block_labels block blocks in (
         omega arith,
-        each_append (IsFair (length p.blocks)) (insts_items f (first + 1) label block.targets block.insts) (blocks_items f (first + 1) (label + block_labels block) blocks)
-            (insts_fair (first + 1) label block.targets block.insts here.insts (λ j lt. (here.targets j 0 lt).1))
-            (blocks_fair (first + 1) (label + block_labels block) blocks (All-tail (IsGoodBlock p) block blocks good) (omega arith)),
+        each_append IsFairHere (insts_items f (first + 1) label block.targets block.insts) (blocks_items f (first + 1) (label + block_labels block) blocks)
+            (insts_fair (first + 1) label block.targets block.insts here.insts (λ j lt. (here.targets j 0 lt).1) (omega arith))
+            (blocks_fair (first + 1) (label + block_labels block) blocks (All-tail (IsGoodBlock p) block blocks good) (omega arith) (omega arith)),
       )
 
-  pub code_fair : Each (IsFair (length p.blocks)) (emitted p f)
+  pub code_fair : Each (IsFair (all_labels p)) (emitted p f)
   unfolding emitted
   code_fair =
-      each_append (IsFair (length p.blocks)) (plains (prologue f)) (blocks_items f 0 (length p.blocks) p.blocks)
-      (plains_fair (length p.blocks) (prologue f) (prologue_well f limit goods)) (blocks_fair 0 (length p.blocks) p.blocks well.blocks (omega arith))
+      each_append IsFairHere (plains (prologue f)) (blocks_items f 0 (length p.blocks) p.blocks)
+      (plains_fair (all_labels p) (prologue f) (prologue_well f limit goods)) (blocks_fair 0 (length p.blocks) p.blocks well.blocks (omega arith) (omega arith))

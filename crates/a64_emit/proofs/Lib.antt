@@ -18,7 +18,11 @@ pub mod AccessesDone
 pub mod AccessesRun
 pub mod FrameAddresses
 pub mod Instructions
+pub mod Trees
+pub mod Sorting
+pub mod InOrder
 pub mod Positions
+pub mod LabelCounts
 pub mod Entering
 pub mod Leaving
 pub mod Branching

@@ -32,7 +32,10 @@ use Rattle.a64_emit.specs.Code.{arg_at, block_labels, blocks_items, compute_code
 use Rattle.a64_emit.specs.Fitting.{AreFitting}
 use Rattle.a64_emit.specs.Places.{epilogue, plains, prologue}
 use Rattle.a64_emit.proofs.AccessesLight.{load_code_most, pointer_most, slot_most, store_code_most}
+use Rattle.a64_emit.specs.Switched.{switch_labels}
+use Rattle.a64_emit.specs.Trees.{tree}
 use Rattle.a64_emit.proofs.Sizes.{compute_most, most_is, operand_words, plain_words, words_of}
+use Rattle.a64_emit.proofs.Trees.{nodes_few, tree_order}
 use Rattle.a64_emit.proofs.Weights.{branch_code_most, copy_most, epilogue_most, fit_count, jump_most, prologue_most, select_most, set_most, switch_code_most}
 
 -- ---- instructions
@@ -182,23 +185,34 @@ light p f well built serves =
 
 -- ---- labels
 
-no_labels : (o : AirOp) → own_labels o ≡ 0
-no_labels (op.Switch cases) = refl
-no_labels o = refl
+pub labels_few : (cases : List ℕ) → switch_labels cases ≤ length cases
+labels_few cases =
+    let few = nodes_few (tree cases) in
+    let same = ap (λ (xs : List ℕ). length xs) (tree_order cases) in
+    omega arith
 
-own_none : (insts : List AirInst) → sum_by (λ (i : AirInst). own_labels i.op) insts ≡ 0
-own_none [] = refl
-own_none (i ∷ insts) =
-    let here = no_labels i.op in
-    let more = own_none insts in
-    sum_by-cons (λ (i : AirInst). own_labels i.op) i insts ∙ omega arith
+few_labels : (o : AirOp) (os : List Operand) → own_labels o ≤ words_by o os
+few_labels (op.Switch cases) os = let few = labels_few cases in omega arith
+few_labels o os = omega arith
 
-blocks_own_none : (blocks : List AirBlock) → sum_by block_labels blocks ≡ 0
-blocks_own_none [] = refl
-blocks_own_none (b ∷ blocks) =
-    let here : block_labels b ≡ 0 = own_none b.insts in
-    let more = blocks_own_none blocks in
-    sum_by-cons block_labels b blocks ∙ omega arith
+own_few : (insts : List AirInst) → sum_by (λ (i : AirInst). own_labels i.op) insts ≤ sum_by inst_weight insts
+own_few [] = omega arith
+own_few (i ∷ insts) =
+    let here = few_labels i.op i.operands in
+    let least : words_by i.op i.operands ≤ inst_weight i = omega arith in
+    let more = own_few insts in
+    let own = sum_by-cons (λ (i : AirInst). own_labels i.op) i insts in
+    let sum = sum_by-cons inst_weight i insts in
+    omega arith
+
+blocks_own_few : (blocks : List AirBlock) → sum_by block_labels blocks ≤ sum_by (λ (b : AirBlock). sum_by inst_weight b.insts) blocks
+blocks_own_few [] = omega arith
+blocks_own_few (b ∷ blocks) =
+    let here : block_labels b ≤ sum_by inst_weight b.insts = own_few b.insts in
+    let more = blocks_own_few blocks in
+    let own = sum_by-cons block_labels b blocks in
+    let sum = sum_by-cons (λ (b : AirBlock). sum_by inst_weight b.insts) b blocks in
+    omega arith
 
 some_weight : (p : AirProc) (b : AirBlock) → IsGoodBlock p b → 1 ≤ sum_by inst_weight b.insts
 some_weight p b good =
@@ -220,5 +234,5 @@ blocks_few p (b ∷ blocks) good =
 pub labels_fit : (p : AirProc) → IsWellFormed p → weight p < 2 ^ 24 → AreFitting p
 labels_fit p well short =
     let few = blocks_few p p.blocks well.blocks in
-    let none = blocks_own_none p.blocks in
+    let own = blocks_own_few p.blocks in
     omega arith

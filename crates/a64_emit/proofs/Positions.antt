@@ -1,10 +1,11 @@
 -- Where the blocks stand in the code of a procedure.
-use Rattle.std.proofs.Common.{◌≡◌, ℕ, zero, suc, ◌+◌, ◌-◌, ◌<◌, ◌≤◌, Bool, true, false, not, cond, ⊎_elim, List, [], ◌∷◌, ◌++◌, Some, length, get_or, refl, sym, ap, ◌∙◌, subst, arith, append_assoc, length-append, eq-eqb}
+use Rattle.std.proofs.Common.{◌≡◌, ℕ, zero, suc, ◌+◌, ◌<◌, ◌≤◌, ◌⊎◌, inl, inr, Bool, true, false, not, cond, ⊎_elim, List, [], ◌∷◌, ◌++◌, Some, length, get_or, refl, sym, ap, ◌∙◌, subst, arith, append_assoc, length-append, eq-eqb}
 use Rattle.std.proofs.lemmas.List.{append-nil}
-use Rattle.std.proofs.lemmas.Option.{slice_get-get_or}
+use Rattle.std.proofs.lemmas.Option.{slice_get-get_or, slice_get_within}
 use Rattle.std.specs.Prelude.{nat_eq, slice_get, if◌then◌else◌}
 use Rattle.std.specs.List.{position_or_len}
 use Rattle.std.proofs.lemmas.Bool.{cases_lt, ne_eqb}
+use Rattle.a64_inst.specs.declared.inst.Cond.TheVariants.{Eq, Hi}
 use Rattle.a64_inst.specs.declared.inst.Inst.{Inst}
 use Rattle.a64_inst.specs.declared.item.Item.{Item}
 use Rattle.a64_inst.specs.declared.item.Item.TheVariants.{If, IfBit, IfZero, Jump, Label, Mark, Plain}
@@ -20,10 +21,13 @@ use Rattle.air_ir.specs.declared.procedure.AirInst.{AirInst}
 use Rattle.air_ir.specs.declared.procedure.AirProc.{AirProc}
 use Rattle.a64_layout.specs.Layout.{is_label, position_of}
 use Rattle.a64_layout.specs.Text.{is_any_label}
-use Rattle.a64_emit.specs.Code.{arg_at, block_labels, blocks_items, branch_item, branches, compared, emitted, fetch, fetch_tested, inst_code, inst_items, insts_items, jump_to, source_at, width_at}
+use Rattle.a64_emit.specs.Code.{arg_at, block_labels, blocks_items, branch_item, branches, compared, emitted, fetch, fetch_tested, inst_code, inst_items, insts_items, own_labels, source_at, width_at}
 use Rattle.a64_emit.specs.Computing.{reg_of}
 use Rattle.a64_emit.specs.Places.{epilogue, plains, prologue}
-use Rattle.a64_emit.specs.Switched.{compare_case, switch_items}
+use Rattle.a64_emit.specs.Switched.{case_items, cases_in_order, compare_word, jump_to, search_items, switch_items}
+use Rattle.a64_emit.specs.Trees.{Leaf, Node, Tree, node_count, tree}
+use Rattle.a64_emit.specs.declared.case.Case.{Case}
+use Rattle.a64_emit.proofs.Trees.{Each, each_append, each_weaker}
 
 -- ---- items one after the other
 
@@ -51,70 +55,115 @@ pub among_rest : (code : List Item) (k : ℕ) (xs ys : List Item) → Among code
 among_rest code k xs ys among j item there =
     ap (slice_get code) (omega arith) ∙ among (length xs + j) item (get_behind xs ys j ∙ there)
 
--- ---- what holds of each item
-
-abbrev pub Each : (Item → Type 0) → List Item → Type 0
-Each P [] = Unit {0}
-Each P (item ∷ items) = P item × Each P items
-
-pub each_append : (P : Item → Type 0) (xs ys : List Item) → Each P xs → Each P ys → Each P (xs ++ ys)
-each_append P [] ys first rest = rest
-each_append P (x ∷ xs) ys first rest = (first.0, each_append P xs ys first.1 rest)
+-- ---- items within a block
 
 -- an item that is no label
-abbrev pub IsInner : Item → Type 0
-IsInner item = is_any_label item ≡ false
+abbrev pub IsUnlabelled : Item → Type 0
+IsUnlabelled item = is_any_label item ≡ false
 
-pub plains_inner : (insts : List Inst) → Each IsInner (plains insts)
-plains_inner [] = tt
-plains_inner (inst ∷ insts) = (refl, plains_inner insts)
+pub plains_unlabelled : (insts : List Inst) → Each IsUnlabelled (plains insts)
+plains_unlabelled [] = tt
+plains_unlabelled (inst ∷ insts) = (refl, plains_unlabelled insts)
 
-pub jump_inner : (next label : ℕ) → Each IsInner (jump_to next label)
-jump_inner next label = elim (nat_eq label next) as (λ b. Each IsInner (if b then [] else Jump label ∷ [])) [ true ↦ tt | false ↦ (refl, tt) ]
+pub jump_unlabelled : (next label : ℕ) → Each IsUnlabelled (jump_to next label)
+jump_unlabelled next label = elim (nat_eq label next) as (λ b. Each IsUnlabelled (if b then [] else Jump label ∷ [])) [ true ↦ tt | false ↦ (refl, tt) ]
 
-branch_item_inner : (test : Test) (passes : Bool) (width : Width) (reg label : ℕ) → IsInner (branch_item test passes width reg label)
-branch_item_inner (Compare cond) passes width reg label = refl
-branch_item_inner NonZero passes width reg label = refl
-branch_item_inner (Bit bit) passes width reg label = refl
+branch_item_unlabelled : (test : Test) (passes : Bool) (width : Width) (reg label : ℕ) → IsUnlabelled (branch_item test passes width reg label)
+branch_item_unlabelled (Compare cond) passes width reg label = refl
+branch_item_unlabelled NonZero passes width reg label = refl
+branch_item_unlabelled (Bit bit) passes width reg label = refl
 
-branches_inner : (test : Test) (width : Width) (reg next then_label else_label : ℕ) → Each IsInner (branches test width reg next then_label else_label)
-branches_inner test width reg next then_label else_label =
-    elim (nat_eq then_label next) as (λ b. Each IsInner (if b then branch_item test false width reg else_label ∷ [] else
+branches_unlabelled : (test : Test) (width : Width) (reg next then_label else_label : ℕ) → Each IsUnlabelled (branches test width reg next then_label else_label)
+branches_unlabelled test width reg next then_label else_label =
+    elim (nat_eq then_label next) as (λ b. Each IsUnlabelled (if b then branch_item test false width reg else_label ∷ [] else
     branch_item test true width reg then_label ∷ jump_to next else_label)) [
-      | true ↦ (branch_item_inner test false width reg else_label, tt)
-      | false ↦ (branch_item_inner test true width reg then_label, jump_inner next else_label)
+      | true ↦ (branch_item_unlabelled test false width reg else_label, tt)
+      | false ↦ (branch_item_unlabelled test true width reg then_label, jump_unlabelled next else_label)
     ]
 
-pub switch_inner : (width : Width) (reg next label : ℕ) (cases targets : List ℕ) → Each IsInner (switch_items width reg next label cases targets)
-unfolding switch_items
-switch_inner width reg next label [] [] = tt
-switch_inner width reg next label [] (target ∷ targets) = jump_inner next target
-switch_inner width reg next label (case ∷ cases) [] = tt
-switch_inner width reg next label (case ∷ cases) (target ∷ targets) =
-    each_append IsInner (plains (compare_case width reg case)) (_ ∷ switch_items width reg next label cases targets) (plains_inner (compare_case width reg case))
-    (refl, switch_inner width reg next label cases targets)
+cases_unlabelled : (width : Width) (reg : ℕ) (cases : List Case) → Each IsUnlabelled (case_items width reg cases)
+unfolding case_items
+cases_unlabelled width reg [] = tt
+cases_unlabelled width reg (case ∷ cases) =
+    each_append IsUnlabelled (plains (compare_word width reg case.word)) (If Eq case.target ∷ case_items width reg cases)
+    (plains_unlabelled (compare_word width reg case.word)) (refl, cases_unlabelled width reg cases)
 
-pub inst_inner : (f : Frame) (next label : ℕ) (targets : List ℕ) (o : AirOp) (os : List Operand) → Each IsInner (inst_items f next label targets o os)
+-- what stands in a leaf
+pub leaf_unlabelled : (width : Width) (reg other next : ℕ) (cases : List Case) → Each IsUnlabelled (case_items width reg cases ++ jump_to next other)
+leaf_unlabelled width reg other next cases =
+    each_append IsUnlabelled (case_items width reg cases) (jump_to next other) (cases_unlabelled width reg cases) (jump_unlabelled next other)
+
+-- an instruction other than a Switch has no label
+pub inst_shape : (f : Frame) (next label : ℕ) (targets : List ℕ) (o : AirOp) (os : List Operand)
+    → (Each IsUnlabelled (inst_items f next label targets o os) × (own_labels o ≡ 0)) ⊎ ((cases : List ℕ) × (o ≡ op.Switch cases))
 unfolding inst_items
-inst_inner f next label targets (op.BranchIf test) os =
-    each_append IsInner (plains (fetch_tested f test os ++ compared test os))
-    (branches test (width_at os 0) (reg_of (source_at os 0 15)) next (get_or targets 0 0) (get_or targets 1 0))
-    (plains_inner (fetch_tested f test os ++ compared test os))
-    (branches_inner test (width_at os 0) (reg_of (source_at os 0 15)) next (get_or targets 0 0) (get_or targets 1 0))
-inst_inner f next label targets op.Jump os = jump_inner next (get_or targets 0 0)
-inst_inner f next label targets (op.Switch cases) os =
-    each_append IsInner (plains (fetch f 15 (arg_at os 0))) (switch_items (width_at os 0) (reg_of (source_at os 0 15)) next label cases targets)
-    (plains_inner (fetch f 15 (arg_at os 0))) (switch_inner (width_at os 0) (reg_of (source_at os 0 15)) next label cases targets)
-inst_inner f next label targets op.Return os = plains_inner (epilogue f)
-inst_inner f next label targets op.Oops os = (refl, tt)
-inst_inner f next label targets o os = plains_inner (inst_code f o os)
+inst_shape f next label targets (op.BranchIf test) os =
+    inl (
+      each_append IsUnlabelled (plains (fetch_tested f test os ++ compared test os))
+          (branches test (width_at os 0) (reg_of (source_at os 0 15)) next (get_or targets 0 0) (get_or targets 1 0))
+          (plains_unlabelled (fetch_tested f test os ++ compared test os))
+          (branches_unlabelled test (width_at os 0) (reg_of (source_at os 0 15)) next (get_or targets 0 0) (get_or targets 1 0)),
+      refl,
+    )
+inst_shape f next label targets op.Jump os = inl (jump_unlabelled next (get_or targets 0 0), refl)
+inst_shape f next label targets (op.Switch cases) os = inr (cases, refl)
+inst_shape f next label targets op.Return os = inl (plains_unlabelled (epilogue f), refl)
+inst_shape f next label targets op.Oops os = inl ((refl, tt), refl)
+inst_shape f next label targets o os = inl (plains_unlabelled (inst_code f o os), refl)
 
-pub insts_inner : (f : Frame) (next label : ℕ) (targets : List ℕ) (insts : List AirInst) → Each IsInner (insts_items f next label targets insts)
+-- an item that is no label below a number
+abbrev pub IsInner : ℕ → Item → Type 0
+IsInner n (Label label) = n ≤ label
+IsInner n item = Unit {0}
+
+inner_of : (n : ℕ) (item : Item) → IsUnlabelled item → IsInner n item
+inner_of n (Label label) none = absurd cc
+inner_of n item none = tt
+
+unlabelled_inner : (n : ℕ) (items : List Item) → Each IsUnlabelled items → Each (IsInner n) items
+unlabelled_inner n items none = each_weaker IsUnlabelled (IsInner n) (inner_of n) items none
+
+-- the labels of a search are those from its first one on
+search_inner : (n : ℕ) (width : Width) (reg other next label : ℕ) (t : Tree Case) → n ≤ label → Each (IsInner n) (search_items width reg other next label t)
+unfolding search_items
+search_inner n width reg other next label (Leaf cases) le =
+    unlabelled_inner n (case_items width reg cases ++ jump_to next other) (leaf_unlabelled width reg other next cases)
+search_inner n width reg other next label (Node before case behind) le =
+    let compare : List Item = plains (compare_word width reg case.word) in
+    let first : List Item = search_items width reg other label (label + 1) before in
+    let rest : List Item = search_items width reg other next (label + 1 + node_count before) behind in
+    each_append (IsInner n) (compare ++ If Eq case.target ∷ If Hi label ∷ first) (Label label ∷ rest)
+    (each_append (IsInner n) compare (If Eq case.target ∷ If Hi label ∷ first)
+    (unlabelled_inner n compare (plains_unlabelled (compare_word width reg case.word)))
+    (tt, (tt, search_inner n width reg other label (label + 1) before (omega arith))))
+    (le, search_inner n width reg other next (label + 1 + node_count before) behind (omega arith))
+
+switch_inner : (n : ℕ) (f : Frame) (next label : ℕ) (targets cases : List ℕ) (os : List Operand) → n ≤ label
+    → Each (IsInner n) (inst_items f next label targets (op.Switch cases) os)
+unfolding inst_items
+switch_inner n f next label targets cases os le =
+    each_append (IsInner n) (plains (fetch f 15 (arg_at os 0))) (switch_items (width_at os 0) (reg_of (source_at os 0 15)) next label cases targets)
+    (unlabelled_inner n (plains (fetch f 15 (arg_at os 0))) (plains_unlabelled (fetch f 15 (arg_at os 0))))
+    (search_inner n (width_at os 0) (reg_of (source_at os 0 15)) (get_or targets (length cases) 0) next label
+    (tree (cases_in_order (width_at os 0) cases targets)) le)
+
+inst_inner : (n : ℕ) (f : Frame) (next label : ℕ) (targets : List ℕ) (o : AirOp) (os : List Operand) → n ≤ label
+    → Each (IsInner n) (inst_items f next label targets o os)
+inst_inner n f next label targets o os le =
+    ⊎_elim
+    (λ (none : Each IsUnlabelled (inst_items f next label targets o os) × (own_labels o ≡ 0)).
+    unlabelled_inner n (inst_items f next label targets o os) none.0)
+    (λ (is : (cases : List ℕ) × (o ≡ op.Switch cases)).
+    subst (λ o. Each (IsInner n) (inst_items f next label targets o os)) (sym is.1) (switch_inner n f next label targets is.0 os le))
+    (inst_shape f next label targets o os)
+
+insts_inner : (n : ℕ) (f : Frame) (next label : ℕ) (targets : List ℕ) (insts : List AirInst) → n ≤ label
+    → Each (IsInner n) (insts_items f next label targets insts)
 unfolding insts_items
-insts_inner f next label targets [] = tt
-insts_inner f next label targets (i ∷ is) =
-    each_append IsInner (inst_items f next label targets i.op i.operands) (insts_items f next label targets is)
-    (inst_inner f next label targets i.op i.operands) (insts_inner f next label targets is)
+insts_inner n f next label targets [] le = tt
+insts_inner n f next label targets (i ∷ is) le =
+    each_append (IsInner n) (inst_items f next label targets i.op i.operands) (insts_items f next label targets is)
+    (inst_inner n f next label targets i.op i.operands le) (insts_inner n f next label targets is le)
 
 -- ---- positions of labels
 
@@ -122,18 +171,18 @@ insts_inner f next label targets (i ∷ is) =
 abbrev pub IsNot : ℕ → Item → Type 0
 IsNot label item = is_label label item ≡ false
 
-is_not : (label : ℕ) (item : Item) → IsInner item → IsNot label item
-is_not label (Plain inst) inner = refl
-is_not label (Jump to) inner = refl
-is_not label (If cond to) inner = refl
-is_not label (IfZero width nonzero reg to) inner = refl
-is_not label (IfBit nonzero reg at to) inner = refl
-is_not label (Label to) inner = cc
-is_not label (Mark mark) inner = refl
+is_not : (n label : ℕ) (item : Item) → label < n → IsInner n item → IsNot label item
+is_not n label (Plain inst) lt inner = refl
+is_not n label (Jump to) lt inner = refl
+is_not n label (If cond to) lt inner = refl
+is_not n label (IfZero width nonzero reg to) lt inner = refl
+is_not n label (IfBit nonzero reg at to) lt inner = refl
+is_not n label (Label to) lt inner = ne_eqb to label (λ e. omega arith)
+is_not n label (Mark mark) lt inner = refl
 
-pub none_is : (label : ℕ) (items : List Item) → Each IsInner items → Each (IsNot label) items
-none_is label [] inner = tt
-none_is label (item ∷ items) inner = (is_not label item inner.0, none_is label items inner.1)
+pub none_is : (n label : ℕ) (items : List Item) → label < n → Each (IsInner n) items → Each (IsNot label) items
+none_is n label [] lt inner = tt
+none_is n label (item ∷ items) lt inner = (is_not n label item lt inner.0, none_is n label items lt inner.1)
 
 first_is : (label : ℕ) (rest : List Item) → position_or_len (is_label label) (Label label ∷ rest) ≡ 0
 first_is label rest = ap (λ b. cond (not b) (1 + position_or_len (is_label label) rest) 0) (eq-eqb label label refl)
@@ -153,17 +202,17 @@ position_behind label before rest none = position_after label before rest none
 
 -- ---- the items of blocks
 
--- one of some blocks: what stands before it and after it
-pub record BlockAmong (f : Frame) (items : List Item) (first : ℕ) (blocks : List AirBlock) (i : ℕ) (block : AirBlock) : Type 0 where
+-- one of some blocks: what stands before it and after it; the labels of blocks are those below a number
+pub record BlockAmong (n : ℕ) (f : Frame) (items : List Item) (first : ℕ) (blocks : List AirBlock) (i : ℕ) (block : AirBlock) : Type 0 where
   pub before : List Item
   pub rest : List Item
   pub own : ℕ
+  pub above : n ≤ own
   pub split : items ≡ before ++ (Label (first + i) ∷ (insts_items f (first + i + 1) own block.targets block.insts ++ rest))
-  pub clear : (label : ℕ) → first + i ≤ label → Each (IsNot label) before
+  pub clear : (label : ℕ) → first + i ≤ label → label < n → Each (IsNot label) before
   pub more : i + 1 < length blocks → (behind : List Item) × (rest ≡ Label (first + i + 1) ∷ behind)
   pub last : i + 1 ≡ length blocks → rest ≡ []
   pub none : i ≡ 0 → before ≡ []
-  pub after : (label : ℕ) → label ≤ first + i → Each (IsNot label) rest
 
 blocks_rest : (f : Frame) (first label : ℕ) (blocks : List AirBlock) → 0 < length blocks → (behind : List Item) × (blocks_items f first label blocks ≡ Label first ∷ behind)
 unfolding blocks_items
@@ -178,41 +227,27 @@ blocks_none f first label (block ∷ blocks) none = absurd (omega arith)
 other_label : (a b : ℕ) → a < b → IsNot b (Label a)
 other_label a b lt = ne_eqb a b (λ e. omega arith)
 
-above_label : (a b : ℕ) → b < a → IsNot b (Label a)
-above_label a b lt = ne_eqb a b (λ e. omega arith)
-
--- the labels of blocks are their numbers
-blocks_clear : (f : Frame) (first label : ℕ) (blocks : List AirBlock) (other : ℕ) → other < first → Each (IsNot other) (blocks_items f first label blocks)
+pub block_among : (n : ℕ) (f : Frame) (first label : ℕ) (blocks : List AirBlock) (i : ℕ) (block : AirBlock) → n ≤ label
+    → slice_get blocks i ≡ Some block → BlockAmong n f (blocks_items f first label blocks) first blocks i block
 unfolding blocks_items
-blocks_clear f first label [] other lt = tt
-blocks_clear f first label (block ∷ blocks) other lt = (
-  above_label first other lt,
-  each_append (IsNot other) (insts_items f (first + 1) label block.targets block.insts) (blocks_items f (first + 1) (label + block_labels block) blocks)
-      (none_is other (insts_items f (first + 1) label block.targets block.insts) (insts_inner f (first + 1) label block.targets block.insts))
-      (blocks_clear f (first + 1) (label + block_labels block) blocks other (omega arith)),
-)
-
-pub block_among : (f : Frame) (first label : ℕ) (blocks : List AirBlock) (i : ℕ) (block : AirBlock) → slice_get blocks i ≡ Some block
-    → BlockAmong f (blocks_items f first label blocks) first blocks i block
-unfolding blocks_items
-block_among f first label [] i block there = cc
-block_among f first label (b ∷ bs) zero block there =
+block_among n f first label [] i block le there = cc
+block_among n f first label (b ∷ bs) zero block le there =
     let same : b ≡ block = cc in
     let e : first ≡ first + 0 = omega arith in
     record {
       before = [];
       rest = blocks_items f (first + 1) (label + block_labels b) bs;
       own = label;
+      above = le;
       split = ap (λ (x : AirBlock). Label first ∷ (insts_items f (first + 1) label x.targets x.insts ++ blocks_items f (first + 1) (label + block_labels b) bs)) same
           ∙ ap (λ n. Label n ∷ (insts_items f (n + 1) label block.targets block.insts ++ blocks_items f (first + 1) (label + block_labels b) bs)) e;
-      clear = λ other le. tt;
+      clear = λ other least below. tt;
       more = λ lt. let rest = blocks_rest f (first + 1) (label + block_labels b) bs (omega arith) in (rest.0, rest.1 ∙ ap (λ n. Label (n + 1) ∷ rest.0) e);
       last = λ is. blocks_none f (first + 1) (label + block_labels b) bs (omega arith);
       none = λ is. refl;
-      after = λ other le. blocks_clear f (first + 1) (label + block_labels b) bs other (omega arith);
     }
-block_among f first label (b ∷ bs) (suc i) block there =
-    let more = block_among f (first + 1) (label + block_labels b) bs i block there in
+block_among n f first label (b ∷ bs) (suc i) block le there =
+    let more = block_among n f (first + 1) (label + block_labels b) bs i block (omega arith) there in
     let e : first + 1 + i ≡ first + suc i = omega arith in
     let items : List Item = insts_items f (first + 1) label b.targets b.insts in
     let tail : ℕ → List Item = λ n. Label n ∷ (insts_items f (n + 1) more.own block.targets block.insts ++ more.rest) in
@@ -220,17 +255,17 @@ block_among f first label (b ∷ bs) (suc i) block there =
       before = Label first ∷ (items ++ more.before);
       rest = more.rest;
       own = more.own;
+      above = more.above;
       split = ap (λ (xs : List Item). Label first ∷ (items ++ xs)) (more.split ∙ ap (λ n. more.before ++ tail n) e)
           ∙ ap (λ (xs : List Item). Label first ∷ xs) (sym (append_assoc items more.before (tail (first + suc i))));
-      clear = λ other le. (
+      clear = λ other least below. (
         other_label first other (omega arith),
         each_append (IsNot other) items more.before
-            (none_is other items (insts_inner f (first + 1) label b.targets b.insts)) (more.clear other (omega arith)),
+            (none_is n other items below (insts_inner n f (first + 1) label b.targets b.insts le)) (more.clear other (omega arith) below),
       );
       more = λ lt. let rest = more.more (omega arith) in (rest.0, rest.1 ∙ ap (λ n. Label (n + 1) ∷ rest.0) e);
       last = λ is. more.last (omega arith);
       none = λ is. absurd (omega arith);
-      after = λ other le. more.after other (omega arith);
     }
 
 -- ---- the blocks of a procedure
@@ -238,52 +273,28 @@ block_among f first label (b ∷ bs) (suc i) block there =
 -- where a block stands in the code: its label, its items, and then the next label, or the end
 pub record BlockStands (p : AirProc) (f : Frame) (b : ℕ) (block : AirBlock) : Type 0 where
   pub own : ℕ
+  pub above : length p.blocks ≤ own
   pub label : slice_get (emitted p f) (position_of (emitted p f) b) ≡ Some (Label b)
   pub items : Among (emitted p f) (position_of (emitted p f) b + 1) (insts_items f (b + 1) own block.targets block.insts)
   pub next : b + 1 < length p.blocks → position_of (emitted p f) (b + 1) ≡ position_of (emitted p f) b + 1 + length (insts_items f (b + 1) own block.targets block.insts)
   pub last : b + 1 ≡ length p.blocks → length (emitted p f) ≡ position_of (emitted p f) b + 1 + length (insts_items f (b + 1) own block.targets block.insts)
   pub first : b ≡ 0 → position_of (emitted p f) b ≡ length (prologue f)
-  pub only : (k : ℕ) → slice_get (emitted p f) k ≡ Some (Label b) → k ≡ position_of (emitted p f) b
 
 pub each_at : (P : Item → Type 0) (items : List Item) (k : ℕ) (item : Item) → Each P items → slice_get items k ≡ Some item → P item
 each_at P [] k item each there = absurd cc
 each_at P (x ∷ items) zero item each there = let same : x ≡ item = cc in subst P same each.0
 each_at P (x ∷ items) (suc k) item each there = each_at P items k item each.1 there
 
-get_within : (a b : List Item) (n : ℕ) (x : Item) → n < length a → slice_get (a ++ b) n ≡ Some x → slice_get a n ≡ Some x
-get_within [] b n x lt e = absurd (omega arith)
-get_within (y ∷ a) b zero x lt e = e
-get_within (y ∷ a) b (suc n) x lt e = get_within a b n x (omega arith) e
-
-same_number : (label : ℕ) → is_label label (Label label) ≡ true
-same_number label = eq-eqb label label refl
-
-not_there : (label : ℕ) → IsNot label (Label label) → ⊥
-not_there label none = let yes = same_number label in cc
-
--- a label stands once where no item before it or behind it is that label
-one_label : (label : ℕ) (front rest : List Item) (k : ℕ) → Each (IsNot label) front → Each (IsNot label) rest
-    → slice_get (front ++ Label label ∷ rest) k ≡ Some (Label label) → k ≡ length front
-one_label label front rest k before behind there =
-    ⊎_elim
-    (λ lt. absurd (not_there label (each_at (IsNot label) front k (Label label) before (get_within front (Label label ∷ rest) k (Label label) lt there))))
-    (λ ge. ⊎_elim
-    (λ more.
-    let e : length front + suc (k - length front - 1) ≡ k = omega arith in
-    let at : slice_get rest (k - length front - 1) ≡ Some (Label label) =
-    sym (get_behind front (Label label ∷ rest) (suc (k - length front - 1))) ∙ ap (slice_get (front ++ Label label ∷ rest)) e ∙ there in
-    absurd (not_there label (each_at (IsNot label) rest (k - length front - 1) (Label label) behind at)))
-    (λ le. omega arith)
-    (cases_lt (length front) k))
-    (cases_lt k (length front))
-
 pub length_plains : (insts : List Inst) → length (plains insts) ≡ length insts
 length_plains [] = refl
 length_plains (inst ∷ insts) = let more = length_plains insts in omega arith
 
 module _ (p : AirProc) (f : Frame) (b : ℕ) (block : AirBlock) (there : slice_get p.blocks b ≡ Some block) where
-  among : BlockAmong f (blocks_items f 0 (length p.blocks) p.blocks) 0 p.blocks b block
-  among = block_among f 0 (length p.blocks) p.blocks b block there
+  among : BlockAmong (length p.blocks) f (blocks_items f 0 (length p.blocks) p.blocks) 0 p.blocks b block
+  among = block_among (length p.blocks) f 0 (length p.blocks) p.blocks b block (omega arith) there
+
+  within : b < length p.blocks
+  within = slice_get_within p.blocks b block there
 
   front : List Item
   front = plains (prologue f) ++ among.before
@@ -299,13 +310,14 @@ module _ (p : AirProc) (f : Frame) (b : ℕ) (block : AirBlock) (there : slice_g
       (among.split ∙ ap (λ n. among.before ++ (Label n ∷ (insts_items f (n + 1) among.own block.targets block.insts ++ among.rest))) e)
       ∙ sym (append_assoc (plains (prologue f)) among.before (Label b ∷ (inside ++ among.rest)))
 
-  clear : (label : ℕ) → b ≤ label → Each (IsNot label) front
+  clear : (label : ℕ) → b ≤ label → label < length p.blocks → Each (IsNot label) front
   unfolding front
-  clear label le =
-      each_append (IsNot label) (plains (prologue f)) among.before (none_is label (plains (prologue f)) (plains_inner (prologue f))) (among.clear label (omega arith))
+  clear label le lt =
+      each_append (IsNot label) (plains (prologue f)) among.before
+      (none_is (length p.blocks) label (plains (prologue f)) lt (unlabelled_inner (length p.blocks) (plains (prologue f)) (plains_unlabelled (prologue f)))) (among.clear label (omega arith) lt)
 
   at : position_of (emitted p f) b ≡ length front
-  at = ap (λ xs. position_of xs b) split ∙ position_behind b front (inside ++ among.rest) (clear b (omega arith))
+  at = ap (λ xs. position_of xs b) split ∙ position_behind b front (inside ++ among.rest) (clear b (omega arith) within)
 
   -- up to the end of the block
   whole : List Item
@@ -319,18 +331,20 @@ module _ (p : AirProc) (f : Frame) (b : ℕ) (block : AirBlock) (there : slice_g
   unfolding whole
   whole_split = split ∙ sym (append_assoc front (Label b ∷ inside) among.rest)
 
-  whole_clear : Each (IsNot (b + 1)) whole
+  whole_clear : b + 1 < length p.blocks → Each (IsNot (b + 1)) whole
   unfolding whole inside
-  whole_clear =
-      each_append (IsNot (b + 1)) front (Label b ∷ inside) (clear (b + 1) (omega arith))
-      (other_label b (b + 1) (omega arith), none_is (b + 1) inside (insts_inner f (b + 1) among.own block.targets block.insts))
+  whole_clear lt =
+      each_append (IsNot (b + 1)) front (Label b ∷ inside) (clear (b + 1) (omega arith) lt) (
+        other_label b (b + 1) (omega arith),
+        none_is (length p.blocks) (b + 1) inside lt (insts_inner (length p.blocks) f (b + 1) among.own block.targets block.insts among.above),
+      )
 
   next_at : b + 1 < length p.blocks → position_of (emitted p f) (b + 1) ≡ length whole
   next_at lt =
       let rest = among.more lt in
       let e : 0 + b + 1 ≡ b + 1 = omega arith in
       let same : emitted p f ≡ whole ++ (Label (b + 1) ∷ rest.0) = whole_split ∙ ap (λ (xs : List Item). whole ++ xs) (rest.1 ∙ ap (λ n. Label n ∷ rest.0) e) in
-      ap (λ xs. position_of xs (b + 1)) same ∙ position_behind (b + 1) whole rest.0 whole_clear
+      ap (λ xs. position_of xs (b + 1)) same ∙ position_behind (b + 1) whole rest.0 (whole_clear lt)
 
   last_at : b + 1 ≡ length p.blocks → length (emitted p f) ≡ length whole
   last_at is = ap (λ (xs : List Item). length xs) (whole_split ∙ ap (λ (xs : List Item). whole ++ xs) (among.last is) ∙ append-nil whole)
@@ -352,24 +366,16 @@ module _ (p : AirProc) (f : Frame) (b : ℕ) (block : AirBlock) (there : slice_g
       let count = length_plains (prologue f) in
       at ∙ ap (λ (xs : List Item). length (plains (prologue f) ++ xs)) (among.none is) ∙ ap (λ (xs : List Item). length xs) (append-nil (plains (prologue f))) ∙ count
 
-  only_at : (k : ℕ) → slice_get (emitted p f) k ≡ Some (Label b) → k ≡ position_of (emitted p f) b
-  unfolding inside
-  only_at k is =
-      one_label b front (inside ++ among.rest) k (clear b (omega arith))
-      (each_append (IsNot b) inside among.rest (none_is b inside (insts_inner f (b + 1) among.own block.targets block.insts)) (among.after b (omega arith)))
-      (ap (λ (xs : List Item). slice_get xs k) (sym split) ∙ is)
-      ∙ sym at
-
   pub block_stands : BlockStands p f b block
   unfolding inside
   block_stands = record {
     own = among.own;
+    above = among.above;
     label = label_at;
     items = items_at;
     next = λ lt. next_at lt ∙ whole_length;
     last = λ is. last_at is ∙ whole_length;
     first = first_at;
-    only = only_at;
   }
 
 -- the labels of blocks stand in order

@@ -118,15 +118,7 @@ half_put width inverted reg word started hw code after e pushed n =
     half_move width inverted started reg (half_word word hw) hw ∷ half_moves width inverted reg word true n (hw + 1))) e
     ∙ sym (append_assoc code (one ∷ []) (plains rest)) ∙ ap (λ (xs : List Item). xs ++ plains rest) (sym pushed)
 
--- the half-words that are left
-pub halves_next : (width : Width) (inverted : Bool) (reg word : ℕ) (started next : Bool) (count hw : ℕ) (code after whole : List Item) → hw < count
-    → code ++ plains (half_moves width inverted reg word started (count - hw) hw) ≡ whole
-    → ((n : ℕ) → code ++ plains (half_moves width inverted reg word started (suc n) hw) ≡ after ++ plains (half_moves width inverted reg word next n (hw + 1)))
-    → after ++ plains (half_moves width inverted reg word next (count - (hw + 1)) (hw + 1)) ≡ whole
-halves_next width inverted reg word started next count hw code after whole lt before step =
-    let left : suc (count - (hw + 1)) ≡ count - hw = omega arith in
-    sym (step (count - (hw + 1))) ∙ ap (λ n. code ++ plains (half_moves width inverted reg word started n hw)) left ∙ before
-
+-- no half-word is left
 pub halves_done : (width : Width) (inverted : Bool) (reg word : ℕ) (started : Bool) (count hw : ℕ) (code after whole : List Item) → hw ≤ count → count ≤ hw
     → code ++ plains (half_moves width inverted reg word started (count - hw) hw) ≡ whole
     → after ≡ code ++ plains (if started then [] else half_move width inverted false reg (filling inverted) 0 ∷ []) → after ≡ whole
@@ -134,8 +126,3 @@ unfolding half_moves
 halves_done width inverted reg word started count hw code after whole le ge before pushed =
     let none : 0 ≡ count - hw = omega arith in
     pushed ∙ ap (λ n. code ++ plains (half_moves width inverted reg word started n hw)) none ∙ before
-
-pub halves_start : (width : Width) (inverted : Bool) (reg word count : ℕ) (code : List Item)
-    → code ++ plains (half_moves width inverted reg word false (count - 0) 0) ≡ code ++ plains (half_moves width inverted reg word false count 0)
-halves_start width inverted reg word count code =
-    let e : count - 0 ≡ count = omega arith in ap (λ n. code ++ plains (half_moves width inverted reg word false n 0)) e

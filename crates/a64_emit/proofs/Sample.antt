@@ -1,19 +1,15 @@
 -- The procedure that the tests emit is well formed.
-use Rattle.std.proofs.Common.{◌≡◌, ℕ, ◌^◌, ◌<◌, true, inl, [], ◌∷◌, None, length, refl, arith}
-use Rattle.std.specs.Prelude.{All}
+use Rattle.std.proofs.Common.{◌≡◌, ℕ, ◌<◌, inl, [], ◌∷◌, None, length, refl, arith}
 use Rattle.std.proofs.lemmas.List.Elements.{All-cons, All-nil}
 use Rattle.b3_base.specs.declared.word.Width.TheVariants.{W64}
 use Rattle.air_ir.specs.Forms.{AllFit, AnyWord, Result, Slot, Word, load, store}
 use Rattle.air_ir.specs.Kinds.{target_count}
-use Rattle.air_ir.specs.Weight.{weight}
 use Rattle.air_ir.specs.WellFormed.{IsGoodBlock, IsGoodInst, IsWellFormed, NamesOwn}
 use Rattle.air_ir.specs.declared.op.AirOp.TheVariants as op
 use Rattle.air_ir.specs.declared.operand.Arg.TheVariants.{At, Imm, FrameSlot}
 use Rattle.air_ir.specs.declared.operand.Home.TheVariants.{Spill}
 use Rattle.air_ir.specs.declared.operand.Operand.{Operand}
-use Rattle.air_ir.specs.declared.procedure.AirBlock.{AirBlock}
 use Rattle.air_ir.specs.declared.procedure.AirInst.{AirInst}
-use Rattle.a64_emit.specs.Built.{IsBuilt, is_built}
 use Rattle.a64_emit.specs.Sample.{above_x1, entry, fills, inst, last, loads, made, points, procedure, stores, used, x0, x1}
 
 abbrev Names : Operand → Type 0
@@ -106,24 +102,3 @@ sample_good = record {
   entry = omega arith;
   blocks = All-cons (IsGoodBlock procedure) entry (last ∷ []) entry_good (All-cons (IsGoodBlock procedure) last [] last_good (All-nil (IsGoodBlock procedure)));
 }
-
-abbrev IsBuiltInst : AirInst → Type 0
-IsBuiltInst i = is_built i.op i.traps ≡ true
-
-abbrev IsBuiltBlock : AirBlock → Type 0
-IsBuiltBlock b = All IsBuiltInst b.insts
-
-pub sample_built : IsBuilt procedure
-sample_built =
-    All-cons IsBuiltBlock entry (last ∷ [])
-    (All-cons IsBuiltInst fills (points ∷ stores ∷ inst op.Jump [] ∷ []) refl
-    (All-cons IsBuiltInst points (stores ∷ inst op.Jump [] ∷ []) refl
-    (All-cons IsBuiltInst stores (inst op.Jump [] ∷ []) refl
-    (All-cons IsBuiltInst (inst op.Jump []) [] refl (All-nil IsBuiltInst)))))
-    (All-cons IsBuiltBlock last []
-    (All-cons IsBuiltInst loads (inst op.Return (used x0 ∷ []) ∷ []) refl
-    (All-cons IsBuiltInst (inst op.Return (used x0 ∷ [])) [] refl (All-nil IsBuiltInst)))
-    (All-nil IsBuiltBlock))
-
-pub sample_light : weight procedure < 2 ^ 24
-sample_light = omega arith

@@ -178,6 +178,26 @@ leads_on z from next k n c d runs rest = record {
   lands = rest.lands;
 }
 
+-- one item, which leads to a later one, and what leads on from there
+pub leads_over : (z : Setting) (from : World) (next : AirConfig) (k l : ℕ) (c : Machine) → k < l → IsProperAt z k c
+    → item_step (meaning_of z) z.code (At k c) ≡ At l c → Reaches z from next l c → Reaches z from next k c
+leads_over z from next k l c lt here step rest = record {
+  items = suc rest.items;
+  at = rest.at;
+  last = rest.last;
+  forward = forward_more z rest.items (At k c) (subst (GoesOn (At k c)) (sym step) lt)
+      (subst (GoForward (meaning_of z) z.code rest.items) (sym step) rest.forward);
+  comes = iterate-suc (item_step (meaning_of z) z.code) rest.items (At k c) ∙ ap (iterate (item_step (meaning_of z) z.code) rest.items) step ∙ rest.comes;
+  proper = λ j le. moments_joined (item_step (meaning_of z) z.code) (IsProper z) 1 (suc rest.items) (At k c)
+      (λ i below. let none : i ≡ 0 = omega arith in
+      subst (IsProper z) (sym (ap (λ (j : ℕ). iterate (item_step (meaning_of z) z.code) j (At k c)) none
+      ∙ iterate-zero (item_step (meaning_of z) z.code) (At k c))) here)
+      (λ i below. subst (λ a. IsProper z (iterate (item_step (meaning_of z) z.code) i a)) (sym (iterate-one (item_step (meaning_of z) z.code) (At k c)
+      ∙ step)) (rest.proper i (omega arith)))
+      j (omega arith);
+  lands = rest.lands;
+}
+
 -- behind at least one item
 pub leads_by : (z : Setting) (from : World) (next : AirConfig) (k n : ℕ) (c d : Machine) → 1 ≤ n → (runs : Runs z k c n d)
     → Reaches z from next (k + n) runs.last → Leads z from next k c

@@ -1,6 +1,6 @@
 -- A Switch leads to the target of the case that its word is equal to.
-use Rattle.std.proofs.Common.{◌≡◌, ◌≢◌, ℕ, suc, ◌+◌, ◌^◌, ◌<◌, ◌≤◌, true, false, ⊎_elim, List, [], ◌∷◌, ◌++◌, Some, None, length, get_or, refl, ap, ◌∙◌, subst, arith, length-append}
-use Rattle.std.specs.Prelude.{nat_eq, slice_get, if◌then◌else◌}
+use Rattle.std.proofs.Common.{◌≡◌, ◌≢◌, ℕ, suc, ◌+◌, ◌^◌, ◌<◌, ◌≤◌, true, false, not, ◌&&◌, ⊎_elim, List, [], ◌∷◌, ◌++◌, Some, None, length, get_or, refl, sym, ap, ◌∙◌, subst, arith, append_assoc, length-append}
+use Rattle.std.specs.Prelude.{nat_eq, nat_le, nat_lt, slice_get, if◌then◌else◌}
 use Rattle.std.proofs.lemmas.Bool.{cases_lt}
 use Rattle.std.proofs.lemmas.Bool.Decides.{nat_tests}
 use Rattle.std.proofs.lemmas.Option.{slice_get-get_or, slice_get_within}
@@ -10,11 +10,11 @@ use Rattle.b3_base.specs.declared.word.Width.{Width}
 use Rattle.b3_base.specs.declared.word.Width.TheVariants.{W32, W64}
 use Rattle.a64_inst.specs.Step.{Registers}
 use Rattle.a64_inst.specs.Values.{complement, flags_of_sum, holds, sum_of}
-use Rattle.a64_inst.specs.declared.inst.Cond.TheVariants.{Eq}
+use Rattle.a64_inst.specs.declared.inst.Cond.TheVariants.{Eq, Hi}
 use Rattle.a64_inst.specs.declared.inst.Inst.{Inst}
 use Rattle.a64_inst.specs.declared.inst.Inst.TheVariants.{AddSubReg}
 use Rattle.a64_inst.specs.declared.item.Item.{Item}
-use Rattle.a64_inst.specs.declared.item.Item.TheVariants.{If}
+use Rattle.a64_inst.specs.declared.item.Item.TheVariants.{If, Label}
 use Rattle.air_ir.specs.Blocks as air
 use Rattle.air_ir.specs.Forms.{AllFit, NoImmediate, Word, home}
 use Rattle.air_ir.specs.Meaning.{To, World, case_number, meaning, operation}
@@ -25,7 +25,6 @@ use Rattle.air_ir.specs.declared.op.Test.TheVariants.{Compare}
 use Rattle.air_ir.specs.declared.operand.Operand.{Operand}
 use Rattle.air_ir.specs.declared.procedure.AirInst.{AirInst}
 use Rattle.air_frame.specs.Frames.{IsFrameOf}
-use Rattle.a64_layout.specs.Branch.{size_in}
 use Rattle.a64_layout.specs.Layout.{place, position_of}
 use Rattle.a64_layout.specs.Machine.{Machine, moved_to, test_holds}
 use Rattle.a64_layout.specs.Run as run
@@ -35,15 +34,17 @@ use Rattle.a64_emit.specs.Constants.{constant}
 use Rattle.a64_emit.specs.Places.{plains}
 use Rattle.a64_emit.specs.Related.{IsRelated}
 use Rattle.a64_emit.specs.Setting.{IsSet, Setting, meaning_of}
-use Rattle.a64_emit.specs.Switched.{compare_case, is_sum_word, switch_items}
+use Rattle.a64_emit.specs.Switched.{case_items, cases_in_order, compare_word, is_sum_word, jump_to, search_items, switch_items}
+use Rattle.a64_emit.specs.Trees.{Leaf, Node, Tree, node_count, tree}
+use Rattle.a64_emit.specs.declared.case.Case.{Case}
 use Rattle.a64_emit.specs.declared.source.Source.{Source}
 use Rattle.a64_emit.specs.declared.source.Source.TheVariants.{Constant, InReg}
 use Rattle.a64_layout.proofs.Least.{place_mono}
-use Rattle.a64_emit.proofs.Ahead.{switch_words, words_ahead}
+use Rattle.a64_emit.proofs.Ahead.{if_size, switch_words, words_ahead}
 use Rattle.a64_emit.proofs.AirSteps.{step_lost}
 use Rattle.a64_emit.proofs.Shapes.{sum_plain}
 use Rattle.a64_emit.proofs.BranchEnds.{AllUsable, home_register, one_read, one_there, one_writes, word_home}
-use Rattle.a64_emit.proofs.Branching.{NextAt, Since, alike_related, branch_goes, branch_test, item_proper, jump_reaches, one_runs, reaches_step, words_there}
+use Rattle.a64_emit.proofs.Branching.{NextAt, Since, alike_related, branch_goes, branch_test, item_proper, jump_reaches, label_runs, one_runs, reaches_step, words_there}
 use Rattle.a64_emit.proofs.Computes.{scratch_15, scratch_16}
 use Rattle.a64_emit.proofs.Endings.{Ends, among_plains, leaves_to}
 use Rattle.a64_emit.proofs.Fetching.{IsUsable, fetch_word, fetched_keeps, gives_same, kept_differs, source_differs}
@@ -51,7 +52,10 @@ use Rattle.a64_emit.proofs.Keeping.{keeps_related, whole_of}
 use Rattle.a64_emit.proofs.Moves.{constant_puts}
 use Rattle.a64_emit.proofs.Ops.{Gives, IsRegister, gives-small}
 use Rattle.a64_emit.proofs.Positions.{Among, among_first, among_rest, length_plains}
-use Rattle.a64_emit.proofs.Straight.{Does, DoesOne, Reaches, Runs, does_both, does_one, leads_on, straight_runs}
+use Rattle.a64_emit.proofs.Labelled.{IsCaseOf, cases_lead}
+use Rattle.a64_emit.proofs.Sorting.{led, led_among, search_leads}
+use Rattle.a64_emit.proofs.Straight.{AreAlike, Does, DoesOne, Reaches, Runs, does_both, does_one, leads_on, leads_over, straight_runs}
+use Rattle.a64_emit.proofs.Trees.{Each, each_left, each_right, in_order, tree_order}
 use Rattle.a64_emit.proofs.Tests.{compare_is, with_flags}
 use Rattle.a64_emit.proofs.Words.{does_safely, touches_nothing}
 
@@ -60,13 +64,15 @@ same_words : (width : Width) (x y : ℕ) → x < 2 ^ bits width → y < 2 ^ bits
 same_words W32 x y small_x small_y = grind (arith, nat_tests)
 same_words W64 x y small_x small_y = grind (arith, nat_tests)
 
-low-small : (width : Width) (x : ℕ) → low width x < 2 ^ bits width
-low-small W32 x = omega arith
-low-small W64 x = omega arith
+-- the word that is taken off is below the other where their difference needs no borrow and isn't 0
+higher_word : (width : Width) (x y : ℕ) → x < 2 ^ bits width → y < 2 ^ bits width
+    → (nat_le (2 ^ bits width) (x + complement width y + 1) && not (nat_eq (sum_of width x (complement width y) 1) 0)) ≡ nat_lt y x
+higher_word W32 x y small_x small_y = grind (arith, nat_tests)
+higher_word W64 x y small_x small_y = grind (arith, nat_tests)
 
-low_low : (width : Width) (x : ℕ) → low width (low width x) ≡ low width x
-low_low W32 x = omega arith
-low_low W64 x = omega arith
+low_of : (width : Width) (y : ℕ) → y < 2 ^ bits width → low width y ≡ y
+low_of W32 y small = omega arith
+low_of W64 y small = omega arith
 
 case_number-le : (width : Width) (x : ℕ) (cases : List ℕ) → case_number width x cases ≤ length cases
 case_number-le width x [] = omega arith
@@ -78,13 +84,14 @@ case_number-le width x (case ∷ cases) =
           omega arith
     ]
 
--- a machine with the flags of a word and a case
-pub record ComparedBy (z : Setting) (s : State) (c : Machine) (insts : List Inst) (a : Source) (width : Width) (x case : ℕ) : Type 0 where
+-- a machine with the flags of a word and another
+pub record ComparedBy (z : Setting) (s : State) (c : Machine) (insts : List Inst) (a : Source) (width : Width) (x y : ℕ) : Type 0 where
   pub after : Machine
   pub does : Does z c insts after
   pub related : IsRelated z s after
   pub gives : Gives after.registers a width x
-  pub equal : holds Eq after.registers.flags ≡ nat_eq (low width case) x
+  pub equal : holds Eq after.registers.flags ≡ nat_eq y x
+  pub higher : holds Hi after.registers.flags ≡ nat_lt y x
 
 register_most : (r : Registers) (a : Source) (width : Width) (x : ℕ) → IsRegister a → Gives r a width x → reg_of a ≤ 31
 register_most r (InReg reg) width x is gives = omega (arith, gives.0)
@@ -94,15 +101,15 @@ register_most r (Constant word) width x is gives = absurd is
 abbrev pub AllWithin : Setting → List ℕ → Type 0
 AllWithin z targets_of = (j : ℕ) → j < length targets_of → get_or targets_of j 0 < length z.procedure.blocks
 
-module _ (z : Setting) (set : IsSet z) (serves : IsFrameOf z.procedure z.frame) (unmarked : (k : ℕ) → run.mark_before z.code k ≡ None) where
+module _ (z : Setting) (set : IsSet z) (serves : IsFrameOf z.procedure z.frame) (unmarked : (k : ℕ) → run.mark_before z.code k ≡ None)
+    (placed : (k label : ℕ) → slice_get z.code k ≡ Some (Label label) → position_of z.code label ≡ k) where
   -- by a register
-  compares_put : (s : State) (c : Machine) (a : Source) (width : Width) (x case : ℕ) → IsRelated z s c → IsRegister a → ((r : ℕ) → a ≡ InReg r → r ≢ 16)
-      → Gives c.registers a width x → ComparedBy z s c (constant width 16 (low width case) ++ AddSubReg width true true 31 (reg_of a) 16 0 0 ∷ [])
-      a width x case
+  compares_put : (s : State) (c : Machine) (a : Source) (width : Width) (x y : ℕ) → IsRelated z s c → IsRegister a → ((r : ℕ) → a ≡ InReg r → r ≢ 16)
+      → y < 2 ^ bits width → Gives c.registers a width x
+      → ComparedBy z s c (constant width 16 y ++ AddSubReg width true true 31 (reg_of a) 16 0 0 ∷ []) a width x y
   unfolding flags_of_sum
-  compares_put s c a width x case rel is differ gives =
-      let y : ℕ = low width case in
-      let p = constant_puts z c width 16 y (whole_of z set serves c rel.frame) rel.frame.words (omega arith) (λ e. omega arith) (low-small width case) in
+  compares_put s c a width x y rel is differ small gives =
+      let p = constant_puts z c width 16 y (whole_of z set serves c rel.frame) rel.frame.words (omega arith) (λ e. omega arith) small in
       let m : Machine = p.after in
       let rel_m = keeps_related z s c m (record {
         sp = p.sp;
@@ -114,10 +121,11 @@ module _ (z : Setting) (set : IsSet z) (serves : IsFrameOf z.procedure z.frame) 
       let inst : Inst = AddSubReg width true true 31 (reg_of a) 16 0 0 in
       let d : Machine = record { registers = with_flags m.registers (flags_of_sum width x (complement width y) 1); memory = m.memory } in
       let gives_a : Gives m.registers a width x = gives_same c.registers m.registers a width x (λ r is. p.others r (differ r is)) gives in
-      let gives_b : Gives m.registers (InReg 16) width y = (omega arith, ap (low width) p.put ∙ low_low width case) in
+      let gives_b : Gives m.registers (InReg 16) width y = (omega arith, ap (low width) p.put ∙ low_of width y small) in
       let one : DoesOne z m inst d = does_safely z m d inst (whole_of z set serves m rel_m.frame) (touches_nothing m inst (λ pc. refl)) refl
       (λ pc. compare_is (moved_to pc m).registers m.memory width a (InReg 16) x y is
       (gives_same m.registers (moved_to pc m).registers a width x (λ r is. refl) gives_a) gives_b tt) in
+      let small_x = gives-small c.registers a width x gives in
       record {
         after = d;
         does = does_both z c m d (constant width 16 y) (inst ∷ []) p.does (does_one z m d inst one);
@@ -128,25 +136,25 @@ module _ (z : Setting) (set : IsSet z) (serves : IsFrameOf z.procedure z.frame) 
           words = record { x = rel_m.frame.words.x; sp = rel_m.frame.words.sp; pc = rel_m.frame.words.pc };
         }) rel_m;
         gives = gives_same m.registers d.registers a width x (λ r is. refl) gives_a;
-        equal = same_words width x y (gives-small c.registers a width x gives) (low-small width case);
+        equal = same_words width x y small_x small;
+        higher = higher_word width x y small_x small;
       }
 
   -- by an immediate
-  compares_with : (s : State) (c : Machine) (a : Source) (width : Width) (x case : ℕ) → IsRelated z s c
-      → IsRegister a → is_sum_word width (low width case) ≡ true
-      → Gives c.registers a width x → ComparedBy z s c (sum_with width true true 31 (reg_of a) (low width case) ∷ []) a width x case
+  compares_with : (s : State) (c : Machine) (a : Source) (width : Width) (x y : ℕ) → IsRelated z s c → IsRegister a → y < 2 ^ bits width
+      → is_sum_word width y ≡ true → Gives c.registers a width x → ComparedBy z s c (sum_with width true true 31 (reg_of a) y ∷ []) a width x y
   unfolding flags_of_sum
-  compares_with s c a width x case rel is short gives =
-      let y : ℕ = low width case in
+  compares_with s c a width x y rel is small short gives =
       let inst : Inst = sum_with width true true 31 (reg_of a) y in
       let plain = sum_plain width true true 31 (reg_of a) (Constant y) (omega arith) (register_most c.registers a width x is gives) (omega arith)
-      (low-small width case, short) in
+      (small, short) in
       let d : Machine = record { registers = with_flags c.registers (flags_of_sum width x (complement width y) 1); memory = c.memory } in
       let one : DoesOne z c inst d = does_safely z c d inst (whole_of z set serves c rel.frame)
       (touches_nothing c inst (λ pc. plain.touches (moved_to pc c).registers)) refl
       (λ pc. compare_is (moved_to pc c).registers c.memory width a (Constant y) x y is
-      (gives_same c.registers (moved_to pc c).registers a width x (λ r is. refl) gives) (low_low width case)
-      (low-small width case, short)) in
+      (gives_same c.registers (moved_to pc c).registers a width x (λ r is. refl) gives) (low_of width y small)
+      (small, short)) in
+      let small_x = gives-small c.registers a width x gives in
       record {
         after = d;
         does = does_one z c d inst one;
@@ -157,69 +165,197 @@ module _ (z : Setting) (set : IsSet z) (serves : IsFrameOf z.procedure z.frame) 
           words = record { x = rel.frame.words.x; sp = rel.frame.words.sp; pc = rel.frame.words.pc };
         }) rel;
         gives = gives_same c.registers d.registers a width x (λ r is. refl) gives;
-        equal = same_words width x y (gives-small c.registers a width x gives) (low-small width case);
+        equal = same_words width x y small_x small;
+        higher = higher_word width x y small_x small;
       }
 
-  compares : (s : State) (c : Machine) (a : Source) (width : Width) (x case : ℕ) → IsRelated z s c → IsRegister a → ((r : ℕ) → a ≡ InReg r → r ≢ 16)
-      → Gives c.registers a width x → ComparedBy z s c (compare_case width (reg_of a) case) a width x case
-  compares s c a width x case rel is differ gives =
-      elim (is_sum_word width (low width case)) as (λ b. is_sum_word width (low width case) ≡ b
-      → ComparedBy z s c (if b then sum_with width true true 31 (reg_of a) (low width case) ∷ [] else constant width 16
-      (low width case) ++ AddSubReg width true true 31 (reg_of a) 16 0 0 ∷ []) a width x case) [
-        | true ↦ λ e. compares_with s c a width x case rel is e gives
-        | false ↦ λ e. compares_put s c a width x case rel is differ gives
+  compares : (s : State) (c : Machine) (a : Source) (width : Width) (x y : ℕ) → IsRelated z s c → IsRegister a → ((r : ℕ) → a ≡ InReg r → r ≢ 16)
+      → y < 2 ^ bits width → Gives c.registers a width x → ComparedBy z s c (compare_word width (reg_of a) y) a width x y
+  compares s c a width x y rel is differ small gives =
+      elim (is_sum_word width y) as (λ b. is_sum_word width y ≡ b
+      → ComparedBy z s c (if b then sum_with width true true 31 (reg_of a) y ∷ [] else constant width 16
+      y ++ AddSubReg width true true 31 (reg_of a) 16 0 0 ∷ []) a width x y) [
+        | true ↦ λ e. compares_with s c a width x y rel is small e gives
+        | false ↦ λ e. compares_put s c a width x y rel is differ small gives
       ] refl
 
-  pub switch_reaches : (from : World) (s : State) (a : Source) (width : Width) (x next label : ℕ) (cases targets_of : List ℕ) (k : ℕ) (c : Machine)
-      → length targets_of ≡ suc (length cases) → AllWithin z targets_of → Among z.code k (switch_items width (reg_of a) next label cases targets_of)
-      → NextAt z next (k + length (switch_items width (reg_of a) next label cases targets_of)) → Since from s → IsRelated z s c → IsRegister a
-      → ((r : ℕ) → a ≡ InReg r → r ≢ 16) → Gives c.registers a width x → Reaches z from (air.At (get_or targets_of (case_number width x cases) 0) s) k c
-  unfolding switch_items
-  switch_reaches from s a width x next label [] [] k c count within among at since rel is differ gives = absurd (omega arith)
-  switch_reaches from s a width x next label [] (target ∷ targets_of) k c count within among at since rel is differ gives =
-      jump_reaches z set serves from s k next target c (within 0 (omega arith)) among at since rel
-  switch_reaches from s a width x next label (case ∷ cases) [] k c count within among at since rel is differ gives = absurd (omega arith)
-  switch_reaches from s a width x next label (case ∷ cases) (target ∷ targets_of) k c count within among at since rel is differ gives =
-      let insts : List Inst = compare_case width (reg_of a) case in
-      let items : List Item = switch_items width (reg_of a) next label cases targets_of in
-      let q = compares s c a width x case rel is differ gives in
+  -- ---- the search
+
+  -- a word in a register, in a state to which the block leads
+  pub record Seeks (from : World) (s : State) (a : Source) (width : Width) (x : ℕ) (c : Machine) : Type 0 where
+    pub since : Since from s
+    pub related : IsRelated z s c
+    pub register : IsRegister a
+    pub differs : (r : ℕ) → a ≡ InReg r → r ≢ 16
+    pub gives : Gives c.registers a width x
+
+  alike_seeks : (from : World) (s : State) (a : Source) (width : Width) (x : ℕ) (c d : Machine) → AreAlike d c → d.registers.pc < 2 ^ 64
+      → Seeks from s a width x c → Seeks from s a width x d
+  alike_seeks from s a width x c d same small seeks = record {
+    since = seeks.since;
+    related = alike_related z s c d same small seeks.related;
+    register = seeks.register;
+    differs = seeks.differs;
+    gives = gives_same c.registers d.registers a width x (λ r is. ap (λ (m : Machine). m.registers.x r) same) seeks.gives;
+  }
+
+  -- a word is compared with that of a case: the case leads where it is equal, and else the items behind its branch do
+  compare_reaches : (from : World) (s : State) (a : Source) (width : Width) (x : ℕ) (case : Case) (rest : List Item) (k other : ℕ) (c : Machine)
+      → IsCaseOf (length z.procedure.blocks) width case
+      → Among z.code k (plains (compare_word width (reg_of a) case.word) ++ If Eq case.target ∷ rest)
+      → Seeks from s a width x c
+      → ((d : Machine) → Seeks from s a width x d → holds Hi d.registers.flags ≡ nat_lt case.word x
+      → Reaches z from (air.At other s) (k + length (plains (compare_word width (reg_of a) case.word) ++ If Eq case.target ∷ [])) d)
+      → Reaches z from (air.At (if nat_eq case.word x then case.target else other) s) k c
+  compare_reaches from s a width x case rest k other c of among seeks goes_on =
+      let insts : List Inst = compare_word width (reg_of a) case.word in
+      let q = compares s c a width x case.word seeks.related seeks.register seeks.differs of.0 seeks.gives in
       let n : ℕ = length insts in
       let long = length_plains insts in
-      let total = length-append (plains insts) (If Eq target ∷ items) in
-      let behind : Among z.code (k + n) (If Eq target ∷ items) =
-      subst (λ n. Among z.code (k + n) (If Eq target ∷ items)) long (among_rest z.code k (plains insts) (If Eq target ∷ items) among) in
-      let there : slice_get z.code (k + n) ≡ Some (If Eq target) = ap (slice_get z.code) (omega arith) ∙ behind 0 (If Eq target) refl in
-      let size : 1 ≤ size_in (z.long (k + n)) (Some (If Eq target)) = elim (z.long (k + n)) as (λ b. 1 ≤ size_in b (Some (If Eq target))) [
-        | true ↦
-            omega arith
-        | false ↦ omega arith
-      ] in
-      let room = words_there z (k + n) (If Eq target) there (slice_get_within z.code (k + n) (If Eq target) there) size in
+      let behind : Among z.code (k + n) (If Eq case.target ∷ rest) =
+      subst (λ n. Among z.code (k + n) (If Eq case.target ∷ rest)) long (among_rest z.code k (plains insts) (If Eq case.target ∷ rest) among) in
+      let there : slice_get z.code (k + n) ≡ Some (If Eq case.target) = ap (slice_get z.code) (omega arith) ∙ behind 0 (If Eq case.target) refl in
+      let room = words_there z (k + n) (If Eq case.target) there (slice_get_within z.code (k + n) (If Eq case.target) there)
+      (if_size Eq case.target (z.long (k + n))) in
       let runs : Runs z k c n q.after = straight_runs z set unmarked k c q.after insts q.does
-      (among_plains z.code k insts (among_first z.code k (plains insts) (If Eq target ∷ items) among)) room in
+      (among_plains z.code k insts (among_first z.code k (plains insts) (If Eq case.target ∷ rest) among)) room in
       let last : Machine = runs.last in
-      let rel_last = alike_related z s q.after last runs.alike (runs.small rel.frame.words.pc) q.related in
-      let equal : test_holds (branch_test (Compare Eq) true width 0) last ≡ nat_eq (low width case) x =
+      let compared : Seeks from s a width x q.after =
+      record { since = seeks.since; related = q.related; register = seeks.register; differs = seeks.differs; gives = q.gives } in
+      let seeks_last = alike_seeks from s a width x q.after last runs.alike (runs.small seeks.related.frame.words.pc) compared in
+      let equal : test_holds (branch_test (Compare Eq) true width 0) last ≡ nat_eq case.word x =
       ap (λ (m : Machine). holds Eq m.registers.flags) runs.alike ∙ q.equal in
-      let step = branch_goes z set serves (Compare Eq) true width 0 (k + n) target last (nat_eq (low width case) x) equal there in
-      let e : k + length (plains insts ++ If Eq target ∷ items) ≡ k + n + 1 + length items = omega arith in
-      leads_on z from (air.At (get_or (target ∷ targets_of) (case_number width x (case ∷ cases)) 0) s) k n c q.after runs
-      (elim (nat_eq (low width case) x) as (λ b. run.item_step (meaning_of z) z.code (run.At (k + n) last) ≡ run.At
-      (if b then position_of z.code target else k + n + 1) last
-      → Reaches z from (air.At (get_or (target ∷ targets_of) (if b then 0 else suc (case_number width x cases)) 0) s) (k + n) last) [
-        | true ↦ λ step. reaches_step z set serves from s (k + n) target last (item_proper z set serves s (k + n) last (If Eq target) there tt rel_last)
-            step since rel_last
+      let higher : holds Hi last.registers.flags ≡ nat_lt case.word x = ap (λ (m : Machine). holds Hi m.registers.flags) runs.alike ∙ q.higher in
+      let step = branch_goes z set serves (Compare Eq) true width 0 (k + n) case.target last (nat_eq case.word x) equal there in
+      let total = length-append (plains insts) (If Eq case.target ∷ []) in
+      let e : k + length (plains insts ++ If Eq case.target ∷ []) ≡ k + n + 1 = omega arith in
+      leads_on z from (air.At (if nat_eq case.word x then case.target else other) s) k n c q.after runs
+      (elim (nat_eq case.word x) as (λ b. run.item_step (meaning_of z) z.code (run.At (k + n) last) ≡ run.At
+      (if b then position_of z.code case.target else k + n + 1) last
+      → Reaches z from (air.At (if b then case.target else other) s) (k + n) last) [
+        | true ↦ λ step. reaches_step z set serves from s (k + n) case.target last
+            (item_proper z set serves s (k + n) last (If Eq case.target) there tt seeks_last.related)
+            step seeks.since seeks_last.related
         | false ↦ λ step.
-            let on = one_runs z set serves s (k + n) last (If Eq target) there tt step rel_last in
-            let rel_on = alike_related z s last on.last on.alike (on.small rel_last.frame.words.pc) rel_last in
-            let gives_last : Gives last.registers a width x =
-            gives_same q.after.registers last.registers a width x (λ r is. ap (λ (m : Machine). m.registers.x r) runs.alike) q.gives in
-            let gives_on : Gives on.last.registers a width x =
-            gives_same last.registers on.last.registers a width x (λ r is. ap (λ (m : Machine). m.registers.x r) on.alike) gives_last in
-            leads_on z from (air.At (get_or targets_of (case_number width x cases) 0) s) (k + n) 1 last last on
-            (switch_reaches from s a width x next label cases targets_of (k + n + 1) on.last (omega arith) (λ j lt. within (suc j) (omega arith))
-            (among_rest z.code (k + n) (If Eq target ∷ []) items behind) (subst (λ j. NextAt z next j) e at) since rel_on is differ gives_on)
+            let on = one_runs z set serves s (k + n) last (If Eq case.target) there tt step seeks_last.related in
+            leads_on z from (air.At other s) (k + n) 1 last last on
+            (subst (λ j. Reaches z from (air.At other s) j on.last) e
+            (goes_on on.last (alike_seeks from s a width x last on.last on.alike (on.small seeks_last.related.frame.words.pc) seeks_last)
+            (ap (λ (m : Machine). holds Hi m.registers.flags) on.alike ∙ higher)))
       ] step)
+
+  cases_reach : (from : World) (s : State) (a : Source) (width : Width) (x other next : ℕ) (cases : List Case) (k : ℕ) (c : Machine)
+      → other < length z.procedure.blocks → Each (IsCaseOf (length z.procedure.blocks) width) cases
+      → Among z.code k (case_items width (reg_of a) cases ++ jump_to next other)
+      → NextAt z next (k + length (case_items width (reg_of a) cases ++ jump_to next other)) → Seeks from s a width x c
+      → Reaches z from (air.At (led_among other x cases) s) k c
+  unfolding case_items
+  cases_reach from s a width x other next [] k c within are among at seeks =
+      jump_reaches z set serves from s k next other c within among at seeks.since seeks.related
+  cases_reach from s a width x other next (case ∷ cases) k c within are among at seeks =
+      let front : List Item = plains (compare_word width (reg_of a) case.word) in
+      let branch : List Item = If Eq case.target ∷ [] in
+      let rest : List Item = case_items width (reg_of a) cases ++ jump_to next other in
+      let whole : (front ++ If Eq case.target ∷ case_items width (reg_of a) cases) ++ jump_to next other ≡ front ++ If Eq case.target ∷ rest =
+      append_assoc front (If Eq case.target ∷ case_items width (reg_of a) cases) (jump_to next other) in
+      let parts : front ++ If Eq case.target ∷ rest ≡ (front ++ branch) ++ rest = sym (append_assoc front branch rest) in
+      let count : length ((front ++ If Eq case.target ∷ case_items width (reg_of a) cases) ++ jump_to next other) ≡ length (front ++ branch) + length rest =
+      ap (λ (xs : List Item). length xs) (whole ∙ parts) ∙ length-append (front ++ branch) rest in
+      let here : Among z.code k (front ++ If Eq case.target ∷ rest) = subst (Among z.code k) whole among in
+      let behind : Among z.code (k + length (front ++ branch)) rest = among_rest z.code k (front ++ branch) rest (subst (Among z.code k) parts here) in
+      let e : k + length ((front ++ If Eq case.target ∷ case_items width (reg_of a) cases) ++ jump_to next other)
+      ≡ k + length (front ++ branch) + length rest = omega arith in
+      compare_reaches from s a width x case rest k (led_among other x cases) c are.0 here seeks
+      (λ d seeks_d higher. cases_reach from s a width x other next cases (k + length (front ++ branch)) d within are.1 behind
+      (subst (λ j. NextAt z next j) e at) seeks_d)
+
+  -- where the search stands before a label of its own, no block is next
+  no_next : (label k : ℕ) → length z.procedure.blocks ≤ label → NextAt z label k
+  no_next label k le = λ lt. absurd (omega arith)
+
+  -- behind the comparison with a node: the lower half stands next, and the other one behind a label
+  half_reaches : (from : World) (s : State) (a : Source) (width : Width) (x label to_first to_rest : ℕ) (case : Case) (first rest : List Item) (k : ℕ)
+      (d : Machine) → Among z.code k (If Hi label ∷ first ++ Label label ∷ rest) → Seeks from s a width x d
+      → holds Hi d.registers.flags ≡ nat_lt case.word x
+      → ((m : Machine) → Seeks from s a width x m → Reaches z from (air.At to_first s) (k + 1) m)
+      → ((m : Machine) → Seeks from s a width x m → Reaches z from (air.At to_rest s) (k + 1 + length first + 1) m)
+      → Reaches z from (air.At (if nat_lt case.word x then to_rest else to_first) s) k d
+  half_reaches from s a width x label to_first to_rest case first rest k d among seeks higher first_goes rest_goes =
+      let there : slice_get z.code k ≡ Some (If Hi label) =
+      ap (slice_get z.code) (omega arith) ∙ among_first z.code k (If Hi label ∷ first) (Label label ∷ rest) among 0 (If Hi label) refl in
+      let l : ℕ = k + 1 + length first in
+      let at : slice_get z.code l ≡ Some (Label label) =
+      ap (slice_get z.code) (omega arith) ∙ among_rest z.code k (If Hi label ∷ first) (Label label ∷ rest) among 0 (Label label) refl in
+      let step = branch_goes z set serves (Compare Hi) true width 0 k label d (nat_lt case.word x) higher there in
+      let proper = item_proper z set serves s k d (If Hi label) there tt seeks.related in
+      elim (nat_lt case.word x) as (λ b. run.item_step (meaning_of z) z.code (run.At k d) ≡ run.At (if b then position_of z.code label else k + 1) d
+      → Reaches z from (air.At (if b then to_rest else to_first) s) k d) [
+        | true ↦ λ step.
+            let over = label_runs z set serves s l label d at seeks.related in
+            leads_over z from (air.At to_rest s) k l d (omega arith) proper (step ∙ ap (λ j. run.At j d) (placed l label at))
+            (leads_on z from (air.At to_rest s) l 1 d d over
+            (rest_goes over.last (alike_seeks from s a width x d over.last over.alike (over.small seeks.related.frame.words.pc) seeks)))
+        | false ↦ λ step.
+            let on = one_runs z set serves s k d (If Hi label) there tt step seeks.related in
+            leads_on z from (air.At to_first s) k 1 d d on
+            (first_goes on.last (alike_seeks from s a width x d on.last on.alike (on.small seeks.related.frame.words.pc) seeks))
+      ] step
+
+  search_reaches : (from : World) (s : State) (a : Source) (width : Width) (x other next label : ℕ) (t : Tree Case) (k : ℕ) (c : Machine)
+      → other < length z.procedure.blocks → length z.procedure.blocks ≤ label → Each (IsCaseOf (length z.procedure.blocks) width) (in_order t)
+      → Among z.code k (search_items width (reg_of a) other next label t)
+      → NextAt z next (k + length (search_items width (reg_of a) other next label t)) → Seeks from s a width x c
+      → Reaches z from (air.At (led other x t) s) k c
+  unfolding search_items in_order led
+  search_reaches from s a width x other next label (Leaf cases) k c within above are among at seeks =
+      cases_reach from s a width x other next cases k c within are among at seeks
+  search_reaches from s a width x other next label (Node before case behind) k c within above are among at seeks =
+      let front : List Item = plains (compare_word width (reg_of a) case.word) in
+      let branch : List Item = If Eq case.target ∷ [] in
+      let first : List Item = search_items width (reg_of a) other label (label + 1) before in
+      let own : ℕ = label + 1 + node_count before in
+      let rest : List Item = search_items width (reg_of a) other next own behind in
+      let are_first = each_left (IsCaseOf (length z.procedure.blocks) width) (in_order before) (case ∷ in_order behind) are in
+      let are_rest = each_right (IsCaseOf (length z.procedure.blocks) width) (in_order before) (case ∷ in_order behind) are in
+      let halves : List Item = If Hi label ∷ first ++ Label label ∷ rest in
+      let whole : (front ++ If Eq case.target ∷ If Hi label ∷ first) ++ Label label ∷ rest ≡ front ++ If Eq case.target ∷ halves =
+      append_assoc front (If Eq case.target ∷ If Hi label ∷ first) (Label label ∷ rest) in
+      let parts : front ++ If Eq case.target ∷ halves ≡ (front ++ branch) ++ halves = sym (append_assoc front branch halves) in
+      let here : Among z.code k (front ++ If Eq case.target ∷ halves) = subst (Among z.code k) whole among in
+      let j : ℕ = k + length (front ++ branch) in
+      let both : Among z.code j halves = among_rest z.code k (front ++ branch) halves (subst (Among z.code k) parts here) in
+      let count_all : length ((front ++ If Eq case.target ∷ If Hi label ∷ first) ++ Label label ∷ rest) ≡ length (front ++ branch) + length halves =
+      ap (λ (xs : List Item). length xs) (whole ∙ parts) ∙ length-append (front ++ branch) halves in
+      let count_halves = length-append (If Hi label ∷ first) (Label label ∷ rest) in
+      let first_there : Among z.code (j + 1) first =
+      among_rest z.code j (If Hi label ∷ []) first (among_first z.code j (If Hi label ∷ first) (Label label ∷ rest) both) in
+      let l : ℕ = j + 1 + length first in
+      let l_is : j + length (If Hi label ∷ first) + length (Label label ∷ []) ≡ l + 1 = omega arith in
+      let rest_there : Among z.code (l + 1) rest =
+      subst (λ n. Among z.code n rest) l_is
+      (among_rest z.code (j + length (If Hi label ∷ first)) (Label label ∷ []) rest (among_rest z.code j (If Hi label ∷ first) (Label label ∷ rest) both)) in
+      let e : k + length ((front ++ If Eq case.target ∷ If Hi label ∷ first) ++ Label label ∷ rest) ≡ l + 1 + length rest = omega arith in
+      compare_reaches from s a width x case halves k (if nat_lt case.word x then led other x behind else led other x before) c are_rest.0 here seeks
+      (λ d seeks_d higher. half_reaches from s a width x label (led other x before) (led other x behind) case first rest j d both seeks_d higher
+      (λ m seeks_m. search_reaches from s a width x other label (label + 1) before (j + 1) m within (omega arith) are_first first_there
+      (no_next label (j + 1 + length first) above) seeks_m)
+      (λ m seeks_m. search_reaches from s a width x other next own behind (l + 1) m within (omega arith) are_rest.1 rest_there
+      (subst (λ n. NextAt z next n) e at) seeks_m))
+
+  -- a Switch on a word leads to the target of its case
+  pub switch_reaches : (from : World) (s : State) (a : Source) (width : Width) (x next label : ℕ) (cases targets_of : List ℕ) (k : ℕ) (c : Machine)
+      → length targets_of ≡ suc (length cases) → AllWithin z targets_of → length z.procedure.blocks ≤ label
+      → Among z.code k (switch_items width (reg_of a) next label cases targets_of)
+      → NextAt z next (k + length (switch_items width (reg_of a) next label cases targets_of)) → Seeks from s a width x c
+      → Reaches z from (air.At (get_or targets_of (case_number width x cases) 0) s) k c
+  switch_reaches from s a width x next label cases targets_of k c count within above among at seeks =
+      let ordered : List Case = cases_in_order width cases targets_of in
+      let other : ℕ = get_or targets_of (length cases) 0 in
+      let last = within (length cases) (omega arith) in
+      let are = cases_lead (length z.procedure.blocks) width cases targets_of (omega arith) within in
+      subst (λ to. Reaches z from (air.At to s) k c) (search_leads width x cases targets_of)
+      (search_reaches from s a width x other next label (tree ordered) k c last above
+      (subst (Each (IsCaseOf (length z.procedure.blocks) width)) (sym (tree_order ordered)) are) among at seeks)
 
   switches_to : (i : AirInst) (s : State) (cases : List ℕ) (width : Width) (x : ℕ) → i.op ≡ op.Switch cases
       → meaning z.start (operation i) ((width, x) ∷ []) s.world ≡ Some (record { results = []; world = s.world; exit = Some (To (case_number width x cases)) })
@@ -253,8 +389,8 @@ module _ (z : Setting) (set : IsSet z) (serves : IsFrameOf z.procedure z.frame) 
       → NextAt z next (k + length (SwitchCode next label cases targets_of i.operands))
       → (next < length z.procedure.blocks → place z.code z.long (k + length (SwitchCode next label cases targets_of i.operands)) < place z.code z.long
       (length z.code))
-      → IsRelated z s c → Ends z targets_of i s k c
-  switch_ends i s cases targets_of next label k c width is fits usable count within among at ahead rel =
+      → length z.procedure.blocks ≤ label → IsRelated z s c → Ends z targets_of i s k c
+  switch_ends i s cases targets_of next label k c width is fits usable count within among at ahead above rel =
       let os = one_there (Word width NoImmediate) i.operands fits in
       let a : Operand = os.0 in
       let usable_a : IsUsable z a.arg = usable 0 a (ap (λ (xs : List Operand). slice_get xs 0) os.1) in
@@ -296,8 +432,14 @@ module _ (z : Setting) (set : IsSet z) (serves : IsFrameOf z.procedure z.frame) 
             (switches_to i s cases a.width x is)
             (slice_get-get_or targets_of number 0 (omega arith));
         reaches = leads_on z s.world (air.At to s) k (length insts) c m runs
-            (switch_reaches s.world s source a.width x next label cases targets_of (k + length insts) last count within behind
-            (subst (λ j. NextAt z next j) e at_here) (refl, refl) rel_last is_a
-            (source_differs z 15 16 a.arg scratch_16 (λ e. omega arith) usable_a) gives);
+            (switch_reaches s.world s source a.width x next label cases targets_of (k + length insts) last count within above behind
+            (subst (λ j. NextAt z next j) e at_here)
+            (record {
+              since = (refl, refl);
+              related = rel_last;
+              register = is_a;
+              differs = source_differs z 15 16 a.arg scratch_16 (λ e. omega arith) usable_a;
+              gives = gives;
+            }));
       })
       (one_read s.homes i a os.1 os.2.0)

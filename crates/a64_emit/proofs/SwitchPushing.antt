@@ -1,59 +1,73 @@
--- How the code of a Switch grows by that of one case more.
-use Rattle.std.proofs.Common.{◌≡◌, ℕ, zero, suc, ◌+◌, ◌≤◌, List, [], ◌∷◌, ◌++◌, Some, refl, sym, ap, ◌∙◌, arith, length, drop, append_assoc, append-nil}
-use Rattle.std.specs.Prelude.{slice_get}
+-- How the code of a search grows.
+use Rattle.std.proofs.Common.{◌≡◌, ℕ, ◌+◌, ◌/◌, ◌<◌, ◌≤◌, List, [], ◌∷◌, ◌++◌, sym, ap, ◌∙◌, length, get_or, take, drop, append_assoc, append-nil}
+use Rattle.std.proofs.lemmas.List.{drop_all, drop_more}
 use Rattle.b3_base.specs.declared.word.Width.{Width}
-use Rattle.a64_inst.specs.declared.inst.Cond.TheVariants.{Eq}
+use Rattle.a64_inst.specs.declared.inst.Cond.TheVariants.{Eq, Hi}
 use Rattle.a64_inst.specs.declared.item.Item.{Item}
-use Rattle.a64_inst.specs.declared.item.Item.TheVariants.{If}
-use Rattle.a64_emit.specs.Code.{jump_to}
+use Rattle.a64_inst.specs.declared.item.Item.TheVariants.{If, Label}
 use Rattle.a64_emit.specs.Places.{plains}
-use Rattle.a64_emit.specs.Switched.{compare_case, switch_items}
+use Rattle.a64_emit.specs.Switched.{case_items, compare_word, jump_to, search_items}
+use Rattle.a64_emit.specs.Trees.{Tree, node_count, tree}
+use Rattle.a64_emit.specs.declared.case.Case.{Case}
+use Rattle.a64_emit.proofs.Trees.{from_half, tree_few, tree_more}
 
-dropped : (xs : List ℕ) (k x : ℕ) → slice_get xs k ≡ Some x → drop k xs ≡ x ∷ drop (suc k) xs
-dropped [] k x there = absurd cc
-dropped (a ∷ xs) zero x there = let same : a ≡ x = cc in ap (λ y. y ∷ xs) same
-dropped (a ∷ xs) (suc k) x there = dropped xs k x there
+module _ (width : Width) (reg : ℕ) where
+  -- one case more
+  pub cases_next : (cases : List Case) (k : ℕ) (d : Case) (code between after whole : List Item) → code ++ case_items width reg (drop k cases) ≡ whole
+      → k < length cases → between ≡ code ++ plains (compare_word width reg (get_or cases k d).word)
+      → after ≡ between ++ If Eq (get_or cases k d).target ∷ [] → after ++ case_items width reg (drop (k + 1) cases) ≡ whole
+  unfolding case_items
+  cases_next cases k d code between after whole left lt compared branched =
+      let case : Case = get_or cases k d in
+      let compare : List Item = plains (compare_word width reg case.word) in
+      let rest : List Item = case_items width reg (drop (k + 1) cases) in
+      ap (λ (xs : List Item). xs ++ rest) (branched ∙ ap (λ (xs : List Item). xs ++ If Eq case.target ∷ []) compared)
+      ∙ append_assoc (code ++ compare) (If Eq case.target ∷ []) rest ∙ append_assoc code compare (If Eq case.target ∷ rest)
+      ∙ ap (λ (xs : List Case). code ++ case_items width reg xs) (sym (drop_more cases k d lt)) ∙ left
 
-none_left : (xs : List ℕ) (k : ℕ) → length xs ≤ k → drop k xs ≡ []
-none_left [] zero le = refl
-none_left [] (suc k) le = refl
-none_left (a ∷ xs) zero le = absurd (omega arith)
-none_left (a ∷ xs) (suc k) le = none_left xs k (omega arith)
+  pub cases_done : (cases : List Case) (k : ℕ) (code whole : List Item) → code ++ case_items width reg (drop k cases) ≡ whole → length cases ≤ k → code ≡ whole
+  unfolding case_items
+  cases_done cases k code whole left le =
+      sym (append-nil code) ∙ ap (λ (xs : List Case). code ++ case_items width reg xs) (sym (drop_all k cases le)) ∙ left
 
-one_more : (k : ℕ) → suc k ≡ k + 1
-one_more k = omega arith
+  module _ (other next label : ℕ) (cases : List Case) where
+    -- a few cases
+    pub search_few : (code between after : List Item) → length cases ≤ 3 → between ≡ code ++ case_items width reg cases → after ≡ between ++ jump_to next other
+        → after ≡ code ++ search_items width reg other next label (tree cases)
+    unfolding search_items
+    search_few code between after le pushed jumped =
+        jumped ∙ ap (λ (xs : List Item). xs ++ jump_to next other) pushed ∙ append_assoc code (case_items width reg cases) (jump_to next other)
+        ∙ ap (λ (t : Tree Case). code ++ search_items width reg other next label t) (sym (tree_few cases le))
 
-module _ (width : Width) (reg next label : ℕ) (cases targets : List ℕ) (code whole : List Item) (k : ℕ)
-    (left : code ++ switch_items width reg next label (drop k cases) (drop k targets) ≡ whole) where
-  pub switch_next : (case target : ℕ) (between after : List Item) → slice_get cases k ≡ Some case → slice_get targets k ≡ Some target
-      → between ≡ code ++ plains (compare_case width reg case) → after ≡ between ++ If Eq target ∷ []
-      → after ++ switch_items width reg next label (drop (k + 1) cases) (drop (k + 1) targets) ≡ whole
-  unfolding switch_items
-  switch_next case target between after case_there target_there compared branched =
-      let compare : List Item = plains (compare_case width reg case) in
-      let rest : List Item = switch_items width reg next label (drop (suc k) cases) (drop (suc k) targets) in
-      let whole_here : code ++ (compare ++ (If Eq target ∷ rest)) ≡ whole =
-      ap (λ cs. code ++ switch_items width reg next label cs (target ∷ drop (suc k) targets)) (sym (dropped cases k case case_there))
-      ∙ ap (λ ts. code ++ switch_items width reg next label (drop k cases) ts) (sym (dropped targets k target target_there)) ∙ left in
-      ap (λ n. after ++ switch_items width reg next label (drop n cases) (drop n targets)) (sym (one_more k))
-      ∙ ap (λ (xs : List Item). xs ++ rest) (branched ∙ ap (λ (xs : List Item). xs ++ If Eq target ∷ []) compared)
-      ∙ append_assoc (code ++ compare) (If Eq target ∷ []) rest ∙ append_assoc code compare (If Eq target ∷ rest) ∙ whole_here
-
-  pub switch_stops : (case : ℕ) → slice_get cases k ≡ Some case → length targets ≤ k → code ≡ whole
-  unfolding switch_items
-  switch_stops case case_there le =
-      sym (append-nil code) ∙ ap (λ cs. code ++ switch_items width reg next label cs []) (sym (dropped cases k case case_there))
-      ∙ ap (λ ts. code ++ switch_items width reg next label (drop k cases) ts) (sym (none_left targets k le)) ∙ left
-
-  pub switch_lacks : length cases ≤ k → length targets ≤ k → code ≡ whole
-  unfolding switch_items
-  switch_lacks le_cases le_targets =
-      sym (append-nil code) ∙ ap (λ cs. code ++ switch_items width reg next label cs []) (sym (none_left cases k le_cases))
-      ∙ ap (λ ts. code ++ switch_items width reg next label (drop k cases) ts) (sym (none_left targets k le_targets)) ∙ left
-
-  pub switch_falls : (target : ℕ) (after : List Item) → length cases ≤ k → slice_get targets k ≡ Some target → after ≡ code ++ jump_to next target
-      → after ≡ whole
-  unfolding switch_items
-  switch_falls target after le there jumped =
-      jumped ∙ ap (λ cs. code ++ switch_items width reg next label cs (target ∷ drop (suc k) targets)) (sym (none_left cases k le))
-      ∙ ap (λ ts. code ++ switch_items width reg next label (drop k cases) ts) (sym (dropped targets k target there)) ∙ left
+    -- a node: the case in the middle, those before it and those behind it
+    pub search_more : (d : Case) (code a b c e f after : List Item) (free : ℕ) (behind : List Case) → 3 < length cases
+        → behind ≡ drop (length cases / 2 + 1) cases
+        → a ≡ code ++ plains (compare_word width reg (get_or cases (length cases / 2) d).word) → b ≡ a ++ If Eq (get_or cases (length cases / 2) d).target ∷ []
+        → c ≡ b ++ If Hi label ∷ []
+        → e ≡ c ++ search_items width reg other label (label + 1) (tree (take (length cases / 2) cases))
+        → free ≡ label + 1 + node_count (tree (take (length cases / 2) cases))
+        → f ≡ e ++ Label label ∷ [] → after ≡ f ++ search_items width reg other next free (tree behind)
+        → after ≡ code ++ search_items width reg other next label (tree cases)
+    unfolding search_items
+    search_more d code a b c e f after free behind more rest_are a_is b_is c_is e_is free_is f_is after_is =
+        let case : Case = get_or cases (length cases / 2) d in
+        let before : List Case = take (length cases / 2) cases in
+        let rest : List Case = drop (length cases / 2 + 1) cases in
+        let compare : List Item = plains (compare_word width reg case.word) in
+        let first : List Item = search_items width reg other label (label + 1) (tree before) in
+        let own : ℕ = label + 1 + node_count (tree before) in
+        let second : List Item = search_items width reg other next own (tree rest) in
+        let front : List Item = ((code ++ compare) ++ If Eq case.target ∷ []) ++ If Hi label ∷ [] in
+        let c_at : c ≡ front =
+        c_is ∙ ap (λ (xs : List Item). xs ++ If Hi label ∷ []) (b_is ∙ ap (λ (xs : List Item). xs ++ If Eq case.target ∷ []) a_is) in
+        let front_first : front ++ first ≡ code ++ (compare ++ If Eq case.target ∷ If Hi label ∷ first) =
+        append_assoc ((code ++ compare) ++ If Eq case.target ∷ []) (If Hi label ∷ []) first
+        ∙ append_assoc (code ++ compare) (If Eq case.target ∷ []) (If Hi label ∷ first) ∙ append_assoc code compare (If Eq case.target ∷ If Hi label ∷ first) in
+        let e_at : e ≡ code ++ (compare ++ If Eq case.target ∷ If Hi label ∷ first) = e_is ∙ ap (λ (xs : List Item). xs ++ first) c_at ∙ front_first in
+        let second_is : search_items width reg other next free (tree behind) ≡ second =
+        ap (λ n. search_items width reg other next n (tree behind)) free_is ∙ ap (λ (xs : List Case). search_items width reg other next own (tree xs)) rest_are in
+        after_is ∙ ap (λ (xs : List Item). f ++ xs) second_is
+        ∙ ap (λ (xs : List Item). xs ++ second) (f_is ∙ ap (λ (xs : List Item). xs ++ Label label ∷ []) e_at)
+        ∙ append_assoc (code ++ (compare ++ If Eq case.target ∷ If Hi label ∷ first)) (Label label ∷ []) second
+        ∙ append_assoc code (compare ++ If Eq case.target ∷ If Hi label ∷ first) (Label label ∷ second)
+        ∙ ap (λ (t : Tree Case). code ++ search_items width reg other next label t) (sym (tree_more cases case rest more (from_half cases d more)))

@@ -3,16 +3,15 @@ use Rattle.std.proofs.Common.{◌≡◌, ℕ, suc, ◌+◌, ◌-◌, ◌*◌, �
 use Rattle.std.specs.Prelude.{nat_eq, if◌then◌else◌}
 use Rattle.std.specs.List.{sum_by}
 use Rattle.std.proofs.lemmas.List.Sums.{sum_by-append, sum_by-cons}
-use Rattle.b3_base.specs.Arithmetic.{low}
 use Rattle.b3_base.specs.declared.word.Width.{Width}
 use Rattle.b3_base.specs.declared.word.Width.TheVariants.{W64}
 use Rattle.stackmap.specs.declared.site.SavedRow.{SavedRow}
 use Rattle.a64_inst.specs.declared.inst.Cond.{Cond}
-use Rattle.a64_inst.specs.declared.inst.Cond.TheVariants.{Eq}
+use Rattle.a64_inst.specs.declared.inst.Cond.TheVariants.{Eq, Hi}
 use Rattle.a64_inst.specs.declared.inst.Inst.{Inst}
 use Rattle.a64_inst.specs.declared.inst.Inst.TheVariants.{AddSubImm, AddSubReg}
 use Rattle.a64_inst.specs.declared.item.Item.{Item}
-use Rattle.a64_inst.specs.declared.item.Item.TheVariants.{If, Jump}
+use Rattle.a64_inst.specs.declared.item.Item.TheVariants.{If, Jump, Label}
 use Rattle.air_ir.specs.Forms.{AllFit, Takes}
 use Rattle.air_ir.specs.Weight.{arg_words}
 use Rattle.air_ir.specs.declared.frame.Frame.{Frame}
@@ -21,11 +20,15 @@ use Rattle.air_ir.specs.declared.op.Test.TheVariants.{Compare, NonZero, Bit}
 use Rattle.air_ir.specs.declared.operand.Arg.{Arg}
 use Rattle.air_ir.specs.declared.operand.Operand.{Operand}
 use Rattle.a64_layout.specs.Branch.{size_of}
-use Rattle.a64_emit.specs.Code.{arg_at, branch_code, branch_item, branches, bring, compared, copy_code, copy_reg, fetch, fetch_tested, jump_to, put_result, result_reg, select_code, set_code, source_at, test_at, test_count, width_at}
+use Rattle.a64_emit.specs.Code.{arg_at, branch_code, branch_item, branches, bring, compared, copy_code, copy_reg, fetch, fetch_tested, put_result, result_reg, select_code, set_code, source_at, test_at, test_count, width_at}
 use Rattle.a64_emit.specs.Computing.{reg_of}
 use Rattle.a64_emit.specs.Constants.{constant}
 use Rattle.a64_emit.specs.Places.{above_sp, epilogue, leave, load_at, lower_sp, plains, prologue, restores, saves, store_at, unless_zero}
-use Rattle.a64_emit.specs.Switched.{compare_case, compare_word, is_sum_word, switch_items}
+use Rattle.a64_emit.specs.Switched.{case_items, cases_in_order, compare_word, is_sum_word, jump_to, search_items, switch_items}
+use Rattle.a64_emit.specs.Trees.{Leaf, Node, Tree, node_count, tree}
+use Rattle.a64_emit.specs.declared.case.Case.{Case}
+use Rattle.a64_emit.proofs.Sorting.{cases_length}
+use Rattle.a64_emit.proofs.Trees.{in_order, tree_order}
 use Rattle.a64_emit.specs.Computing.{sum_with}
 use Rattle.a64_emit.proofs.Sizes.{bring_most, constant_most, fetch_most, load_most, operand_words, place_least, plain_words, put_most, store_most, words_of}
 
@@ -69,18 +72,46 @@ case_most width reg word =
       | false ↦ omega arith
     ]
 
-switch_most : (width : Width) (reg next label : ℕ) (cases targets : List ℕ) → words_of (switch_items width reg next label cases targets) ≤ 7 * length cases + 1
-unfolding switch_items
-switch_most width reg next label [] [] = omega arith
-switch_most width reg next label [] (target ∷ targets) = jump_most next target
-switch_most width reg next label (case ∷ cases) [] = omega arith
-switch_most width reg next label (case ∷ cases) (target ∷ targets) =
-    let items : List Item = switch_items width reg next label cases targets in
-    let more = switch_most width reg next label cases targets in
-    let count = case_most width reg (low width case) in
-    let plain = plain_words (compare_case width reg case) in
-    let both = sum_by-append (size_of true) (plains (compare_case width reg case)) (If Eq target ∷ items) in
-    let sum = sum_by-cons (size_of true) (If Eq target) items in
+cases_most : (width : Width) (reg : ℕ) (cases : List Case) → words_of (case_items width reg cases) ≤ 7 * length cases
+unfolding case_items
+cases_most width reg [] = omega arith
+cases_most width reg (case ∷ cases) =
+    let items : List Item = case_items width reg cases in
+    let more = cases_most width reg cases in
+    let count = case_most width reg case.word in
+    let plain = plain_words (compare_word width reg case.word) in
+    let both = sum_by-append (size_of true) (plains (compare_word width reg case.word)) (If Eq case.target ∷ items) in
+    let sum = sum_by-cons (size_of true) (If Eq case.target) items in
+    omega arith
+
+search_most : (width : Width) (reg other next label : ℕ) (t : Tree Case) → words_of (search_items width reg other next label t) ≤ 10 * length (in_order t) + 1
+unfolding search_items in_order
+search_most width reg other next label (Leaf cases) =
+    let most = cases_most width reg cases in
+    let jump = jump_most next other in
+    let both = sum_by-append (size_of true) (case_items width reg cases) (jump_to next other) in
+    omega arith
+search_most width reg other next label (Node before case behind) =
+    let compare : List Item = plains (compare_word width reg case.word) in
+    let first : List Item = search_items width reg other label (label + 1) before in
+    let rest : List Item = search_items width reg other next (label + 1 + node_count before) behind in
+    let most_first = search_most width reg other label (label + 1) before in
+    let most_rest = search_most width reg other next (label + 1 + node_count before) behind in
+    let count = case_most width reg case.word in
+    let plain = plain_words (compare_word width reg case.word) in
+    let parts = sum_by-append (size_of true) (compare ++ If Eq case.target ∷ If Hi label ∷ first) (Label label ∷ rest) in
+    let front = sum_by-append (size_of true) compare (If Eq case.target ∷ If Hi label ∷ first) in
+    let equal = sum_by-cons (size_of true) (If Eq case.target) (If Hi label ∷ first) in
+    let high = sum_by-cons (size_of true) (If Hi label) first in
+    let here = sum_by-cons (size_of true) (Label label) rest in
+    let long = length-append (in_order before) (case ∷ in_order behind) in
+    omega arith
+
+switch_most : (width : Width) (reg next label : ℕ) (cases targets : List ℕ) → words_of (switch_items width reg next label cases targets) ≤ 10 * length cases + 1
+switch_most width reg next label cases targets =
+    let most = search_most width reg (get_or targets (length cases) 0) next label (tree (cases_in_order width cases targets)) in
+    let same = ap (λ (xs : List Case). length xs) (tree_order (cases_in_order width cases targets)) in
+    let long = cases_length width cases targets in
     omega arith
 
 -- ---- lists of some operands

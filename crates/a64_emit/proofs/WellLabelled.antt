@@ -1,61 +1,25 @@
--- The labels of emitted code are its blocks', each once, and each that is named is there.
-use Rattle.std.proofs.Common.{◌≡◌, ℕ, zero, suc, ◌+◌, ◌^◌, ◌<◌, Bool, true, false, cond, List, [], ◌∷◌, ◌++◌, Option, Some, None, length, get_or, refl, sym, ◌∙◌, subst, arith}
+-- The labels of emitted code are the numbers below their count, each once, and each that is named is there.
+use Rattle.std.proofs.Common.{◌≡◌, ℕ, zero, suc, ◌^◌, ◌<◌, false, List, [], ◌∷◌, Option, Some, None, refl, subst, arith}
 use Rattle.std.specs.Prelude.{All, slice_get}
-use Rattle.std.specs.List.{count_by, sum_by}
-use Rattle.std.proofs.lemmas.List.Sums.{sum_by-append, sum_by-cons}
-use Rattle.std.proofs.lemmas.Option.{slice_get-get_or, slice_get_within}
+use Rattle.std.proofs.lemmas.Option.{slice_get_within}
 use Rattle.exit_table.specs.Good.{IsGoodSaved}
 use Rattle.a64_inst.specs.declared.item.Item.{Item}
 use Rattle.a64_inst.specs.declared.item.Item.TheVariants.{If, IfBit, IfZero, Jump, Label, Mark, Plain}
 use Rattle.air_ir.specs.WellFormed.{IsWellFormed}
 use Rattle.air_ir.specs.declared.frame.Frame.{Frame}
-use Rattle.air_ir.specs.declared.procedure.AirBlock.{AirBlock}
 use Rattle.air_ir.specs.declared.procedure.AirProc.{AirProc}
 use Rattle.a64_layout.specs.Branch.{IsTest, branch_in}
 use Rattle.a64_layout.specs.Layout.{most_words, position_of}
 use Rattle.a64_layout.specs.Run.{mark_before, mark_in}
-use Rattle.a64_layout.specs.Text.{IsWellLabelled, is_any_label, is_any_mark, label_count, mark_count}
+use Rattle.a64_layout.specs.Text.{IsWellLabelled, is_any_mark, mark_count}
 use Rattle.a64_layout.specs.declared.branch.Test.{Test}
 use Rattle.a64_layout.specs.declared.branch.Test.TheVariants.{Holds, Zero, Bit}
 use Rattle.a64_layout.proofs.Least.{no_some, one_branch}
-use Rattle.a64_emit.specs.Code.{block_labels, blocks_items, emitted, insts_items}
-use Rattle.a64_emit.specs.Places.{plains, prologue}
+use Rattle.a64_emit.specs.Code.{emitted}
+use Rattle.a64_emit.proofs.LabelCounts.{all_labels, below_is, below_most, code_times, count_none, labels_counted, one_place, some_times, stands_somewhere}
 use Rattle.a64_emit.proofs.Labelled.{IsFair, code_fair}
-use Rattle.a64_emit.proofs.Positions.{BlockStands, Each, block_stands, each_at, insts_inner, plains_inner}
-
--- ---- counts
-
-none_more : (b : Bool) (n : ℕ) → b ≡ false → n ≡ 0 → cond b 1 0 + n ≡ 0
-none_more false n e none = omega arith
-none_more true n e none = absurd cc
-
-count_none : (p : Item → Bool) (items : List Item) → Each (λ item. p item ≡ false) items → count_by p items ≡ 0
-count_none p [] none = refl
-count_none p (item ∷ items) none =
-    sum_by-cons (λ item. cond (p item) 1 0) item items ∙ none_more (p item) (sum_by (λ item. cond (p item) 1 0) items) none.0 (count_none p items none.1)
-
-count_blocks : (f : Frame) (first label : ℕ) (blocks : List AirBlock) → count_by is_any_label (blocks_items f first label blocks) ≡ length blocks
-unfolding blocks_items
-count_blocks f first label [] = refl
-count_blocks f first label (block ∷ blocks) =
-    let inside : List Item = insts_items f (first + 1) label block.targets block.insts in
-    let rest : List Item = blocks_items f (first + 1) (label + block_labels block) blocks in
-    let more = count_blocks f (first + 1) (label + block_labels block) blocks in
-    let none = count_none is_any_label inside (insts_inner f (first + 1) label block.targets block.insts) in
-    let both = sum_by-append (λ item. cond (is_any_label item) 1 0) inside rest in
-    let total = sum_by-cons (λ item. cond (is_any_label item) 1 0) (Label first) (inside ++ rest) in
-    omega arith
-
--- its labels are as many as the blocks
-pub labels_counted : (p : AirProc) (f : Frame) → label_count (emitted p f) ≡ length p.blocks
-unfolding emitted
-labels_counted p f =
-    let front : List Item = plains (prologue f) in
-    let rest : List Item = blocks_items f 0 (length p.blocks) p.blocks in
-    let none = count_none is_any_label front (plains_inner (prologue f)) in
-    let more = count_blocks f 0 (length p.blocks) p.blocks in
-    let both = sum_by-append (λ item. cond (is_any_label item) 1 0) front rest in
-    omega arith
+use Rattle.a64_emit.proofs.Positions.{each_at}
+use Rattle.a64_emit.proofs.Trees.{Each}
 
 no_mark : (n : ℕ) (item : Item) → IsFair n item → is_any_mark item ≡ false
 no_mark n (Plain inst) fair = refl
@@ -90,11 +54,11 @@ fair_branch n test label (Some (Label to)) fair is = absurd (no_some (test, labe
 fair_branch n test label (Some (Mark to)) fair is = absurd (no_some (test, label) is)
 
 module _ (p : AirProc) (f : Frame) (well : IsWellFormed p) (limit : f.bytes < 2 ^ 21) (goods : All (IsGoodSaved f.bytes) f.saved) where
-  fair_at : (k : ℕ) (item : Item) → slice_get (emitted p f) k ≡ Some item → IsFair (length p.blocks) item
-  fair_at k item there = each_at (IsFair (length p.blocks)) (emitted p f) k item (code_fair p f well limit goods) there
+  fair_at : (k : ℕ) (item : Item) → slice_get (emitted p f) k ≡ Some item → IsFair (all_labels p) item
+  fair_at k item there = each_at (IsFair (all_labels p)) (emitted p f) k item (code_fair p f well limit goods) there
 
   pub marks_none : mark_count (emitted p f) ≡ 0
-  marks_none = count_none is_any_mark (emitted p f) (no_marks (length p.blocks) (emitted p f) (code_fair p f well limit goods))
+  marks_none = count_none is_any_mark (emitted p f) (no_marks (all_labels p) (emitted p f) (code_fair p f well limit goods))
 
   never_mark : (k mark : ℕ) → slice_get (emitted p f) k ≡ Some (Mark mark) → ⊥
   never_mark k mark there = fair_at k (Mark mark) there
@@ -112,12 +76,25 @@ module _ (p : AirProc) (f : Frame) (well : IsWellFormed p) (limit : f.bytes < 2 
   -- no mark stands before an item
   pub unmarked : (k : ℕ) → mark_before (emitted p f) k ≡ None
   unmarked zero = refl
-  unmarked (suc k) = not_marked (length p.blocks) (slice_get (emitted p f) k) (λ item there. fair_at k item there)
+  unmarked (suc k) = not_marked (all_labels p) (slice_get (emitted p f) k) (λ item there. fair_at k item there)
 
-  stands_at : (label : ℕ) → label < length p.blocks → BlockStands p f label (get_or p.blocks label (record { insts = []; targets = [] }))
-  stands_at label lt =
-      let none : AirBlock = record { insts = []; targets = [] } in
-      block_stands p f label (get_or p.blocks label none) (slice_get-get_or p.blocks label none lt)
+  label_once : (i j label : ℕ) → slice_get (emitted p f) i ≡ Some (Label label) → slice_get (emitted p f) j ≡ Some (Label label) → i ≡ j
+  label_once i j label there_i there_j =
+      let times = code_times p f label well in
+      let most = below_most (all_labels p) label in
+      one_place label (emitted p f) i j (omega arith) there_i there_j
+
+  label_at : (label : ℕ) → label < all_labels p → slice_get (emitted p f) (position_of (emitted p f) label) ≡ Some (Label label)
+  label_at label lt =
+      let times = code_times p f label well in
+      let one = below_is (all_labels p) label lt in
+      stands_somewhere label (emitted p f) (omega arith)
+
+  -- where a label stands, there is its position
+  pub position_is : (k label : ℕ) → slice_get (emitted p f) k ≡ Some (Label label) → position_of (emitted p f) label ≡ k
+  position_is k label there =
+      let times = some_times label (emitted p f) k there in
+      label_once (position_of (emitted p f) label) k label (stands_somewhere label (emitted p f) times) there
 
   pub well_labelled : most_words (emitted p f) < 2 ^ 24 → IsWellLabelled (emitted p f)
   well_labelled short =
@@ -125,17 +102,14 @@ module _ (p : AirProc) (f : Frame) (well : IsWellFormed p) (limit : f.bytes < 2 
       let none = marks_none in
       record {
         insts = λ k inst there. fair_at k (Plain inst) there;
-        tests = λ k test label is. (fair_branch (length p.blocks) test label (slice_get (emitted p f) k) (λ item there. fair_at k item there) is).0;
+        tests = λ k test label is. (fair_branch (all_labels p) test label (slice_get (emitted p f) k) (λ item there. fair_at k item there) is).0;
         jumps = λ k label there. let lt = fair_at k (Jump label) there in omega arith;
-        ifs = λ k test label is. let lt = (fair_branch (length p.blocks) test label (slice_get (emitted p f) k)
+        ifs = λ k test label is. let lt = (fair_branch (all_labels p) test label (slice_get (emitted p f) k)
             (λ item there. fair_at k item there) is).1 in omega arith;
         labels = λ k label there. let lt = fair_at k (Label label) there in omega arith;
-        label_once = λ i j label there_i there_j.
-            let stands = stands_at label (fair_at i (Label label) there_i) in
-            stands.only i there_i ∙ sym (stands.only j there_j);
+        label_once = label_once;
         label_there = λ label lt.
-            let stands = stands_at label (omega arith) in
-            slice_get_within (emitted p f) (position_of (emitted p f) label) (Label label) stands.label;
+            slice_get_within (emitted p f) (position_of (emitted p f) label) (Label label) (label_at label (omega arith));
         marks = λ k mark there. absurd (never_mark k mark there);
         mark_once = λ i j mark there_i there_j. absurd (never_mark i mark there_i);
         mark_there = λ mark lt. absurd (omega arith);

@@ -7,7 +7,7 @@ use Rattle.a64_inst.specs.declared.inst.AccessKind.{AccessKind}
 use Rattle.a64_inst.specs.declared.inst.Inst.{Inst}
 use Rattle.a64_inst.specs.declared.inst.Inst.TheVariants.{AccessIndex, Break, Nop, Select}
 use Rattle.a64_inst.specs.declared.item.Item.{Item}
-use Rattle.a64_inst.specs.declared.item.Item.TheVariants.{If, IfBit, IfZero, Jump, Label, Plain}
+use Rattle.a64_inst.specs.declared.item.Item.TheVariants.{If, IfBit, IfZero, Label, Plain}
 use Rattle.a64_layout.specs.Branch.{opposite_cond}
 use Rattle.air_ir.specs.declared.frame.Frame.{Frame}
 use Rattle.air_ir.specs.declared.op.AirOp.{AirOp}
@@ -28,7 +28,7 @@ use Rattle.a64_emit.specs.Accesses.{access_kind, below_x29, offset_access}
 use Rattle.a64_emit.specs.Computing.{computing, condition, move_reg, reg_of, takes_two, testing}
 use Rattle.a64_emit.specs.Constants.{constant}
 use Rattle.a64_emit.specs.Places.{above_sp, epilogue, load_at, plains, prologue, spill_offset, store_at}
-use Rattle.a64_emit.specs.Switched.{switch_items, switch_labels}
+use Rattle.a64_emit.specs.Switched.{jump_to, switch_items, switch_labels}
 
 -- ---- operands
 
@@ -175,10 +175,6 @@ inst_code f op.FramePointer os = frame_address f 0 (arg_at os 0)
 inst_code f op os = compute_code f op os
 
 -- ---- terminals
-
--- a jump to a block, which costs no word where it is the next one
-abbrev pub jump_to : ℕ → ℕ → List Item
-jump_to next label = if nat_eq label next then [] else Jump label ∷ []
 
 -- a branch to a label where a test passes, or where it doesn't
 abbrev pub branch_item : Test → Bool → Width → ℕ → ℕ → Item

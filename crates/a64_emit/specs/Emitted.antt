@@ -31,7 +31,7 @@ use Rattle.a64_emit.specs.Related.{IsRelated}
 -- ---- moments
 
 -- an instruction that is done there touches of the frame only bytes that are there, at SP or above, before and after; it
--- leaves x18, and is no return to the caller
+-- leaves x18
 pub record IsSafe (z : Setting) (c : Machine) (inst : Inst) : Type 0 where
   pub there : (at n i : ℕ) → touched inst c.registers ≡ Some (at, n) → i < n
       → in_frame (row z) z.entry (byte_address at i) ≡ true

@@ -1,4 +1,4 @@
--- Which constants the sources of ops may be. No public clause cites this module.
+-- Which constants the sources of ops may be, and that the cases of a Switch differ. No public clause cites this module.
 use Rattle.std.specs.Prelude.{◌≡◌, true, ◌+◌, ◌^◌, ◌<◌, List, All, length, sum_by}
 use Rattle.b3_base.specs.Word.{bits}
 use Rattle.b3_base.specs.declared.word.Width.{Width}
@@ -17,6 +17,7 @@ use Rattle.air_ir.specs.declared.procedure.AirInst.{AirInst}
 use Rattle.air_ir.specs.declared.procedure.AirProc.{AirProc}
 use Rattle.a64_emit.specs.Accesses.{access_kind}
 use Rattle.a64_emit.specs.Code.{arg_at, block_labels, source_at, width_at}
+use Rattle.a64_emit.specs.Switched.{AreDifferent}
 use Rattle.a64_emit.specs.declared.source.Source.{Source}
 use Rattle.a64_emit.specs.declared.source.Source.TheVariants.{InReg, Constant}
 
@@ -70,6 +71,7 @@ IsFitting op.Load os = IsLoaded op.Load os
 IsFitting op.Store8 os = IsStored op.Store8 os
 IsFitting op.Store16 os = IsStored op.Store16 os
 IsFitting op.Store os = IsStored op.Store os
+IsFitting (op.Switch cases) os = AreDifferent (width_at os 0) cases
 IsFitting op os = IsComputed op (width_at os 0) (source_at os 1 16)
 
 abbrev pub IsFittingBlock : AirBlock → Type 0

@@ -1,6 +1,7 @@
 pub mod Places
 pub mod Constants
 pub mod Computing
+pub mod Trees
 pub mod Switched
 pub mod Accesses
 pub mod Code

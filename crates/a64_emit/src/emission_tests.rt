@@ -7,12 +7,13 @@ ghost use Rattle.a64_emit.specs.Sample as sample;
 
 use crate::accesses::offset_access;
 use crate::emit;
-use a64_inst::{AccessKind, Inst, Item};
+use crate::switched::push_switch;
+use a64_inst::{AccessKind, Cond, Inst, Item, Labelled};
 use air_frame::layout;
 use air_ir::{
     AirBlock, AirBlocks, AirInst, AirInsts, AirOp, AirProc, Arg, Home, Operand, Operands, Role,
 };
-use b3_base::{Ids, NoMemory, Width};
+use b3_base::{Ids, NoMemory, Width, Words};
 use b3_ir::Reg;
 use stackmap::Returns;
 use std::alloc::Global;
@@ -179,5 +180,48 @@ fn offsets_are_scaled_where_they_can_be(rt: HostRuntime) -> Result<(), Fail> {
     assert_eq!(rt; at(AccessKind::LdrW, 4096), scaled(AccessKind::LdrW, 1024));
     assert_eq!(rt; at(AccessKind::LdrX, 255), near(AccessKind::LdrX, 255));
     assert_eq!(rt; at(AccessKind::StrX, -256), near(AccessKind::StrX, -256));
+    Ok(())
+}
+
+fn compared(word: u32) -> Item {
+    Item::Plain(Inst::AddSubImm {
+        width: Width::W64,
+        sub: true,
+        flags: true,
+        rd: 31,
+        rn: 3,
+        imm12: word,
+        high: false,
+    })
+}
+
+#[test]
+fn a_switch_is_a_search_in_the_order_of_words(rt: HostRuntime) -> Result<(), Fail> {
+    let mut cases = Words::new(rt.alloc());
+    cases.push(50)?;
+    cases.push(10)?;
+    cases.push(30)?;
+    cases.push(20)?;
+    let mut targets = Ids::new(rt.alloc());
+    targets.push(1)?;
+    targets.push(2)?;
+    targets.push(3)?;
+    targets.push(4)?;
+    targets.push(5)?;
+    let mut code = Labelled::new(rt.alloc());
+    push_switch(rt.alloc(), &mut code, Width::W64, 3, 5, 6, &cases, &targets)?;
+    // 30 is a node, above 10 and 20 and below 50; behind 50 the block of the last target follows
+    assert_eq!(rt; code.len(), 11);
+    assert_eq!(rt; *code.get(0), compared(30));
+    assert_eq!(rt; *code.get(1), Item::If(Cond::Eq, 3));
+    assert_eq!(rt; *code.get(2), Item::If(Cond::Hi, 6));
+    assert_eq!(rt; *code.get(3), compared(10));
+    assert_eq!(rt; *code.get(4), Item::If(Cond::Eq, 2));
+    assert_eq!(rt; *code.get(5), compared(20));
+    assert_eq!(rt; *code.get(6), Item::If(Cond::Eq, 4));
+    assert_eq!(rt; *code.get(7), Item::Jump(5));
+    assert_eq!(rt; *code.get(8), Item::Label(6));
+    assert_eq!(rt; *code.get(9), compared(50));
+    assert_eq!(rt; *code.get(10), Item::If(Cond::Eq, 1));
     Ok(())
 }

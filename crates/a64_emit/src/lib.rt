@@ -2,6 +2,7 @@
 #![tactic(auto)]
 
 mod accesses;
+mod case;
 mod computing;
 mod constants;
 #[cfg(test)]

@@ -52,12 +52,17 @@ fn procedure_code(alloc: Global, p: &AirProc, frame: &Frame) -> Result<Labelled,
 {
     let mut code = Labelled::new(alloc);
     push_prologue(&mut code, frame)?;
-    push_blocks(&mut code, p, frame)?;
+    push_blocks(alloc, &mut code, p, frame)?;
     Ok(code)
 }
 
 /// The items of the blocks, in order.
-fn push_blocks(code: &mut Labelled, p: &AirProc, frame: &Frame) -> Result<(), NoMemory>
+fn push_blocks(
+    alloc: Global,
+    code: &mut Labelled,
+    p: &AirProc,
+    frame: &Frame,
+) -> Result<(), NoMemory>
     requires fits { All IsFittingBlock p.now.blocks }
     requires labels { AreFitting p.now }
     ensures { OnOk result (code.new ≡ code.old ++ blocks_items frame.now 0 (length p.now.blocks) p.now.blocks) }
@@ -67,7 +72,7 @@ fn push_blocks(code: &mut Labelled, p: &AirProc, frame: &Frame) -> Result<(), No
     for b in 0..count {
         let block = p.blocks.get(b as usize);
         code.push(Item::Label(b))?;
-        push_block(code, frame, b + 1, label, block)?;
+        push_block(alloc, code, frame, b + 1, label, block)?;
         label += block_labels(block);
     }
     Ok(())
@@ -75,24 +80,35 @@ fn push_blocks(code: &mut Labelled, p: &AirProc, frame: &Frame) -> Result<(), No
 
 /// The items of the instructions of a block, before the block `next`.
 fn push_block(
+    alloc: Global,
     code: &mut Labelled,
     frame: &Frame,
     next: u32,
     label: u32,
     block: &AirBlock,
 ) -> Result<(), NoMemory>
-    requires { IsFittingBlock block.now }
+    requires fits { IsFittingBlock block.now }
+    requires labels { label + block_labels block.now < 2 ^ 32 }
     ensures { OnOk result (code.new ≡ code.old
         ++ insts_items frame.now next label block.now.targets block.now.insts) }
 {
     for k in 0..block.insts.len() {
-        push_items(code, frame, next, label, &block.targets, block.insts.get(k))?;
+        push_items(
+            alloc,
+            code,
+            frame,
+            next,
+            label,
+            &block.targets,
+            block.insts.get(k),
+        )?;
     }
     Ok(())
 }
 
 /// How many labels an instruction has of its own.
 fn own_labels(op: &AirOp) -> u32
+    requires { own_labels op.now < 2 ^ 32 }
     ensures { result ≡ own_labels op.now }
 {
     match op {

@@ -1,9 +1,10 @@
 //! Instructions that end their block.
 
-ghost use Rattle.std.specs.Prelude.{◌≡◌, ◌++◌, ◌<◌, get_or, OnOk};
-ghost use Rattle.a64_emit.specs.Code.{branch_code, branch_item, branches, compared, inst_items, jump_to, source_at, test_at, width_at};
+ghost use Rattle.std.specs.Prelude.{◌≡◌, ◌+◌, ◌++◌, ◌^◌, ◌<◌, get_or, OnOk};
+ghost use Rattle.a64_emit.specs.Code.{branch_code, branch_item, branches, compared, inst_items, own_labels, source_at, test_at, width_at};
 ghost use Rattle.a64_emit.specs.Fitting.{IsFitting, IsTested};
 ghost use Rattle.a64_emit.specs.Places.{plains};
+ghost use Rattle.a64_emit.specs.Switched.{jump_to};
 
 use crate::computing::{opposite, reg_of};
 use crate::insts::{operand_at, push_fetch, push_inst, push_tested, source_at, test_at};
@@ -12,6 +13,7 @@ use crate::switched::push_switch;
 use a64_inst::{Inst, Item, Labelled};
 use air_ir::{AirInst, AirOp, Frame, Operands, Test};
 use b3_base::{Ids, NoMemory, Width};
+use std::alloc::Global;
 
 /// Target k of a block; 0 where there is none.
 pub(crate) fn target_at(targets: &Ids, k: usize) -> u32
@@ -111,6 +113,7 @@ fn push_branch(
 /// `label` on.
 #[tactic(auto, unfolding(crate::specs::Code::inst_items))]
 pub(crate) fn push_items(
+    alloc: Global,
     code: &mut Labelled,
     frame: &Frame,
     next: u32,
@@ -118,7 +121,8 @@ pub(crate) fn push_items(
     targets: &Ids,
     inst: &AirInst,
 ) -> Result<(), NoMemory>
-    requires { IsFitting inst.now.op inst.now.operands }
+    requires fits { IsFitting inst.now.op inst.now.operands }
+    requires labels { label + own_labels inst.now.op < 2 ^ 32 }
     ensures { OnOk result (code.new ≡ code.old
         ++ inst_items frame.now next label targets.now inst.now.op inst.now.operands) }
 {
@@ -129,7 +133,7 @@ pub(crate) fn push_items(
             push_fetch(code, frame, 15, operand_at(&inst.operands, 0).arg)?;
             let width = operand_at(&inst.operands, 0).width;
             let reg = reg_of(source_at(&inst.operands, 0, 15));
-            push_switch(code, width, reg, next, label, cases, targets)
+            push_switch(alloc, code, width, reg, next, label, cases, targets)
         }
         AirOp::Return => push_epilogue(code, frame),
         AirOp::Oops => push(code, Inst::Break { imm: 3 }),

@@ -19,3 +19,6 @@ loop-b-preserved c = record {
 
 pub returns : goal.returns
 returns c = blocks_done c.args.frame.now c.args.p.now.blocks c.loop-b.b c.loop-b.label c.loop-b.code _ c.loop-b.invariant.whole (omega (arith, c.len-count.ensures))
+
+pub push_block-requires-clause-labels : goal.push_block-requires-clause-labels
+push_block-requires-clause-labels c = omega (arith, labels_left c.args.p.now.blocks c.loop-b.b c.get-block.result.now c.get-block.ensures, c.requires.labels, c.loop-b.invariant.labels)
