@@ -158,6 +158,7 @@ fn a_load_and_a_store_are_selected(rt: HostRuntime) -> Result<(), Fail> {
     match validate(alloc, made) {
         Ok(valid) => {
             let q = select(alloc, &valid, 0)?;
+            assert_eq!(rt; q.blocks.len(), 2);
             let insts = &q.blocks.get(1).insts;
             // the address of the slot; the load; the far offset, the sum and the store; and the return in x0
             assert_eq!(rt; insts.len(), 7);
