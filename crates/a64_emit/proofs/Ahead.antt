@@ -97,7 +97,7 @@ jump_words next label lt =
     let no : nat_eq label next ≡ false = ne_eqb label next (λ e. omega arith) in
     subst (λ b. HasWords (if b then [] else Jump label ∷ [])) (sym no) (words_first (Jump label) [] (λ long. omega arith))
 
-if_size : (cond : Cond) (label : ℕ) (long : Bool) → 1 ≤ size_in long (Some (If cond label))
+pub if_size : (cond : Cond) (label : ℕ) (long : Bool) → 1 ≤ size_in long (Some (If cond label))
 if_size cond label true = omega arith
 if_size cond label false = omega arith
 

@@ -32,7 +32,7 @@ use Rattle.a64_emit.proofs.Computes.{Carried}
 use Rattle.a64_emit.proofs.Endings.{Ends, ReachesUnlessLost, among_plains}
 use Rattle.a64_emit.proofs.Instructions.{AreOpen, inst_runs}
 use Rattle.a64_emit.proofs.Positions.{Among, among_first, among_rest, length_plains}
-use Rattle.a64_emit.proofs.Straight.{Runs, leads_by, leads_on, straight_runs, Reaches, runs_more, runs_none}
+use Rattle.a64_emit.proofs.Straight.{Reaches, Runs, leads_by, leads_on, straight_runs}
 
 -- the items of an instruction that doesn't end its block
 inner_items : (f : Frame) (next label : ℕ) (targets : List ℕ) (o : AirOp) (os : List Operand) → target_count o ≡ None

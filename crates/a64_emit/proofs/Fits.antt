@@ -23,7 +23,7 @@ use Rattle.air_ir.specs.WellFormed.{IsGoodInst, IsWellFormed}
 use Rattle.a64_emit.specs.Accesses.{access_kind}
 use Rattle.a64_emit.specs.Code.{source_at, source_of, width_at}
 use Rattle.a64_emit.specs.Switched.{AreDifferent}
-use Rattle.a64_emit.specs.Fitting.{FitsSource, IsFitting, IsFittingBlock, IsTested, IsLoaded, IsReached, IsStored}
+use Rattle.a64_emit.specs.Fitting.{FitsSource, IsFitting, IsFittingBlock, IsLoaded, IsReached, IsStored, IsTested}
 
 word_fits : (immediates : Immediates) (width : Width) (arg : Arg) (scratch : ℕ) → IsWord immediates width arg
     → FitsSource immediates width (source_of scratch arg)
@@ -59,11 +59,6 @@ branch_fits (Compare cond) width os fits = second_fits OfSum width [] os fits
 branch_fits NonZero width os fits = tt
 branch_fits (Bit k) width os fits = bit_fits width k [] os fits
 
-switch_fits : (width : Width) (cases : List ℕ) (os : List Operand) → AllFit (home width ∷ []) os → AreDifferent width cases → AreDifferent (width_at os 0) cases
-unfolding AllFit
-switch_fits width cases [] fits differ = absurd fits
-switch_fits width cases (a ∷ os) fits differ = subst (λ w. AreDifferent w cases) (sym fits.0.1) differ
-
 address_fits : (kind : AccessKind) (arg : Arg) → IsAddress (access_bytes kind) arg → IsReached kind arg
 address_fits kind (Addr base offset) is = is
 address_fits kind (Index base index shift) is = tt
@@ -94,6 +89,11 @@ word_store_fits : (width other : Width) (os : List Operand) → AreThese (takes 
 word_store_fits W32 other os fits = store_fits op.Store W32 StrW os refl fits
 word_store_fits W64 other os fits = store_fits op.Store W64 StrX os refl fits
 
+switch_fits : (width : Width) (cases : List ℕ) (os : List Operand) → AllFit (home width ∷ []) os → AreDifferent width cases → AreDifferent (width_at os 0) cases
+unfolding AllFit
+switch_fits width cases [] fits differ = absurd fits
+switch_fits width cases (a ∷ os) fits differ = subst (λ w. AreDifferent w cases) (sym fits.0.1) differ
+
 pub fitting : (r : Returns) (o : AirOp) (os : List Operand) → HasOperands r o os → IsFitting o os
 fitting r (op.SetIf t) os has = test_fits t has.0 _ os has.2
 fitting r (op.SelectIf t) os has = test_fits t has.0 _ os has.2
@@ -102,7 +102,6 @@ fitting r op.Add os has = second_fits OfSum has.0 _ os has.2
 fitting r op.And os has = second_fits OfLogic has.0 _ os has.2
 fitting r op.Or os has = second_fits OfLogic has.0 _ os has.2
 fitting r op.Xor os has = second_fits OfLogic has.0 _ os has.2
-fitting r (op.Switch cases) os has = switch_fits has.0 cases os has.1 has.2
 fitting r op.Load8Z os has = load_fits op.Load8Z W32 Ldrb os refl has.2
 fitting r op.Load8S os has = load_fits op.Load8S W32 Ldrsb os refl has.2
 fitting r op.Load16Z os has = load_fits op.Load16Z W32 Ldrh os refl has.2
@@ -111,6 +110,7 @@ fitting r op.Load os has = word_load_fits has.0 has.1 os has.2
 fitting r op.Store8 os has = store_fits op.Store8 W32 Strb os refl has.2
 fitting r op.Store16 os has = store_fits op.Store16 W32 Strh os refl has.2
 fitting r op.Store os has = word_store_fits has.0 has.1 os has.2
+fitting r (op.Switch cases) os has = switch_fits has.0 cases os has.1 has.2
 fitting r o os has = tt
 
 fit_at : (p : AirProc) (i : AirInst) → IsGoodInst p i → IsFitting i.op i.operands

@@ -20,6 +20,7 @@ use Rattle.air_ir.specs.declared.procedure.AirInst.{AirInst}
 use Rattle.air_ir.specs.declared.procedure.AirProc.{AirProc}
 use Rattle.a64_layout.specs.Layout.{is_label, position_of}
 use Rattle.a64_layout.specs.Text.{is_any_label, label_count}
+use Rattle.a64_layout.proofs.Labels.{label_stands}
 use Rattle.a64_emit.specs.Code.{arg_at, block_labels, blocks_items, emitted, fetch, inst_items, insts_items, own_labels, source_at, width_at}
 use Rattle.a64_emit.specs.Computing.{reg_of}
 use Rattle.a64_emit.specs.Places.{plains, prologue}
@@ -197,7 +198,8 @@ insts_times label f next own targets (i ∷ body) last inner =
     let sum = sum_by-cons (λ (i : AirInst). own_labels i.op) i (body ++ last ∷ []) in
     let zero_here : own + own_labels i.op ≡ own = omega arith in
     let same = ap (λ n. below n label) zero_here in
-    let e : own + sum_by (λ (i : AirInst). own_labels i.op) (body ++ last ∷ []) ≡ own + sum_by (λ (i : AirInst). own_labels i.op) (i ∷ (body ++ last ∷ [])) = omega arith in
+    let e : own + sum_by (λ (i : AirInst). own_labels i.op) (body ++ last ∷ [])
+    ≡ own + sum_by (λ (i : AirInst). own_labels i.op) (i ∷ (body ++ last ∷ [])) = omega arith in
     let same_rest = ap (λ n. below n label) e in
     omega arith
 
@@ -334,26 +336,18 @@ one_place label (item ∷ items) (suc i) (suc j) few there_i there_j =
     let more = more_times (is_label label) item items in
     ap suc (one_place label items i j (omega arith) there_i there_j)
 
-is_that : (label : ℕ) (item : Item) → is_label label item ≡ true → item ≡ Label label
-is_that label (Label number) e = let same : number ≡ label = grind (arith, nat_tests) in ap (λ n. Label n) same
-is_that label (Plain inst) e = absurd cc
-is_that label (Jump to) e = absurd cc
-is_that label (If test to) e = absurd cc
-is_that label (IfZero width nonzero reg to) e = absurd cc
-is_that label (IfBit nonzero reg at to) e = absurd cc
-is_that label (Mark mark) e = absurd cc
-
 -- a label that is counted has a position, where it stands
+counted_within : (label : ℕ) (items : List Item) → 1 ≤ label_times label items → position_of items label < length items
+unfolding position_of
+counted_within label [] some = absurd (omega arith)
+counted_within label (item ∷ items) some =
+    let more = more_times (is_label label) item items in
+    (elim (is_label label item) as (λ b. count_by (is_label label) (item ∷ items) ≡ cond b 1 0 + count_by (is_label label) items
+    → cond (not b) (1 + position_or_len (is_label label) items) 0 < length (item ∷ items)) [
+      | true ↦ λ more. omega arith
+      | false ↦ λ more. let rest = counted_within label items (omega arith) in omega arith
+    ]) more
+
 pub stands_somewhere : (label : ℕ) (items : List Item) → 1 ≤ label_times label items
     → slice_get items (position_of items label) ≡ Some (Label label)
-unfolding position_of
-stands_somewhere label [] some = absurd (omega arith)
-stands_somewhere label (item ∷ items) some =
-    let more = more_times (is_label label) item items in
-    (elim (is_label label item) as (λ b. is_label label item ≡ b → count_by (is_label label) (item ∷ items) ≡ cond b 1 0 + count_by (is_label label) items
-    → slice_get (item ∷ items) (cond (not b) (1 + position_or_len (is_label label) items) 0) ≡ Some (Label label)) [
-      | true ↦ λ e more. ap Some (is_that label item e)
-      | false ↦ λ e more.
-          let next : suc (position_or_len (is_label label) items) ≡ 1 + position_or_len (is_label label) items = omega arith in
-          ap (slice_get (item ∷ items)) (sym next) ∙ stands_somewhere label items (omega arith)
-    ]) refl more
+stands_somewhere label items some = label_stands items label (counted_within label items some)

@@ -37,7 +37,7 @@ use Rattle.air_ir.specs.declared.procedure.AirBlock.{AirBlock}
 use Rattle.air_ir.specs.declared.procedure.AirInst.{AirInst}
 use Rattle.air_ir.specs.declared.procedure.AirProc.{AirProc}
 use Rattle.a64_emit.specs.Accesses.{access_kind, below_x29, upper}
-use Rattle.a64_emit.specs.Code.{arg_at, block_labels, blocks_items, branch_item, branches, compared, compute_code, copy_reg, bring, emitted, fetch, fetch_address, fetch_below, fetch_tested, frame_address, inst_code, inst_items, insts_items, load_code, put_result, result_at, result_reg, slot_offset, source_at, source_of, store_code, test_at, test_count, width_at, own_labels}
+use Rattle.a64_emit.specs.Code.{arg_at, block_labels, blocks_items, branch_item, branches, compared, compute_code, copy_reg, bring, emitted, fetch, fetch_address, fetch_below, fetch_tested, frame_address, inst_code, inst_items, insts_items, load_code, own_labels, put_result, result_at, result_reg, slot_offset, source_at, source_of, store_code, test_at, test_count, width_at}
 use Rattle.a64_emit.specs.Computing.{computing, move_reg, reg_of, sum_with}
 use Rattle.a64_emit.specs.Constants.{constant, filling, half_count, half_move, half_moves, half_word, is_inverted}
 use Rattle.a64_emit.specs.Fitting.{IsComputed, IsFitting, IsLoaded, IsStored, IsTested}
@@ -47,10 +47,10 @@ use Rattle.a64_emit.specs.Trees.{Leaf, Node, Tree, node_count, tree}
 use Rattle.a64_emit.specs.declared.case.Case.{Case}
 use Rattle.a64_emit.specs.declared.source.Source.{Source}
 use Rattle.a64_emit.specs.declared.source.Source.TheVariants.{Constant}
+use Rattle.a64_emit.proofs.AccessesWell.{HasSmallHomes, IsSmallHome, access_well}
 use Rattle.a64_emit.proofs.LabelCounts.{all_labels}
 use Rattle.a64_emit.proofs.Sorting.{each_map, search_labels, sorted_small}
 use Rattle.a64_emit.proofs.Trees.{Each, each_append, each_left, each_right, each_weaker, in_order, tree_order}
-use Rattle.a64_emit.proofs.AccessesWell.{HasSmallHomes, IsSmallHome, access_well}
 use Rattle.a64_emit.proofs.Shapes.{computing_plain, move_plain, sum_plain, testing_plain}
 
 -- ---- instructions

@@ -31,9 +31,9 @@ use Rattle.a64_emit.specs.Built.{IsBuilt, is_built}
 use Rattle.a64_emit.specs.Code.{arg_at, block_labels, blocks_items, compute_code, copy_code, emitted, frame_address, inst_code, inst_items, insts_items, load_code, own_labels, select_code, set_code, slot_offset, store_code, test_count, width_at}
 use Rattle.a64_emit.specs.Fitting.{AreFitting}
 use Rattle.a64_emit.specs.Places.{epilogue, plains, prologue}
+use Rattle.a64_emit.proofs.AccessesLight.{load_code_most, pointer_most, slot_most, store_code_most}
 use Rattle.a64_emit.specs.Switched.{switch_labels}
 use Rattle.a64_emit.specs.Trees.{tree}
-use Rattle.a64_emit.proofs.AccessesLight.{load_code_most, pointer_most, slot_most, store_code_most}
 use Rattle.a64_emit.proofs.Sizes.{compute_most, most_is, operand_words, plain_words, words_of}
 use Rattle.a64_emit.proofs.Trees.{nodes_few, tree_order}
 use Rattle.a64_emit.proofs.Weights.{branch_code_most, copy_most, epilogue_most, fit_count, jump_most, prologue_most, select_most, set_most, switch_code_most}

@@ -1,5 +1,5 @@
 -- Where the blocks stand in the code of a procedure.
-use Rattle.std.proofs.Common.{◌≡◌, ℕ, zero, suc, ◌+◌, ◌-◌, ◌<◌, ◌≤◌, ◌⊎◌, inl, inr, Bool, true, false, not, cond, ⊎_elim, List, [], ◌∷◌, ◌++◌, Some, length, get_or, refl, sym, ap, ◌∙◌, subst, arith, append_assoc, length-append, eq-eqb}
+use Rattle.std.proofs.Common.{◌≡◌, ℕ, zero, suc, ◌+◌, ◌<◌, ◌≤◌, ◌⊎◌, inl, inr, Bool, true, false, not, cond, ⊎_elim, List, [], ◌∷◌, ◌++◌, Some, length, get_or, refl, sym, ap, ◌∙◌, subst, arith, append_assoc, length-append, eq-eqb}
 use Rattle.std.proofs.lemmas.List.{append-nil}
 use Rattle.std.proofs.lemmas.Option.{slice_get-get_or, slice_get_within}
 use Rattle.std.specs.Prelude.{nat_eq, slice_get, if◌then◌else◌}
@@ -88,15 +88,10 @@ cases_unlabelled width reg (case ∷ cases) =
     each_append IsUnlabelled (plains (compare_word width reg case.word)) (If Eq case.target ∷ case_items width reg cases)
     (plains_unlabelled (compare_word width reg case.word)) (refl, cases_unlabelled width reg cases)
 
--- what stands in a leaf, and what stands before the search among lower words
+-- what stands in a leaf
 pub leaf_unlabelled : (width : Width) (reg other next : ℕ) (cases : List Case) → Each IsUnlabelled (case_items width reg cases ++ jump_to next other)
 leaf_unlabelled width reg other next cases =
     each_append IsUnlabelled (case_items width reg cases) (jump_to next other) (cases_unlabelled width reg cases) (jump_unlabelled next other)
-
-pub node_unlabelled : (width : Width) (reg label : ℕ) (case : Case) → Each IsUnlabelled (plains (compare_word width reg case.word) ++ If Eq case.target ∷ If Hi label ∷ [])
-node_unlabelled width reg label case =
-    each_append IsUnlabelled (plains (compare_word width reg case.word)) (If Eq case.target ∷ If Hi label ∷ [])
-    (plains_unlabelled (compare_word width reg case.word)) (refl, (refl, tt))
 
 -- an instruction other than a Switch has no label
 pub inst_shape : (f : Frame) (next label : ℕ) (targets : List ℕ) (o : AirOp) (os : List Operand)
@@ -218,7 +213,6 @@ pub record BlockAmong (n : ℕ) (f : Frame) (items : List Item) (first : ℕ) (b
   pub more : i + 1 < length blocks → (behind : List Item) × (rest ≡ Label (first + i + 1) ∷ behind)
   pub last : i + 1 ≡ length blocks → rest ≡ []
   pub none : i ≡ 0 → before ≡ []
-  pub after : (label : ℕ) → label ≤ first + i → Each (IsNot label) rest
 
 blocks_rest : (f : Frame) (first label : ℕ) (blocks : List AirBlock) → 0 < length blocks → (behind : List Item) × (blocks_items f first label blocks ≡ Label first ∷ behind)
 unfolding blocks_items
@@ -233,26 +227,11 @@ blocks_none f first label (block ∷ blocks) none = absurd (omega arith)
 other_label : (a b : ℕ) → a < b → IsNot b (Label a)
 other_label a b lt = ne_eqb a b (λ e. omega arith)
 
-above_label : (a b : ℕ) → b < a → IsNot b (Label a)
-above_label a b lt = ne_eqb a b (λ e. omega arith)
-
--- the labels of blocks are their numbers
-blocks_clear : (n : ℕ) (f : Frame) (first label : ℕ) (blocks : List AirBlock) (other : ℕ) → n ≤ label → other < n → other < first
-    → Each (IsNot other) (blocks_items f first label blocks)
-unfolding blocks_items
-blocks_clear n f first label [] other le below lt = tt
-blocks_clear n f first label (block ∷ blocks) other le below lt = (
-  above_label first other lt,
-  each_append (IsNot other) (insts_items f (first + 1) label block.targets block.insts) (blocks_items f (first + 1) (label + block_labels block) blocks)
-      (none_is n other (insts_items f (first + 1) label block.targets block.insts) below (insts_inner n f (first + 1) label block.targets block.insts le))
-      (blocks_clear n f (first + 1) (label + block_labels block) blocks other (omega arith) below (omega arith)),
-)
-
-pub block_among : (n : ℕ) (f : Frame) (first label : ℕ) (blocks : List AirBlock) (i : ℕ) (block : AirBlock) → n ≤ label → first + length blocks ≤ n
+pub block_among : (n : ℕ) (f : Frame) (first label : ℕ) (blocks : List AirBlock) (i : ℕ) (block : AirBlock) → n ≤ label
     → slice_get blocks i ≡ Some block → BlockAmong n f (blocks_items f first label blocks) first blocks i block
 unfolding blocks_items
-block_among n f first label [] i block le most there = cc
-block_among n f first label (b ∷ bs) zero block le most there =
+block_among n f first label [] i block le there = cc
+block_among n f first label (b ∷ bs) zero block le there =
     let same : b ≡ block = cc in
     let e : first ≡ first + 0 = omega arith in
     record {
@@ -266,10 +245,9 @@ block_among n f first label (b ∷ bs) zero block le most there =
       more = λ lt. let rest = blocks_rest f (first + 1) (label + block_labels b) bs (omega arith) in (rest.0, rest.1 ∙ ap (λ n. Label (n + 1) ∷ rest.0) e);
       last = λ is. blocks_none f (first + 1) (label + block_labels b) bs (omega arith);
       none = λ is. refl;
-      after = λ other up. blocks_clear n f (first + 1) (label + block_labels b) bs other (omega arith) (omega arith) (omega arith);
     }
-block_among n f first label (b ∷ bs) (suc i) block le most there =
-    let more = block_among n f (first + 1) (label + block_labels b) bs i block (omega arith) (omega arith) there in
+block_among n f first label (b ∷ bs) (suc i) block le there =
+    let more = block_among n f (first + 1) (label + block_labels b) bs i block (omega arith) there in
     let e : first + 1 + i ≡ first + suc i = omega arith in
     let items : List Item = insts_items f (first + 1) label b.targets b.insts in
     let tail : ℕ → List Item = λ n. Label n ∷ (insts_items f (n + 1) more.own block.targets block.insts ++ more.rest) in
@@ -288,7 +266,6 @@ block_among n f first label (b ∷ bs) (suc i) block le most there =
       more = λ lt. let rest = more.more (omega arith) in (rest.0, rest.1 ∙ ap (λ n. Label (n + 1) ∷ rest.0) e);
       last = λ is. more.last (omega arith);
       none = λ is. absurd (omega arith);
-      after = λ other up. more.after other (omega arith);
     }
 
 -- ---- the blocks of a procedure
@@ -302,39 +279,11 @@ pub record BlockStands (p : AirProc) (f : Frame) (b : ℕ) (block : AirBlock) : 
   pub next : b + 1 < length p.blocks → position_of (emitted p f) (b + 1) ≡ position_of (emitted p f) b + 1 + length (insts_items f (b + 1) own block.targets block.insts)
   pub last : b + 1 ≡ length p.blocks → length (emitted p f) ≡ position_of (emitted p f) b + 1 + length (insts_items f (b + 1) own block.targets block.insts)
   pub first : b ≡ 0 → position_of (emitted p f) b ≡ length (prologue f)
-  pub only : (k : ℕ) → slice_get (emitted p f) k ≡ Some (Label b) → k ≡ position_of (emitted p f) b
 
 pub each_at : (P : Item → Type 0) (items : List Item) (k : ℕ) (item : Item) → Each P items → slice_get items k ≡ Some item → P item
 each_at P [] k item each there = absurd cc
 each_at P (x ∷ items) zero item each there = let same : x ≡ item = cc in subst P same each.0
 each_at P (x ∷ items) (suc k) item each there = each_at P items k item each.1 there
-
-get_within : (a b : List Item) (n : ℕ) (x : Item) → n < length a → slice_get (a ++ b) n ≡ Some x → slice_get a n ≡ Some x
-get_within [] b n x lt e = absurd (omega arith)
-get_within (y ∷ a) b zero x lt e = e
-get_within (y ∷ a) b (suc n) x lt e = get_within a b n x (omega arith) e
-
-same_number : (label : ℕ) → is_label label (Label label) ≡ true
-same_number label = eq-eqb label label refl
-
-not_there : (label : ℕ) → IsNot label (Label label) → ⊥
-not_there label none = let yes = same_number label in cc
-
--- a label stands once where no item before it or behind it is that label
-one_label : (label : ℕ) (front rest : List Item) (k : ℕ) → Each (IsNot label) front → Each (IsNot label) rest
-    → slice_get (front ++ Label label ∷ rest) k ≡ Some (Label label) → k ≡ length front
-one_label label front rest k before behind there =
-    ⊎_elim
-    (λ lt. absurd (not_there label (each_at (IsNot label) front k (Label label) before (get_within front (Label label ∷ rest) k (Label label) lt there))))
-    (λ ge. ⊎_elim
-    (λ more.
-    let e : length front + suc (k - length front - 1) ≡ k = omega arith in
-    let at : slice_get rest (k - length front - 1) ≡ Some (Label label) =
-    sym (get_behind front (Label label ∷ rest) (suc (k - length front - 1))) ∙ ap (slice_get (front ++ Label label ∷ rest)) e ∙ there in
-    absurd (not_there label (each_at (IsNot label) rest (k - length front - 1) (Label label) behind at)))
-    (λ le. omega arith)
-    (cases_lt (length front) k))
-    (cases_lt k (length front))
 
 pub length_plains : (insts : List Inst) → length (plains insts) ≡ length insts
 length_plains [] = refl
@@ -342,7 +291,7 @@ length_plains (inst ∷ insts) = let more = length_plains insts in omega arith
 
 module _ (p : AirProc) (f : Frame) (b : ℕ) (block : AirBlock) (there : slice_get p.blocks b ≡ Some block) where
   among : BlockAmong (length p.blocks) f (blocks_items f 0 (length p.blocks) p.blocks) 0 p.blocks b block
-  among = block_among (length p.blocks) f 0 (length p.blocks) p.blocks b block (omega arith) (omega arith) there
+  among = block_among (length p.blocks) f 0 (length p.blocks) p.blocks b block (omega arith) there
 
   within : b < length p.blocks
   within = slice_get_within p.blocks b block there
@@ -417,16 +366,6 @@ module _ (p : AirProc) (f : Frame) (b : ℕ) (block : AirBlock) (there : slice_g
       let count = length_plains (prologue f) in
       at ∙ ap (λ (xs : List Item). length (plains (prologue f) ++ xs)) (among.none is) ∙ ap (λ (xs : List Item). length xs) (append-nil (plains (prologue f))) ∙ count
 
-  only_at : (k : ℕ) → slice_get (emitted p f) k ≡ Some (Label b) → k ≡ position_of (emitted p f) b
-  unfolding inside
-  only_at k is =
-      one_label b front (inside ++ among.rest) k (clear b (omega arith) within)
-      (each_append (IsNot b) inside among.rest
-      (none_is (length p.blocks) b inside within (insts_inner (length p.blocks) f (b + 1) among.own block.targets block.insts among.above))
-      (among.after b (omega arith)))
-      (ap (λ (xs : List Item). slice_get xs k) (sym split) ∙ is)
-      ∙ sym at
-
   pub block_stands : BlockStands p f b block
   unfolding inside
   block_stands = record {
@@ -437,7 +376,6 @@ module _ (p : AirProc) (f : Frame) (b : ℕ) (block : AirBlock) (there : slice_g
     next = λ lt. next_at lt ∙ whole_length;
     last = λ is. last_at is ∙ whole_length;
     first = first_at;
-    only = only_at;
   }
 
 -- the labels of blocks stand in order

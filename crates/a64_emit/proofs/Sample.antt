@@ -10,7 +10,7 @@ use Rattle.air_ir.specs.declared.operand.Arg.TheVariants.{At, Imm, FrameSlot}
 use Rattle.air_ir.specs.declared.operand.Home.TheVariants.{Spill}
 use Rattle.air_ir.specs.declared.operand.Operand.{Operand}
 use Rattle.air_ir.specs.declared.procedure.AirInst.{AirInst}
-use Rattle.a64_emit.specs.Sample.{entry, inst, last, made, procedure, used, x0, above_x1, fills, loads, points, stores, x1}
+use Rattle.a64_emit.specs.Sample.{above_x1, entry, fills, inst, last, loads, made, points, procedure, stores, used, x0, x1}
 
 abbrev Names : Operand → Type 0
 Names o = NamesOwn procedure o.role o.arg

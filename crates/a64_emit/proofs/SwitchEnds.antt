@@ -1,5 +1,5 @@
 -- A Switch leads to the target of the case that its word is equal to.
-use Rattle.std.proofs.Common.{◌≡◌, ◌≢◌, ℕ, suc, ◌+◌, ◌^◌, ◌<◌, ◌≤◌, Bool, true, false, not, ◌&&◌, ⊎_elim, List, [], ◌∷◌, ◌++◌, Some, None, length, get_or, refl, sym, ap, ◌∙◌, subst, arith, append_assoc, length-append}
+use Rattle.std.proofs.Common.{◌≡◌, ◌≢◌, ℕ, suc, ◌+◌, ◌^◌, ◌<◌, ◌≤◌, true, false, not, ◌&&◌, ⊎_elim, List, [], ◌∷◌, ◌++◌, Some, None, length, get_or, refl, sym, ap, ◌∙◌, subst, arith, append_assoc, length-append}
 use Rattle.std.specs.Prelude.{nat_eq, nat_le, nat_lt, slice_get, if◌then◌else◌}
 use Rattle.std.proofs.lemmas.Bool.{cases_lt}
 use Rattle.std.proofs.lemmas.Bool.Decides.{nat_tests}
@@ -10,7 +10,6 @@ use Rattle.b3_base.specs.declared.word.Width.{Width}
 use Rattle.b3_base.specs.declared.word.Width.TheVariants.{W32, W64}
 use Rattle.a64_inst.specs.Step.{Registers}
 use Rattle.a64_inst.specs.Values.{complement, flags_of_sum, holds, sum_of}
-use Rattle.a64_inst.specs.declared.inst.Cond.{Cond}
 use Rattle.a64_inst.specs.declared.inst.Cond.TheVariants.{Eq, Hi}
 use Rattle.a64_inst.specs.declared.inst.Inst.{Inst}
 use Rattle.a64_inst.specs.declared.inst.Inst.TheVariants.{AddSubReg}
@@ -26,7 +25,6 @@ use Rattle.air_ir.specs.declared.op.Test.TheVariants.{Compare}
 use Rattle.air_ir.specs.declared.operand.Operand.{Operand}
 use Rattle.air_ir.specs.declared.procedure.AirInst.{AirInst}
 use Rattle.air_frame.specs.Frames.{IsFrameOf}
-use Rattle.a64_layout.specs.Branch.{size_in}
 use Rattle.a64_layout.specs.Layout.{place, position_of}
 use Rattle.a64_layout.specs.Machine.{Machine, moved_to, test_holds}
 use Rattle.a64_layout.specs.Run as run
@@ -42,7 +40,7 @@ use Rattle.a64_emit.specs.declared.case.Case.{Case}
 use Rattle.a64_emit.specs.declared.source.Source.{Source}
 use Rattle.a64_emit.specs.declared.source.Source.TheVariants.{Constant, InReg}
 use Rattle.a64_layout.proofs.Least.{place_mono}
-use Rattle.a64_emit.proofs.Ahead.{switch_words, words_ahead}
+use Rattle.a64_emit.proofs.Ahead.{if_size, switch_words, words_ahead}
 use Rattle.a64_emit.proofs.AirSteps.{step_lost}
 use Rattle.a64_emit.proofs.Shapes.{sum_plain}
 use Rattle.a64_emit.proofs.BranchEnds.{AllUsable, home_register, one_read, one_there, one_writes, word_home}
@@ -200,10 +198,6 @@ module _ (z : Setting) (set : IsSet z) (serves : IsFrameOf z.procedure z.frame) 
     differs = seeks.differs;
     gives = gives_same c.registers d.registers a width x (λ r is. ap (λ (m : Machine). m.registers.x r) same) seeks.gives;
   }
-
-  if_size : (cond : Cond) (label : ℕ) (long : Bool) → 1 ≤ size_in long (Some (If cond label))
-  if_size cond label true = omega arith
-  if_size cond label false = omega arith
 
   -- a word is compared with that of a case: the case leads where it is equal, and else the items behind its branch do
   compare_reaches : (from : World) (s : State) (a : Source) (width : Width) (x : ℕ) (case : Case) (rest : List Item) (k other : ℕ) (c : Machine)

@@ -1,4 +1,4 @@
--- The instruction of an access, and addresses in the frame.
+-- The instruction of an access, and addresses in the frame. No public clause cites this module.
 use Rattle.std.specs.Prelude.{ℕ, ℤ, ◌*◌, ◌/◌, ◌%◌, true, false, ◌&&◌, nat_eq, nat_le, if◌then◌else◌, List, [], ◌∷◌}
 use Rattle.std.specs.Int.{cast_unsigned, w64}
 use Rattle.b3_base.specs.declared.word.Width.{Width}

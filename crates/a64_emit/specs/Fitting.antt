@@ -15,9 +15,9 @@ use Rattle.air_ir.specs.declared.operand.Operand.{Operand}
 use Rattle.air_ir.specs.declared.procedure.AirBlock.{AirBlock}
 use Rattle.air_ir.specs.declared.procedure.AirInst.{AirInst}
 use Rattle.air_ir.specs.declared.procedure.AirProc.{AirProc}
-use Rattle.a64_emit.specs.Code.{block_labels, source_at, width_at, arg_at}
-use Rattle.a64_emit.specs.Switched.{AreDifferent}
 use Rattle.a64_emit.specs.Accesses.{access_kind}
+use Rattle.a64_emit.specs.Code.{arg_at, block_labels, source_at, width_at}
+use Rattle.a64_emit.specs.Switched.{AreDifferent}
 use Rattle.a64_emit.specs.declared.source.Source.{Source}
 use Rattle.a64_emit.specs.declared.source.Source.TheVariants.{InReg, Constant}
 
@@ -63,7 +63,6 @@ abbrev pub IsFitting : AirOp → List Operand → Type 0
 IsFitting (op.SetIf test) os = IsTested test (width_at os 0) (source_at os 1 16)
 IsFitting (op.SelectIf test) os = IsTested test (width_at os 0) (source_at os 1 16)
 IsFitting (op.BranchIf test) os = IsTested test (width_at os 0) (source_at os 1 16)
-IsFitting (op.Switch cases) os = AreDifferent (width_at os 0) cases
 IsFitting op.Load8Z os = IsLoaded op.Load8Z os
 IsFitting op.Load8S os = IsLoaded op.Load8S os
 IsFitting op.Load16Z os = IsLoaded op.Load16Z os
@@ -72,6 +71,7 @@ IsFitting op.Load os = IsLoaded op.Load os
 IsFitting op.Store8 os = IsStored op.Store8 os
 IsFitting op.Store16 os = IsStored op.Store16 os
 IsFitting op.Store os = IsStored op.Store os
+IsFitting (op.Switch cases) os = AreDifferent (width_at os 0) cases
 IsFitting op os = IsComputed op (width_at os 0) (source_at os 1 16)
 
 abbrev pub IsFittingBlock : AirBlock → Type 0

@@ -69,8 +69,8 @@ case_items width reg [] = []
 case_items width reg (case ∷ cases) =
     plains (compare_word width reg case.word) ++ If Eq case.target ∷ case_items width reg cases
 
--- a word in a register is sought in a tree of cases; where it isn't there, this leads to the block `other`. The items stand
--- before the label `next`, and their own labels are those from `label` on
+-- a word in a register is sought in a tree of cases; where it isn't there, this leads to the block `other`. The items
+-- stand before the label `next`, and their own labels are those from `label` on
 unfoldable pub search_items : Width → ℕ → ℕ → ℕ → ℕ → Tree Case → List Item
 search_items width reg other next label (Leaf cases) = case_items width reg cases ++ jump_to next other
 search_items width reg other next label (Node before case behind) =

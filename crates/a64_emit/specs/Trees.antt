@@ -11,8 +11,8 @@ abbrev pub node_at : {X : Type 0} → (List X → Tree X) → List X → List X 
 node_at grow before [] = Leaf before
 node_at grow before (item ∷ behind) = Node (grow before) item (grow behind)
 
--- the tree of a list with at most so many nodes one below the other: up to three items are a leaf, and else the middle one
--- is a node
+-- the tree of a list, with at most so many nodes one below the other: up to three items are a leaf, and else the middle
+-- one is a node
 unfoldable pub tree_of : {X : Type 0} → ℕ → List X → Tree X
 tree_of zero items = Leaf items
 tree_of (suc n) items =

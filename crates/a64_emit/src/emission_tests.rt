@@ -148,6 +148,41 @@ fn a_procedure_of_two_blocks_is_emitted(rt: HostRuntime) -> Result<(), Fail> {
     Ok(())
 }
 
+/// One access of x0 at an offset from x1.
+fn at(kind: AccessKind, offset: i64) -> Inst
+    requires { is_offset (access_bytes kind) offset ≡ true }
+{
+    offset_access(kind, 0, 1, offset)
+}
+
+fn scaled(kind: AccessKind, units: u32) -> Inst {
+    Inst::Access {
+        kind,
+        rt: 0,
+        rn: 1,
+        units,
+    }
+}
+
+fn near(kind: AccessKind, offset: i32) -> Inst {
+    Inst::AccessNear {
+        kind,
+        rt: 0,
+        rn: 1,
+        offset,
+    }
+}
+
+#[test]
+fn offsets_are_scaled_where_they_can_be(rt: HostRuntime) -> Result<(), Fail> {
+    assert_eq!(rt; at(AccessKind::Ldrb, 4095), scaled(AccessKind::Ldrb, 4095));
+    assert_eq!(rt; at(AccessKind::Strh, 8190), scaled(AccessKind::Strh, 4095));
+    assert_eq!(rt; at(AccessKind::LdrW, 4096), scaled(AccessKind::LdrW, 1024));
+    assert_eq!(rt; at(AccessKind::LdrX, 255), near(AccessKind::LdrX, 255));
+    assert_eq!(rt; at(AccessKind::StrX, -256), near(AccessKind::StrX, -256));
+    Ok(())
+}
+
 fn compared(word: u32) -> Item {
     Item::Plain(Inst::AddSubImm {
         width: Width::W64,
@@ -188,40 +223,5 @@ fn a_switch_is_a_search_in_the_order_of_words(rt: HostRuntime) -> Result<(), Fai
     assert_eq!(rt; *code.get(8), Item::Label(6));
     assert_eq!(rt; *code.get(9), compared(50));
     assert_eq!(rt; *code.get(10), Item::If(Cond::Eq, 1));
-    Ok(())
-}
-
-/// One access of x0 at an offset from x1.
-fn at(kind: AccessKind, offset: i64) -> Inst
-    requires { is_offset (access_bytes kind) offset ≡ true }
-{
-    offset_access(kind, 0, 1, offset)
-}
-
-fn scaled(kind: AccessKind, units: u32) -> Inst {
-    Inst::Access {
-        kind,
-        rt: 0,
-        rn: 1,
-        units,
-    }
-}
-
-fn near(kind: AccessKind, offset: i32) -> Inst {
-    Inst::AccessNear {
-        kind,
-        rt: 0,
-        rn: 1,
-        offset,
-    }
-}
-
-#[test]
-fn offsets_are_scaled_where_they_can_be(rt: HostRuntime) -> Result<(), Fail> {
-    assert_eq!(rt; at(AccessKind::Ldrb, 4095), scaled(AccessKind::Ldrb, 4095));
-    assert_eq!(rt; at(AccessKind::Strh, 8190), scaled(AccessKind::Strh, 4095));
-    assert_eq!(rt; at(AccessKind::LdrW, 4096), scaled(AccessKind::LdrW, 1024));
-    assert_eq!(rt; at(AccessKind::LdrX, 255), near(AccessKind::LdrX, 255));
-    assert_eq!(rt; at(AccessKind::StrX, -256), near(AccessKind::StrX, -256));
     Ok(())
 }

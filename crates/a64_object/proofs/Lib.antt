@@ -4,6 +4,7 @@ pub mod Items
 pub mod Following
 pub mod Landing
 pub mod Blocks
+pub mod Colouring
 pub mod Beginning
 pub mod Agreement
 pub mod Agreeing

@@ -48,7 +48,9 @@ pub fn coloured(alloc: Global, p: &AirProc) -> Result<Assignment, NoMemory>
     kept_homes();
     let flow = AirFlow::new(alloc, p)?;
     let live = live(alloc, &flow)?;
-    colour(alloc, graph(alloc, p, &live)?)
+    let graph = graph(alloc, p, &live)?;
+    let assignment = colour(alloc, graph)?;
+    Ok(assignment)
 }
 
 /// A procedure of a valid module, by its place, in registers and spill places: it is selected, and its temporaries are

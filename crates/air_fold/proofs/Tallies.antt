@@ -53,7 +53,8 @@ one_here x f ts u lt =
     (get_or-set_same ts (place x u.id) (with_use (slice_index_or ts (place x u.id) no_use) (fits x f u)) no_use lt)
 
 -- and a use of another one does not
-one_there : (x : Index) (f : List Bool) (ts : List Tally) (u : Use) (k : ℕ) → k ≢ place x u.id → slice_index_or (with_one x f ts u) k no_use ≡ slice_index_or ts k no_use
+one_there : (x : Index) (f : List Bool) (ts : List Tally) (u : Use) (k : ℕ) → k ≢ place x u.id
+    → slice_index_or (with_one x f ts u) k no_use ≡ slice_index_or ts k no_use
 unfolding with_one
 one_there x f ts u k differ = by (nat_lt (place x u.id) (length ts))
   where
@@ -150,7 +151,8 @@ pub record AreTallied (x : Index) (f : List Bool) (p : Procedure) (whole ts : Li
   pub all : with_all x f ts (uses_in block (drop block p.blocks)) ≡ with_all x f whole (uses_in 0 p.blocks)
   pub long : length ts ≡ length whole
 
-pub tallied_next : (x : Index) (f : List Bool) (p : Procedure) (whole ts ts' : List Tally) (block : ℕ) → block < length p.blocks → AreTallied x f p whole ts block
+pub tallied_next : (x : Index) (f : List Bool) (p : Procedure) (whole ts ts' : List Tally) (block : ℕ) → block < length p.blocks
+    → AreTallied x f p whole ts block
     → ts' ≡ with_all x f ts (flat_map (uses_by block) (values_of p block)) → AreTallied x f p whole ts' (block + 1)
 tallied_next x f p whole ts ts' block lt tallied e =
     let behind = drop (block + 1) p.blocks in
@@ -241,9 +243,11 @@ fold_next p valid x f n at ts k t is_x is_n is_ts at_k at_t folds folds' so_far 
     let folded : is_folded k t ≡ is_folded_by (index_of p) f (uses p) v.id =
     ap (is_folded k) (sym t_there) ∙ folded_is y f (uses p) v.id k n long (omega (arith, slice_get_within (ids_of p) at v.id id_there)) k_there in
     more ∙ ap (λ l. l ++ is_folded k t ∷ []) so_far ∙ ap (λ b. map (is_folded_by (index_of p) f (uses p)) (take at (ids_of p)) ++ b ∷ []) folded
-    ∙ sym (map-append (is_folded_by (index_of p) f (uses p)) (take at (ids_of p)) (v.id ∷ [])) ∙ ap (map (is_folded_by (index_of p) f (uses p))) (sym (take_item (ids_of p) at v.id id_there))
+    ∙ sym (map-append (is_folded_by (index_of p) f (uses p)) (take at (ids_of p)) (v.id ∷ []))
+    ∙ ap (map (is_folded_by (index_of p) f (uses p))) (sym (take_item (ids_of p) at v.id id_there))
 
 pub fold_end : (p : Procedure) (x : Index) (f : List Bool) (at : ℕ) → x ≡ index_of p → length x.known ≤ at
-    → (folds : List Bool) → folds ≡ map (is_folded_by (index_of p) f (uses p)) (take at (ids_of p)) → folds ≡ map (is_folded_by (index_of p) f (uses p)) (ids_of p)
+    → (folds : List Bool) → folds ≡ map (is_folded_by (index_of p) f (uses p)) (take at (ids_of p))
+    → folds ≡ map (is_folded_by (index_of p) f (uses p)) (ids_of p)
 fold_end p x f at is_x end folds so_far =
     so_far ∙ ap (map (is_folded_by (index_of p) f (uses p))) (take_all at (ids_of p) (omega (arith, ap (λ (z : Index). length z.known) is_x, ids_length p)))

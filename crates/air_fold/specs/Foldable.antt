@@ -1,5 +1,5 @@
 -- Which values are folded into the instructions of their uses.
-use Rattle.std.specs.Prelude.{ℕ, ℤ, pos, zero, suc, ◌-◌, ◌+◌, ◌/◌, ◌^◌, Bool, true, false, ◌&&◌, ◌||◌, nat_eq, if◌then◌else◌, List, [], ◌∷◌, ◌++◌, length, map, slice_index_or, Option, Some, None}
+use Rattle.std.specs.Prelude.{ℕ, ℤ, pos, zero, suc, ◌-◌, ◌+◌, ◌/◌, ◌^◌, Bool, true, false, ◌&&◌, ◌||◌, not, nat_eq, if◌then◌else◌, List, [], ◌∷◌, ◌++◌, length, map, slice_index_or, Option, Some, None}
 use Rattle.std.specs.Int.{cast_unsigned, trailing_zeros, w64}
 use Rattle.std.specs.List.{filter, flat_map, list_all}
 use Rattle.b3_base.specs.Arithmetic.{low}
@@ -156,6 +156,10 @@ reaches bytes is_word offset second =
     if is_constant second.opcode then is_offset bytes (whole second.word offset) else
     is_word && (nat_eq bytes 8 && is_zero offset)
 
+-- the constant 3
+abbrev pub is_three : Known → Bool
+is_three k = is_constant k.opcode && nat_eq k.word 3
+
 module _ (x : Index) where
   -- the conjunction with a constant of one bit
   abbrev pub is_bit_test : Known → Bool
@@ -178,10 +182,10 @@ module _ (x : Index) where
   abbrev pub pointer_fits : ℕ → Bool → ℤ → Known → Bool
   pointer_fits bytes is_word offset k = is_add k.opcode && reaches bytes is_word offset (known x k.second)
 
-  -- an amount of 3 bits
+  -- a shift to the left by 3 bits, of no constant
   abbrev pub is_index : Known → Bool
   is_index k =
-      is_shl k.opcode && (is_constant (known x k.second).opcode && nat_eq (known x k.second).word 3)
+      is_shl k.opcode && (is_three (known x k.second) && not (is_constant (known x k.first).opcode))
 
   abbrev pub pointer_of : ℕ → Opcode → Bool → Known → Bool
   pointer_of user op is_word k = pointer_fits (access_bytes op (known x user)) is_word (known x user).offset k

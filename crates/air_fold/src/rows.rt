@@ -83,6 +83,13 @@ pub(crate) fn is_add(opcode: Opcode) -> bool
     matches!(opcode, Opcode::Add)
 }
 
+/// Whether a value of an opcode is a shift to the left.
+pub(crate) fn is_shl(opcode: Opcode) -> bool
+    ensures { result ≡ fold.is_shl opcode }
+{
+    matches!(opcode, Opcode::Shl)
+}
+
 /// Whether a value of an opcode stores a word.
 fn is_store(opcode: Opcode) -> bool
     ensures { result ≡ fold.is_store opcode }

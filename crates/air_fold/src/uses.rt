@@ -1,6 +1,6 @@
 //! Which values are folded, by one pass over the uses.
 
-ghost use Rattle.std.specs.Prelude.{◌≡◌, ℕ, ◌<◌, ◌≤◌, ◌&&◌, ◌||◌, ◌++◌, ◌∷◌, [], length, map, nat_eq, IfOk, OnOk, suc};
+ghost use Rattle.std.specs.Prelude.{◌≡◌, ℕ, ◌<◌, ◌≤◌, ◌&&◌, ◌||◌, not, ◌++◌, ◌∷◌, [], length, map, nat_eq, IfOk, OnOk, suc};
 ghost use Rattle.b3_ir.specs.Types as types;
 ghost use Rattle.b3_rules.specs.Valid.{IsValidProcedure};
 ghost use Rattle.air_fold.specs.Foldable as fold;
@@ -10,7 +10,9 @@ ghost use Rattle.air_fold.specs.Tallied as tallied;
 use crate::accesses::{access_bytes, reaches};
 use crate::index::Index;
 use crate::known::Known;
-use crate::rows::{is_add, is_bit, is_comparison, is_constant, is_first, is_second, width_of};
+use crate::rows::{
+    is_add, is_bit, is_comparison, is_constant, is_first, is_second, is_shl, width_of,
+};
 use b3_base::{NoMemory, Seq};
 use b3_ir::{Opcode, Proc, Value};
 use std::alloc::Global;
@@ -77,12 +79,27 @@ fn is_bit_test(index: &Index, known: Known) -> bool
     known.opcode == Opcode::BitAnd && is_constant(second.opcode) && is_bit(second.word)
 }
 
-/// Whether a value is a shift to the left by 3 bits.
+/// Whether a value is the constant 3.
+fn is_three(known: Known) -> bool
+    ensures { result ≡ fold.is_three known }
+{
+    is_constant(known.opcode) && known.word == 3
+}
+
+/// Whether the children of a shift make it one by 3 bits, of no constant.
+fn is_scale(first: Known, second: Known) -> bool
+    ensures { result ≡ (fold.is_three second && not (fold.is_constant first.opcode)) }
+{
+    is_three(second) && !is_constant(first.opcode)
+}
+
+/// Whether a value is a shift to the left by 3 bits, of no constant.
 fn is_index(index: &Index, known: Known) -> bool
     ensures { result ≡ fold.is_index index.now known }
 {
+    let first = index.known(known.first);
     let second = index.known(known.second);
-    known.opcode == Opcode::Shl && is_constant(second.opcode) && second.word == 3
+    is_shl(known.opcode) && is_scale(first, second)
 }
 
 /// Whether a value fits in a use as the pointer of an access.

@@ -1,6 +1,6 @@
 -- Loads and stores, the addresses of slots and the frame pointer.
 use Rattle.std.proofs.Common.{◌≡◌, ℕ, ℤ, pos, ◌+◌, ◌*◌, ◌%◌, ◌^◌, ◌<◌, ◌≤◌, Bool, true, false, ◌||◌, List, [], ◌∷◌, ◌++◌, map, Option, Some, None, refl, sym, ap, ◌∙◌, subst, arith}
-use Rattle.std.specs.Prelude.{Contains, IfSome, if◌then◌else◌, is_some, slice_get}
+use Rattle.std.specs.Prelude.{Contains, if◌then◌else◌, is_some, slice_get}
 use Rattle.std.specs.Int.{cast_unsigned, w64}
 use Rattle.b3_base.specs.Arithmetic.{low}
 use Rattle.b3_base.specs.Memory.{read_word, write_word}
@@ -47,7 +47,6 @@ use Rattle.air_ir.specs.declared.op.AirOp.{AirOp}
 use Rattle.air_ir.specs.declared.op.AirOp.TheVariants as op
 use Rattle.air_ir.specs.declared.operand.Arg.{Arg}
 use Rattle.air_ir.specs.declared.operand.Arg.TheVariants.{Addr, At, FrameSlot, Imm}
-use Rattle.air_ir.specs.declared.operand.Home.{Home}
 use Rattle.air_ir.specs.declared.procedure.AirInst.{AirInst}
 use Rattle.air_ir.proofs.Stepping.{steps-one}
 use Rattle.air_fold.specs.Foldable.{pointers, value_fits}
@@ -200,7 +199,8 @@ module _ (p : Procedure) (t : Tables) (start : Start) (v : Value) (h : Here p t 
         let add : AirInst = inst v op.Add (use_of t pointer ∷ use_at W64 (At first) ∷ def_at W64 second ∷ []) in
         let s1 = with_home h.s first W64 (low W64 k) in
         let s2 = with_home s1 second W64 all in
-        let r1 : Related p t start h.st s1 = extra_related p t h.sound start h.st h.s h.related v.id v (named p t start v h) 1 _ (omega arith) (omega arith) no_phi in
+        let r1 : Related p t start h.st s1 = extra_related p t h.sound start h.st h.s h.related v.id v (named p t start v h) 1 _ (omega arith)
+        (omega arith) no_phi in
         let r2 : Related p t start h.st s2 = extra_related p t h.sound start h.st s1 r1 v.id v (named p t start v h) 2 _ (omega arith) (omega arith) no_phi in
         let put_step : step (meaning start) put h.s junk ≡ (Goes None s1, junk) =
         sym (steps-one (meaning start) put h.s junk) ∙ moved p t start v h h.s junk W64 (Imm k) first (low W64 k) (of_immediate h.s.homes W64 k) in
@@ -408,7 +408,8 @@ module _ (p : Procedure) (t : Tables) (start : Start) (v : Value) (h : Here p t 
   pub load_does : (o : Opcode) (air_op : AirOp) (extent : Extent) (extends : Bool) → v.kind.opcode ≡ o → roles.role_of o ≡ role.Load extent extends
       → kind_of air_op ≡ Loads extent extends → (o ≡ opcode.Phi → ⊥) → PointerAt p t v o 0 (extent_bytes extent (width_of v.ty))
       → ((ty : Ty) (types : List Ty) (a : AllowsTypes o ty types) → AreTaken a.alike (This Int64 ∷ []) NoMore types)
-      → Does p t start v junk (b3.loads start h.st v extent extends v.body (words_here p t start v h)) (steps (meaning start) (load_of t v air_op extent) h.s junk)
+      → Does p t start v junk (b3.loads start h.st v extent extends v.body (words_here p t start v h))
+      (steps (meaning start) (load_of t v air_op extent) h.s junk)
   load_does o air_op extent extends eo is kind no_phi pointed takes =
       let ws = words_here p t start v h in
       let row : IsRow (role.Load extent extends) v.ty (types_of p v) v.body =
@@ -462,7 +463,8 @@ module _ (p : Procedure) (t : Tables) (start : Start) (v : Value) (h : Here p t 
       let first : from ≡ shape.x = ap (λ (l : List ℕ). child l 0) shape.are in
       let types : types_of p v ≡ ty ∷ type_of p shape.y ∷ [] =
       ap (map (type_of p)) shape.are ∙ ap (λ (x : ℕ). type_of p x ∷ type_of p shape.y ∷ []) (sym first) in
-      subst (λ (b : Body). Does p t start v junk (b3.stores start h.st v extent b (types_of p v) ws) (steps (meaning start) (store_of t v air_op extent) h.s junk))
+      subst (λ (b : Body). Does p t start v junk (b3.stores start h.st v extent b (types_of p v) ws)
+      (steps (meaning start) (store_of t v air_op extent) h.s junk))
       (sym (offset_is v.body row.2))
       (subst (λ (l : List Ty). Does p t start v junk (b3.stores start h.st v extent (Offset offset) l ws)
       (steps (meaning start) (store_of t v air_op extent) h.s junk)) (sym types)

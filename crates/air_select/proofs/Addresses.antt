@@ -1,12 +1,11 @@
 -- The address at a folded sum is that of the access whose pointer it is.
-use Rattle.std.proofs.Common.{◌≡◌, ℕ, ℤ, pos, negsuc, zero, suc, ◌+◌, ◌*◌, ◌%◌, ◌^◌, ◌<◌, ◌⊎◌, inl, inr, Bool, true, false, ◌&&◌, List, [], ◌∷◌, ◌++◌, map, Some, nat_eq, refl, sym, ap, ◌∙◌, subst, arith}
-use Rattle.std.specs.Prelude.{Contains, if◌then◌else◌, slice_get}
+use Rattle.std.proofs.Common.{◌≡◌, ℕ, ℤ, pos, negsuc, zero, suc, ◌+◌, ◌*◌, ◌%◌, ◌^◌, inl, inr, Bool, true, false, ◌&&◌, List, ◌∷◌, ◌++◌, Some, nat_eq, refl, sym, ap, ◌∙◌, subst, arith}
+use Rattle.std.specs.Prelude.{Contains, not, if◌then◌else◌, slice_get}
 use Rattle.std.specs.Int.{cast_signed, cast_unsigned, w64}
 use Rattle.std.proofs.lemmas.Bool.{eqb-true}
 use Rattle.std.proofs.lemmas.Int.{of_z-to_z}
 use Rattle.std.proofs.lemmas.List.{append_assoc}
 use Rattle.std.proofs.lemmas.List.Elements.{Contains-append_left}
-use Rattle.b3_base.specs.Arithmetic.{low}
 use Rattle.b3_base.specs.Observed.{Start}
 use Rattle.b3_base.specs.declared.word.Width.{Width}
 use Rattle.b3_base.specs.declared.word.Width.TheVariants.{W64}
@@ -32,13 +31,13 @@ use Rattle.air_ir.specs.Operands.{read, word_of}
 use Rattle.air_ir.specs.Steps.{State}
 use Rattle.air_ir.specs.declared.operand.Arg.TheVariants.{Addr, Index}
 use Rattle.air_ir.specs.declared.operand.Home.{Home}
-use Rattle.air_fold.specs.Foldable.{constant_fits, is_add, is_constant, is_index, is_pointer, is_shl, is_zero, pointer_fits, pointers, reaches, second_fits, sum_fits, value_fits, whole}
-use Rattle.air_fold.specs.Values.{child, known, known_in, offset_in, width_at}
+use Rattle.air_fold.specs.Foldable.{constant_fits, is_add, is_constant, is_index, is_pointer, is_shl, is_three, is_zero, pointer_fits, pointers, reaches, second_fits, sum_fits, value_fits, whole}
+use Rattle.air_fold.specs.Values.{child, known, known_in, offset_in}
 use Rattle.air_fold.specs.declared.known.Known.{Known}
 use Rattle.air_select.specs.Selected.{Tables, folds, indexed_by, sum_address}
 use Rattle.air_select.specs.Temporaries.{home}
 use Rattle.air_select.proofs.Children.{fit_cases, known_word, unfolded}
-use Rattle.air_select.proofs.Deciding.{d_allows, d_here, d_known, d_width, earlier}
+use Rattle.air_select.proofs.Deciding.{d_allows, d_here, d_known, earlier}
 use Rattle.air_select.proofs.Does.{Here, at, here}
 use Rattle.air_select.proofs.Facts.{grandchild_ran}
 use Rattle.air_select.proofs.Pointers.{PointerAt, and_parts, is_sum}
@@ -150,7 +149,8 @@ module _ (p : Procedure) (t : Tables) (start : Start) (v : Value) (h : Here p t 
         of_index h.s width base (home t.index z) 3 x two.wx reads (whole_word z two.wx (two.x_taken ∙ alike) un two.x_now)
         ∙ ap Some (shifted_index x two.wx ∙ ap (λ n. (x + n) % 2 ^ 64) is)
 
-  module _ (d : Value) (early : Contains h.before d) (w : ℕ) (now : h.st.words d.id ≡ Some w) (typed : type_of p d.id ≡ Int64) (ed : d.kind.opcode ≡ opcode.Add) where
+  module _ (d : Value) (early : Contains h.before d) (w : ℕ) (now : h.st.words d.id ≡ Some w) (typed : type_of p d.id ≡ Int64)
+      (ed : d.kind.opcode ≡ opcode.Add) where
     -- the second child of a sum as an index
     index_reads : (width : Width) (base : Home) (x y c : ℕ) → read W64 (h.s.homes base) ≡ Some x → slice_get d.children 1 ≡ Some y → Contains d.children y
         → h.st.words y ≡ Some c → type_of p y ≡ Int64 → is_constant (known t.index y).opcode ≡ false
@@ -158,7 +158,8 @@ module _ (p : Procedure) (t : Tables) (start : Start) (v : Value) (h : Here p t 
     index_reads width base x y c reads there has y_now y_typed other = by (folds t y) refl
       where
         by : (f : Bool) → folds t y ≡ f
-            → word_of h.s.homes width (if f then Index base (home t.index (known t.index y).first) 3 else Index base (home t.index y) 0) ≡ Some ((x + c) % 2 ^ 64)
+            → word_of h.s.homes width (if f then Index base (home t.index (known t.index y).first) 3 else Index base (home t.index y) 0)
+            ≡ Some ((x + c) % 2 ^ 64)
         by false un = of_index h.s width base (home t.index y) 0 x c reads (whole_word y c y_typed un y_now) ∙ ap Some (plain_index x c)
         by true gone =
             elim (fit_cases t (pointers p) h.block d.kind.opcode 1 d.id y (h.sound.uses_fit h.block 1 y d (here_d d early w now typed) there gone)) [
@@ -177,13 +178,14 @@ module _ (p : Procedure) (t : Tables) (start : Start) (v : Value) (h : Here p t 
                   let e_now : h.st.words (e.0).id ≡ Some c = ap h.st.words e.1 ∙ y_now in
                   let is : known t.index y ≡ known_in h.block e.0 = ap (known t.index) (sym e.1) ∙ d_known p t start v h e.0 before c e_now in
                   let shift : is_index t.index (known_in h.block e.0) ≡ true = subst (λ (k : Known). is_index t.index k ≡ true) is index in
-                  let parts = and_parts (is_shl (e.0).kind.opcode) (is_constant (known t.index (child (e.0).children 1)).opcode && nat_eq
-                  (known t.index (child (e.0).children 1)).word 3) shift in
-                  let amount = and_parts (is_constant (known t.index (child (e.0).children 1)).opcode) (nat_eq (known t.index (child (e.0).children 1)).word 3)
-                  parts.1 in
+                  let second_child = known t.index (child (e.0).children 1) in
+                  let first_child = known t.index (child (e.0).children 0) in
+                  let parts = and_parts (is_shl (e.0).kind.opcode) (is_three second_child && not (is_constant first_child.opcode)) shift in
+                  let three = and_parts (is_three second_child) (not (is_constant first_child.opcode)) parts.1 in
+                  let amount = and_parts (is_constant second_child.opcode) (nat_eq second_child.word 3) three.0 in
                   subst (λ (k : Known). word_of h.s.homes width (Index base (home t.index k.first) 3) ≡ Some ((x + c) % 2 ^ 64)) (sym is)
                   (shift_reads e.0 before c e_now (ap (type_of p) e.1 ∙ y_typed) width base x reads (shl_is (e.0).kind.opcode parts.0) amount.0
-                  (eqb-true (known t.index (child (e.0).children 1)).word 3 amount.1))
+                  (eqb-true second_child.word 3 amount.1))
             ]
 
     sum_reads : (width : Width) (bytes : ℕ) (is_word : Bool) → reaches bytes is_word (offset_in v.body) (known t.index (child d.children 1)) ≡ true
@@ -205,7 +207,8 @@ module _ (p : Procedure) (t : Tables) (start : Start) (v : Value) (h : Here p t 
         ∙ ap (λ (q : Opcode). result q d.kind.chill d.ty r.words (types_of p d)) (sym ed) ∙ r.gives ∙ ap Gives (some_is r.word w (sym r.has ∙ now))) in
         let un = first_unfolded d early w now typed opcode.Add ed x two.x_at (λ k. refl) (λ k n. refl) refl in
         let base : read W64 (h.s.homes (home t.index x)) ≡ Some two.wx = whole_word x two.wx (two.x_taken ∙ alike) un two.x_now in
-        sum_by width bytes is_word x y two.wx two.wy offset base is two.y_at two.y_in two.y_now (two.y_taken ∙ alike) (is_constant (known t.index y).opcode) refl fits
+        sum_by width bytes is_word x y two.wx two.wy offset base is two.y_at two.y_in two.y_now (two.y_taken ∙ alike)
+        (is_constant (known t.index y).opcode) refl fits
       where
         sum_by : (width : Width) (bytes : ℕ) (is_word : Bool) (x y wx wy : ℕ) (offset : ℤ) → read W64 (h.s.homes (home t.index x)) ≡ Some wx
             → (wx + wy) % 2 ^ 64 ≡ w → slice_get d.children 1 ≡ Some y → Contains d.children y → h.st.words y ≡ Some wy → type_of p y ≡ Int64

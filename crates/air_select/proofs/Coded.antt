@@ -1,28 +1,20 @@
 -- The loop over the values of a block: the code so far.
-use Rattle.std.proofs.Common.{◌≡◌, ℕ, suc, ◌+◌, ◌^◌, ◌<◌, ◌≤◌, false, List, [], ◌∷◌, ◌++◌, Option, Some, None, length, map, take, drop, refl, sym, ap, ◌∙◌, subst, arith, nat_eq, append_assoc}
-use Rattle.std.specs.Prelude.{All, IfSome, slice_get, slice_index_or}
-use Rattle.std.specs.List.{flat_map, list_any}
-use Rattle.std.proofs.lemmas.Grind.{flat_map-append}
-use Rattle.std.proofs.lemmas.List.{append-nil, drop_all, drop_more, length-map, map-append, take_all, take_more}
-use Rattle.std.proofs.lemmas.List.Concat.{length-flat_map}
+use Rattle.std.proofs.Common.{◌≡◌, ℕ, ◌+◌, ◌^◌, ◌<◌, ◌≤◌, List, [], ◌∷◌, ◌++◌, Some, length, map, take, sym, ap, ◌∙◌, arith}
+use Rattle.std.specs.Prelude.{All, slice_get, slice_index_or}
+use Rattle.std.specs.List.{flat_map}
+use Rattle.std.proofs.lemmas.List.{append-nil, map-append}
 use Rattle.std.proofs.lemmas.List.Elements.{All-weaker}
 use Rattle.std.proofs.lemmas.Option.{get_or_from_slice_get}
-use Rattle.indexmap.specs.IndexSet.{insert_key}
-use Rattle.b3_ir.specs.Naming.{all_values}
-use Rattle.b3_ir.specs.Procedure.{AllFit, Block, IsIn, Kept, Procedure, StandsAt, no_block, total, values_from, values_of}
+use Rattle.b3_ir.specs.Procedure.{AllFit, Block, Procedure, StandsAt, no_block, values_of}
 use Rattle.b3_ir.specs.declared.value.Value.{Value}
 use Rattle.b3_rules.specs.Paths.{successors_in}
 use Rattle.b3_rules.specs.Valid.{IsValidProcedure}
 use Rattle.b3_sound.proofs.FromValid.{is_kept}
 use Rattle.air_ir.specs.declared.procedure.AirBlock.{AirBlock}
 use Rattle.air_ir.specs.declared.procedure.AirInst.{AirInst}
-use Rattle.air_fold.specs.Indexed.{ids, ids_before}
 use Rattle.air_select.specs.Selected.{Tables, block_code, targets_of, value_code}
-use Rattle.air_fold.specs.Values.{ids_of, known_from, known_in}
-use Rattle.air_fold.specs.declared.known.Known.{Known}
 use Rattle.air_fold.proofs.Listed.{joined}
-use Rattle.air_fold.proofs.Places.{is_new, row, split_at, take_item, values_in}
-use Rattle.air_fold.proofs.Walks.{IsWalked, walk_first, walk_next, walk_stands, values_next}
+use Rattle.air_fold.proofs.Places.{split_at, take_item}
 
 -- ---- the code of a block
 

@@ -160,7 +160,8 @@ module _ (p : Procedure) (t : Tables) (start : Start) (v : Value) (h : Here p t 
       let same : shape.wx ≡ w = same_word shape.wx w
       (ap (λ (l : List ℕ). result opcode.Identity v.kind.chill v.ty l (types_of p v)) (sym shape.words)
       ∙ ap (λ (q : Opcode). result q v.kind.chill v.ty ws (types_of p v)) (sym eo) ∙ g) in
-      over_does p t start v h junk opcode.Identity op.Move w eo (λ n k. no_value t.index (pointers p) opcode.Identity n v.id k refl) (result_small p t start v h w (ap role_of eo) g)
+      over_does p t start v h junk opcode.Identity op.Move w eo (λ n k. no_value t.index (pointers p) opcode.Identity n v.id k refl)
+      (result_small p t start v h w (ap role_of eo) g)
       (copying p t start v h op.Move v.id (reads p t start v h v.children ws) h.s.world refl
       ∙ ap (gives h.s.world) (reads_words p t start v h v.children ws (are_words p t start v h) ∙ shape.words ∙ ap (λ n. n ∷ []) same)))
     where

@@ -1,11 +1,10 @@
 -- Folded values: no instruction is made for one, and the instruction of its use carries it.
-use Rattle.std.proofs.Common.{◌≡◌, ℕ, zero, suc, ◌+◌, ◌-◌, ◌^◌, ◌<◌, inl, inr, Bool, true, false, ◌&&◌, ◌||◌, List, [], ◌∷◌, ◌++◌, Option, Some, None, length, map, take, refl, sym, ap, ◌∙◌, subst, arith, nat_eq, length-append}
-use Rattle.std.specs.Prelude.{All, Contains, if◌then◌else◌, slice_get, slice_index_or}
+use Rattle.std.proofs.Common.{◌≡◌, ℕ, zero, suc, ◌+◌, ◌^◌, ◌<◌, inl, inr, Bool, true, false, ◌&&◌, ◌||◌, List, [], ◌∷◌, ◌++◌, Option, Some, None, length, map, take, refl, sym, ap, ◌∙◌, subst, arith}
+use Rattle.std.specs.Prelude.{Contains, not, if◌then◌else◌, slice_get, slice_index_or}
 use Rattle.std.specs.List.{flat_map}
 use Rattle.std.specs.Option.{option_map}
-use Rattle.std.proofs.lemmas.Bool.{cases_lt, eqb-true}
+use Rattle.std.proofs.lemmas.Bool.{eqb-true}
 use Rattle.std.proofs.lemmas.List.{length-map}
-use Rattle.std.proofs.lemmas.List.Elements.{All-append, All-nil}
 use Rattle.std.proofs.lemmas.Option.{get_or_from_slice_get, slice_get-get_or, slice_get-map, slice_get_within}
 use Rattle.b3_base.specs.declared.word.Width.{Width}
 use Rattle.b3_base.specs.declared.word.Width.TheVariants.{W32}
@@ -36,13 +35,13 @@ use Rattle.air_ir.specs.declared.operand.Arg.TheVariants.{At, Imm}
 use Rattle.air_ir.specs.declared.procedure.AirBlock.{AirBlock}
 use Rattle.air_ir.specs.declared.procedure.AirInst.{AirInst}
 use Rattle.air_select.specs.Contract.{CarriesBits, CarriesComparisons, CarriesConstants, CarriesStored, CarriesSums, HasAddress, HasFirst, HasSecond, IsFolded, IsMade, NoneIsMade, TestsBit, TestsComparison, carried_word, test_in}
-use Rattle.air_fold.specs.Foldable.{access_bytes, bit_of, first_fits, first_immediates, is_add, is_and, is_bit, is_bit_test, is_comparison, is_constant, is_foldable, is_immediate, is_index, is_pointer, is_shl, is_store, pointer_of, pointers, reaches, second_fits, second_immediates, sum_fits, uses, value_fits}
-use Rattle.air_select.specs.Selected.{Condition, Tables, access, address_of, arg_of, argument_move, argument_moves, before_access, block_code, branch_on, code_of, computes, condition, condition_of, entry_of, folds, inst, last_id, load_of, names_argument, negative_amount, op_of, result_of, return_of, rotate_by, select_on, selected, selected_by, store_of, sum_address, tables, turned, use_at, use_of, value_code}
+use Rattle.air_fold.specs.Foldable.{access_bytes, bit_of, first_fits, first_immediates, is_add, is_and, is_bit, is_bit_test, is_comparison, is_constant, is_foldable, is_immediate, is_index, is_pointer, is_shl, is_store, is_three, pointer_of, pointers, reaches, second_fits, second_immediates, sum_fits, uses, value_fits}
+use Rattle.air_select.specs.Selected.{Condition, Tables, access, address_of, arg_of, before_access, block_code, branch_on, code_of, computes, condition, condition_of, entry_of, folds, inst, last_id, load_of, negative_amount, op_of, result_of, rotate_by, select_on, selected, selected_by, store_of, sum_address, tables, turned, use_at, use_of, value_code}
 use Rattle.air_select.specs.Temporaries.{first_extra}
 use Rattle.air_fold.specs.Values.{Index, child, ids_of, index_of, known, known_in, width_at, word_in}
 use Rattle.air_fold.specs.declared.known.Known.{Known}
 use Rattle.air_select.proofs.Children.{fit_cases}
-use Rattle.air_fold.proofs.Places.{at_place, get_behind, get_front, get_within, in_blocks, known_is, place_is, row_get, split_at}
+use Rattle.air_fold.proofs.Places.{at_place, get_behind, get_front, in_blocks, known_is, place_is, row_get, split_at}
 use Rattle.air_select.proofs.Pieces.{IsFor, code_is, entry_for, flat_found, flat_get, made_for, unfolded_by}
 use Rattle.air_select.proofs.Sites.{All-slice}
 use Rattle.air_select.proofs.Sound.{both_first, both_second, foldable_kind, sound}
@@ -152,7 +151,7 @@ no_second_fits x f opcode.Store8 user k e other also = no_sum_fits x user opcode
 no_second_fits x f opcode.Store16 user k e other also = no_sum_fits x user opcode.Store16 false k e other
 no_second_fits x f opcode.Store user k e other also = no_sum_fits x user opcode.Store true k e other
 no_second_fits x f opcode.Add user k e other also =
-    also (both_first (is_shl k.opcode) (is_constant (known x k.second).opcode && nat_eq (known x k.second).word 3)
+    also (both_first (is_shl k.opcode) (is_three (known x k.second) && not (is_constant (known x k.first).opcode))
     (both_second (is_pointer x f user) (is_index x k) e))
 no_second_fits x f _ user k e other also = cc
 
@@ -217,7 +216,7 @@ add_second x f opcode.Store16 user k e add = refl
 add_second x f opcode.Store user k e add = refl
 add_second x f opcode.Add user k e add =
     absurd (not_both (is_shl k.opcode)
-    (both_first (is_shl k.opcode) (is_constant (known x k.second).opcode && nat_eq (known x k.second).word 3)
+    (both_first (is_shl k.opcode) (is_three (known x k.second) && not (is_constant (known x k.first).opcode))
     (both_second (is_pointer x f user) (is_index x k) e)) (add_facts k.opcode add).2)
 add_second x f _ user k e add = absurd cc
 
@@ -360,7 +359,8 @@ module _ (t : Tables) (v : Value) (id : ℕ) (folded : folds t id ≡ true) wher
   carries_first_sum opcode.Load e is at = load_address op.Load Whole at
   carries_first_sum _ e is at = absurd cc
 
-  carries_second_sum : (f : List Bool) (o : Opcode) → second_fits t.index f o v.id (known t.index id) ≡ true → is_access o ≡ true → slice_get v.children 1 ≡ Some id
+  carries_second_sum : (f : List Bool) (o : Opcode) → second_fits t.index f o v.id (known t.index id) ≡ true → is_access o ≡ true
+      → slice_get v.children 1 ≡ Some id
       → HasInst (code_of t o v) (HasAddress (sum_address t v (known t.index id)))
   carries_second_sum f opcode.Store8 e is at = store_address op.Store8 Byte at
   carries_second_sum f opcode.Store16 e is at = store_address op.Store16 Half at
@@ -562,7 +562,8 @@ module _ (p : Procedure) (valid : IsValidProcedure p) (fit : AllFit p.blocks) wh
       elim (fit_cases t (pointers p) b v.kind.opcode 1 v.id k.id fit) [
         | inl h ↦ carries_second t v k.id k_folds v.kind.opcode (width_of (known index k.id).ty) (known index k.id).word h.fits child_at
         | inr (inl h) ↦
-            absurd (in_no_sum v.kind.opcode v.id (λ add. (sound p valid).pointer b v (contains_at (values_of p b) j v at) add ∙ folds_at b j v at ∙ unfolded) h.fits)
+            absurd (in_no_sum v.kind.opcode v.id (λ add. (sound p valid).pointer b v (contains_at (values_of p b) j v at) add ∙ folds_at b j v at
+            ∙ unfolded) h.fits)
         | inr (inr h) ↦ absurd (not_both (is_constant (known index k.id).opcode) (ap (λ (w : Known). is_constant w.opcode) is ∙ constant) h.constant)
       ] in
       subst (λ (w : Known). IsMade (selected p) b v (HasSecond (carried_word v.kind.opcode v.ty w.word))) is

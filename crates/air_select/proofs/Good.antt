@@ -415,8 +415,10 @@ module _ (p : Procedure) (valid : IsValidProcedure p) (fit : ValuesFit p.blocks)
     rotated : (h : AllowsTypes opcode.RotL v.ty (types_of p v)) → v.kind.opcode ≡ opcode.RotL → All Has (code_of t opcode.RotL v)
     rotated h is =
         let cs = two_of (type_of p) h.alike Alike (This Int32) v.children h.children in
-        let first = forms.child_as p kept t sound b v here opcode.RotL is 0 cs.0 h.alike (ap (λ (l : List ℕ). slice_get l 0) cs.2) (λ k. refl) refl cs.3 h.typed in
-        let second = forms.child_as p kept t sound b v here opcode.RotL is 1 cs.1 Int32 (ap (λ (l : List ℕ). slice_get l 1) cs.2) (λ k. refl) refl cs.4 int_some in
+        let first = forms.child_as p kept t sound b v here opcode.RotL is 0 cs.0 h.alike (ap (λ (l : List ℕ). slice_get l 0) cs.2)
+        (λ k. refl) refl cs.3 h.typed in
+        let second = forms.child_as p kept t sound b v here opcode.RotL is 1 cs.1 Int32 (ap (λ (l : List ℕ). slice_get l 1) cs.2)
+        (λ k. refl) refl cs.4 int_some in
         let x : child v.children 0 ≡ cs.0 = ap (λ (l : List ℕ). child l 0) cs.2 in
         let y : child v.children 1 ≡ cs.1 = ap (λ (l : List ℕ). child l 1) cs.2 in
         rotate_left_has (width_of h.alike) (ap width_of h.gives) (subst (λ n. Fits (Word (width_of h.alike) NoImmediate) (use_of t n)) (sym x) first)
@@ -446,14 +448,16 @@ module _ (p : Procedure) (valid : IsValidProcedure p) (fit : ValuesFit p.blocks)
       subst (λ f. IsWord NoImmediate W64 (if f then Imm (known t.index c).word else At (home t.index c))) (sym un) tt,
     )
 
-    module _ (o : Opcode) (eo : v.kind.opcode ≡ o) (i bytes : ℕ) (pointed : PointerAt p t v o i bytes) (pointer : ℕ) (there : slice_get v.children i ≡ Some pointer)
+    module _ (o : Opcode) (eo : v.kind.opcode ≡ o) (i bytes : ℕ) (pointed : PointerAt p t v o i bytes) (pointer : ℕ)
+        (there : slice_get v.children i ≡ Some pointer)
         (typed : type_of p pointer ≡ Int64) (in_range : IsOffset v.body) where
       far_has : Fits (Word W64 NoImmediate) (use_of t pointer) → All Has (far_sum t v pointer)
       far_has fits =
           let k : Arg = Imm (cast_unsigned w64 (offset_in v.body)) in
           let first = first_extra t.index v.id in
           let second = second_extra t.index v.id in
-          all_two Has (inst v op.Move (use_at W64 k ∷ def_at W64 first ∷ [])) (inst v op.Add (use_of t pointer ∷ use_at W64 (At first) ∷ def_at W64 second ∷ []))
+          all_two Has (inst v op.Move (use_at W64 k ∷ def_at W64 first ∷ []))
+          (inst v op.Add (use_of t pointer ∷ use_at W64 (At first) ∷ def_at W64 second ∷ []))
           (move_has W64 k first (offset_small v.body in_range, tt)) (
             W64,
             W64,
@@ -571,9 +575,11 @@ module _ (p : Procedure) (valid : IsValidProcedure p) (fit : ValuesFit p.blocks)
                 (refl, ap width_of (role_row opcode.SlotBase is).0, tt),
           )
       code_has opcode.Load8Z is built =
-          load_has opcode.Load8Z op.Load8Z Byte Int32 1 is refl (row opcode.Load8Z is).gives refl (load8z_at p t v b its_known) (λ ty ts a. a.children) (λ os f. (W32, W32, f))
+          load_has opcode.Load8Z op.Load8Z Byte Int32 1 is refl (row opcode.Load8Z is).gives refl (load8z_at p t v b its_known)
+          (λ ty ts a. a.children) (λ os f. (W32, W32, f))
       code_has opcode.Load8S is built =
-          load_has opcode.Load8S op.Load8S Byte Int32 1 is refl (row opcode.Load8S is).gives refl (load8s_at p t v b its_known) (λ ty ts a. a.children) (λ os f. (W32, W32, f))
+          load_has opcode.Load8S op.Load8S Byte Int32 1 is refl (row opcode.Load8S is).gives refl (load8s_at p t v b its_known)
+          (λ ty ts a. a.children) (λ os f. (W32, W32, f))
       code_has opcode.Load16Z is built =
           load_has opcode.Load16Z op.Load16Z Half Int32 2 is refl (row opcode.Load16Z is).gives refl (load16z_at p t v b its_known) (λ ty ts a. a.children)
           (λ os f. (W32, W32, f))

@@ -106,17 +106,25 @@ module _ (p : Procedure) (t : Tables) (start : Start) (v : Value) (h : Here p t 
   plain_does un opcode.Return eo built = return_does p t start v h junk eo
   plain_does un opcode.FramePointer eo built = frame_does p t start v h junk eo
   plain_does un opcode.SlotBase eo built = slot_does p t start v h junk eo
-  plain_does un opcode.Load8Z eo built = load_does p t start v h junk opcode.Load8Z op.Load8Z Byte false eo refl refl (λ e. cc) (load8z_at p t v h.block known_here) (λ ty ts a. a.children)
-  plain_does un opcode.Load8S eo built = load_does p t start v h junk opcode.Load8S op.Load8S Byte true eo refl refl (λ e. cc) (load8s_at p t v h.block known_here) (λ ty ts a. a.children)
-  plain_does un opcode.Load16Z eo built = load_does p t start v h junk opcode.Load16Z op.Load16Z Half false eo refl refl (λ e. cc) (load16z_at p t v h.block known_here) (λ ty ts a. a.children)
-  plain_does un opcode.Load16S eo built = load_does p t start v h junk opcode.Load16S op.Load16S Half true eo refl refl (λ e. cc) (load16s_at p t v h.block known_here) (λ ty ts a. a.children)
-  plain_does un opcode.Load eo built = load_does p t start v h junk opcode.Load op.Load Whole false eo refl refl (λ e. cc) (load_at p t v h.block known_here) (λ ty ts a. a.children)
+  plain_does un opcode.Load8Z eo built = load_does p t start v h junk opcode.Load8Z op.Load8Z Byte false eo refl refl (λ e. cc)
+      (load8z_at p t v h.block known_here) (λ ty ts a. a.children)
+  plain_does un opcode.Load8S eo built = load_does p t start v h junk opcode.Load8S op.Load8S Byte true eo refl refl (λ e. cc)
+      (load8s_at p t v h.block known_here) (λ ty ts a. a.children)
+  plain_does un opcode.Load16Z eo built = load_does p t start v h junk opcode.Load16Z op.Load16Z Half false eo refl refl (λ e. cc)
+      (load16z_at p t v h.block known_here) (λ ty ts a. a.children)
+  plain_does un opcode.Load16S eo built = load_does p t start v h junk opcode.Load16S op.Load16S Half true eo refl refl (λ e. cc)
+      (load16s_at p t v h.block known_here) (λ ty ts a. a.children)
+  plain_does un opcode.Load eo built = load_does p t start v h junk opcode.Load op.Load Whole false eo refl refl (λ e. cc)
+      (load_at p t v h.block known_here) (λ ty ts a. a.children)
   plain_does un opcode.Store8 eo built =
-      store_does p t start v h junk opcode.Store8 op.Store8 Byte (This Int32) eo refl refl (λ e. cc) (λ k. refl) (store8_at p t v h.block known_here) (λ ty ts a. a.children)
+      store_does p t start v h junk opcode.Store8 op.Store8 Byte (This Int32) eo refl refl (λ e. cc) (λ k. refl)
+      (store8_at p t v h.block known_here) (λ ty ts a. a.children)
   plain_does un opcode.Store16 eo built =
-      store_does p t start v h junk opcode.Store16 op.Store16 Half (This Int32) eo refl refl (λ e. cc) (λ k. refl) (store16_at p t v h.block known_here) (λ ty ts a. a.children)
+      store_does p t start v h junk opcode.Store16 op.Store16 Half (This Int32) eo refl refl (λ e. cc) (λ k. refl)
+      (store16_at p t v h.block known_here) (λ ty ts a. a.children)
   plain_does un opcode.Store eo built =
-      store_does p t start v h junk opcode.Store op.Store Whole Any eo refl refl (λ e. cc) (λ k. refl) (store_at p t v h.block known_here) (λ ty ts a. a.children)
+      store_does p t start v h junk opcode.Store op.Store Whole Any eo refl refl (λ e. cc) (λ k. refl) (store_at p t v h.block known_here)
+      (λ ty ts a. a.children)
   plain_does un opcode.CCall eo built = absurd (cc)
   plain_does un opcode.Patchpoint eo built = absurd (cc)
   plain_does un opcode.Check eo built = absurd (cc)

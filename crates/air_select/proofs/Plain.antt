@@ -233,7 +233,8 @@ module _ (p : Procedure) (t : Tables) (start : Start) (v : Value) (h : Here p t 
         gives_does p t start v h junk (result v.kind.opcode v.kind.chill v.ty (words_here p t start v h) (types_of p v))
         (steps (meaning start) (computes t v (op_of o)) h.s junk)
         (λ w g.
-        over_does o (op_of o) w e (λ n k. one_op_none t.index (pointers p) o n v.id k is free) (result_small p t start v h w (ap role_of e ∙ one_op_pure o is) g)
+        over_does o (op_of o) w e (λ n k. one_op_none t.index (pointers p) o n v.id k is free)
+        (result_small p t start v h w (ap role_of e ∙ one_op_pure o is) g)
         (computing (op_of o) v.id (reads v.children (words_here p t start v h)) h.s.world w (one_op_kind o is)
         (ap (λ (k : Width). computed (op_of o) k (map (λ (r : Read). r.1) (reads v.children (words_here p t start v h))))
         (reads_width v.children (words_here p t start v h) (are_words p t start v h))

@@ -52,7 +52,8 @@ module _ (p : Procedure) (valid : IsKept p) (t : Tables) (sound : IsSound p t) (
   Comes ts junk (b3.At block st) o =
       (k : ℕ) × (s : State) × (o ≡ (Goes (Some (To k)) s, junk)) × (slice_get ts k ≡ Some (block + 1)) × Related p t start st s
       × ((passed : List ℕ) × IsReached p passed block [] st)
-  Comes ts junk (b3.Over seen) o = (status : Status) × (s : State) × (rest : List ℕ) × (o ≡ (Goes (Some (Over status)) s, rest)) × (seen_as s.world status ≡ seen)
+  Comes ts junk (b3.Over seen) o =
+      (status : Status) × (s : State) × (rest : List ℕ) × (o ≡ (Goes (Some (Over status)) s, rest)) × (seen_as s.world status ≡ seen)
   Comes ts junk (b3.Lost loss) o = Unit {0}
 
   abbrev Running : List Value → State → List ℕ → Outcome × List ℕ

@@ -350,7 +350,10 @@ module _ (t : Tables) (v : Value) where
       let bytes = extent_bytes extent width in
       All-append IsFine (before_access t v pointer bytes) _
       (All-weaker IsPlain IsFine plain_fine (before_access t v pointer bytes) (before_plain pointer bytes))
-      (all_one IsFine _ (record { selected = is; low = low_two (use_at width (address_of t v pointer bytes)) (result_of t v) (address_low width pointer bytes) tt }))
+      (all_one IsFine _ (record {
+        selected = is;
+        low = low_two (use_at width (address_of t v pointer bytes)) (result_of t v) (address_low width pointer bytes) tt;
+      }))
 
   store_fine : (air_op : AirOp) (extent : Extent) → is_selected air_op ≡ true → All IsFine (store_of t v air_op extent)
   store_fine air_op extent is =

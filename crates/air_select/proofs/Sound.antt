@@ -1,6 +1,6 @@
 -- What selection looks up of a valid procedure is what the proofs need of it.
-use Rattle.std.proofs.Common.{◌≡◌, ◌≢◌, ℕ, ℤ, zero, suc, ◌+◌, ◌<◌, ◌⊎◌, inl, inr, Bool, true, false, ◌&&◌, ◌||◌, List, [], ◌∷◌, Option, Some, None, length, map, refl, sym, ap, ◌∙◌, subst, arith, nat_eq, ⊎_elim}
-use Rattle.std.specs.Prelude.{Contains, slice_get, slice_index_or}
+use Rattle.std.proofs.Common.{◌≡◌, ◌≢◌, ℕ, zero, suc, ◌+◌, ◌<◌, ◌⊎◌, inl, inr, Bool, true, false, ◌&&◌, ◌||◌, List, [], ◌∷◌, Option, Some, None, length, map, refl, sym, ap, ◌∙◌, subst, arith, nat_eq, ⊎_elim}
+use Rattle.std.specs.Prelude.{Contains, not, slice_get, slice_index_or}
 use Rattle.std.specs.List.{flat_map, list_all}
 use Rattle.std.specs.Option.{option_map}
 use Rattle.std.proofs.Math.ListN.{get_or-eq_default}
@@ -16,7 +16,7 @@ use Rattle.b3_ir.specs.declared.opcode.Opcode.TheVariants as opcode
 use Rattle.b3_ir.specs.declared.value.Value.{Value}
 use Rattle.b3_rules.specs.Valid.{IsValidProcedure}
 use Rattle.b3_sound.proofs.Lists.{contains_cases, contains_head, contains_none, contains_tail}
-use Rattle.air_fold.specs.Foldable.{Use, access_bytes, first_fits, fits, fits_as, is_add, is_bit_test, is_comparison, is_constant, is_foldable, is_folded_by, is_index, is_pointer, is_shl, pointer_of, pointers, reaches, second_fits, uses, uses_by, uses_from, uses_in, uses_of, value_fits}
+use Rattle.air_fold.specs.Foldable.{Use, access_bytes, first_fits, fits, fits_as, is_add, is_bit_test, is_comparison, is_constant, is_foldable, is_folded_by, is_index, is_pointer, is_shl, is_three, pointer_of, pointers, reaches, second_fits, uses, uses_by, uses_from, uses_in, uses_of, value_fits}
 use Rattle.air_select.specs.Selected.{folds, tables}
 use Rattle.air_fold.specs.Values.{Index, ids_of, index_of, known, known_from, known_in, unknown}
 use Rattle.air_fold.specs.declared.known.Known.{Known}
@@ -92,7 +92,8 @@ use_by block user op at (c ∷ children) zero id e =
     let rest = uses_from block user op (suc at) children in
     let u : Use = record { id = c; block = block; user = user; opcode = op; at = at } in
     let as_it_is : u ≡ record { id = id; block = block; user = user; opcode = op; at = at + 0 } =
-    ap (λ n. record { id = n; block = block; user = user; opcode = op; at = at }) same ∙ ap (λ n. record { id = id; block = block; user = user; opcode = op; at = n }) here in
+    ap (λ n. record { id = n; block = block; user = user; opcode = op; at = at }) same
+    ∙ ap (λ n. record { id = id; block = block; user = user; opcode = op; at = n }) here in
     subst (λ (w : Use). Contains (u ∷ rest) w) as_it_is (contains_head u rest)
 use_by block user op at (c ∷ children) (suc i) id e =
     let next : suc at + i ≡ at + suc i = omega arith in
@@ -176,7 +177,7 @@ second_kind x f opcode.Store8 user k e = pointer_kind x user opcode.Store8 false
 second_kind x f opcode.Store16 user k e = pointer_kind x user opcode.Store16 false k e
 second_kind x f opcode.Store user k e = pointer_kind x user opcode.Store true k e
 second_kind x f opcode.Add user k e =
-    inr (inr (inr (inr (both_first (is_shl k.opcode) (is_constant (known x k.second).opcode && nat_eq (known x k.second).word 3)
+    inr (inr (inr (inr (both_first (is_shl k.opcode) (is_three (known x k.second) && not (is_constant (known x k.first).opcode))
     (both_second (is_pointer x f user) (is_index x k) e)))))
 second_kind x f _ user k e = absurd cc
 
@@ -238,7 +239,7 @@ add_value x f g op (suc zero) user k e = by op
     none : (h : List Bool) → (is_pointer x h user && is_index x k) ≡ false
     none h =
         never (is_pointer x h user) (is_index x k)
-        (ap (λ b. b && (is_constant (known x k.second).opcode && nat_eq (known x k.second).word 3)) (no_shift k.opcode e))
+        (ap (λ b. b && (is_three (known x k.second) && not (is_constant (known x k.first).opcode))) (no_shift k.opcode e))
 
     by : (o : Opcode) → second_fits x f o user k ≡ second_fits x g o user k
     by opcode.Add = none f ∙ sym (none g)

@@ -46,20 +46,75 @@ pub record IsPair (o : Opcode) : Type 0 where
   pub none_first : first_immediates o ≡ NoImmediate
 
 comparison_pair : (o : Opcode) → is_comparison o ≡ true → IsPair o
-comparison_pair opcode.Equal e = record { taken = λ ty types h. (h.alike, h.typed, h.children); plain = refl; no_sum = λ x f i user. refl; none_first = refl }
-comparison_pair opcode.NotEqual e = record { taken = λ ty types h. (h.alike, h.typed, h.children); plain = refl; no_sum = λ x f i user. refl; none_first = refl }
-comparison_pair opcode.LessThan e = record { taken = λ ty types h. (h.alike, h.typed, h.children); plain = refl; no_sum = λ x f i user. refl; none_first = refl }
-comparison_pair opcode.GreaterThan e = record { taken = λ ty types h. (h.alike, h.typed, h.children); plain = refl; no_sum = λ x f i user. refl; none_first = refl }
-comparison_pair opcode.LessEqual e = record { taken = λ ty types h. (h.alike, h.typed, h.children); plain = refl; no_sum = λ x f i user. refl; none_first = refl }
-comparison_pair opcode.GreaterEqual e = record { taken = λ ty types h. (h.alike, h.typed, h.children); plain = refl; no_sum = λ x f i user. refl; none_first = refl }
-comparison_pair opcode.Above e = record { taken = λ ty types h. (h.alike, h.typed, h.children); plain = refl; no_sum = λ x f i user. refl; none_first = refl }
-comparison_pair opcode.Below e = record { taken = λ ty types h. (h.alike, h.typed, h.children); plain = refl; no_sum = λ x f i user. refl; none_first = refl }
-comparison_pair opcode.AboveEqual e = record { taken = λ ty types h. (h.alike, h.typed, h.children); plain = refl; no_sum = λ x f i user. refl; none_first = refl }
-comparison_pair opcode.BelowEqual e = record { taken = λ ty types h. (h.alike, h.typed, h.children); plain = refl; no_sum = λ x f i user. refl; none_first = refl }
+comparison_pair opcode.Equal e = record {
+  taken = λ ty types h. (h.alike, h.typed, h.children);
+  plain = refl;
+  no_sum = λ x f i user. refl;
+  none_first = refl;
+}
+comparison_pair opcode.NotEqual e = record {
+  taken = λ ty types h. (h.alike, h.typed, h.children);
+  plain = refl;
+  no_sum = λ x f i user. refl;
+  none_first = refl;
+}
+comparison_pair opcode.LessThan e = record {
+  taken = λ ty types h. (h.alike, h.typed, h.children);
+  plain = refl;
+  no_sum = λ x f i user. refl;
+  none_first = refl;
+}
+comparison_pair opcode.GreaterThan e = record {
+  taken = λ ty types h. (h.alike, h.typed, h.children);
+  plain = refl;
+  no_sum = λ x f i user. refl;
+  none_first = refl;
+}
+comparison_pair opcode.LessEqual e = record {
+  taken = λ ty types h. (h.alike, h.typed, h.children);
+  plain = refl;
+  no_sum = λ x f i user. refl;
+  none_first = refl;
+}
+comparison_pair opcode.GreaterEqual e = record {
+  taken = λ ty types h. (h.alike, h.typed, h.children);
+  plain = refl;
+  no_sum = λ x f i user. refl;
+  none_first = refl;
+}
+comparison_pair opcode.Above e = record {
+  taken = λ ty types h. (h.alike, h.typed, h.children);
+  plain = refl;
+  no_sum = λ x f i user. refl;
+  none_first = refl;
+}
+comparison_pair opcode.Below e = record {
+  taken = λ ty types h. (h.alike, h.typed, h.children);
+  plain = refl;
+  no_sum = λ x f i user. refl;
+  none_first = refl;
+}
+comparison_pair opcode.AboveEqual e = record {
+  taken = λ ty types h. (h.alike, h.typed, h.children);
+  plain = refl;
+  no_sum = λ x f i user. refl;
+  none_first = refl;
+}
+comparison_pair opcode.BelowEqual e = record {
+  taken = λ ty types h. (h.alike, h.typed, h.children);
+  plain = refl;
+  no_sum = λ x f i user. refl;
+  none_first = refl;
+}
 comparison_pair _ e = absurd cc
 
 and_pair : (o : Opcode) → is_and o ≡ true → IsPair o
-and_pair opcode.BitAnd e = record { taken = λ ty types h. (h.alike, h.typed, h.children); plain = refl; no_sum = λ x f i user. refl; none_first = refl }
+and_pair opcode.BitAnd e = record {
+  taken = λ ty types h. (h.alike, h.typed, h.children);
+  plain = refl;
+  no_sum = λ x f i user. refl;
+  none_first = refl;
+}
 and_pair _ e = absurd cc
 
 comparison_immediates : (o : Opcode) → is_comparison o ≡ true → second_immediates o ≡ OfSum

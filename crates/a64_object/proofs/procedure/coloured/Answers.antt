@@ -1,3 +1,11 @@
-use Rattle.std.proofs.Common.{ap, subst, sym}
-use Rattle.a64_object.proofs.Colouring.{moves_few, names_few}
+use Rattle.std.proofs.Common.{List, length, ◌^◌, ◌≤◌, arith, subst, sym}
+use Rattle.air_graph.specs.declared.moves.Copied.{Copied}
+use Rattle.a64_object.proofs.Colouring.{moves_few}
 use Rattle.a64_object.proofs.procedure.coloured.Goals as goal
+
+pub colour-requires : goal.colour-requires
+colour-requires c =
+    subst (λ (moves : List Copied). length moves ≤ 2 ^ 32) (sym c.in_ok-graph.ensures.moves) (omega (arith, moves_few c.args.p.now, c.requires.light))
+
+pub returns-clause-coloured : goal.returns-clause-coloured
+returns-clause-coloured c = (c.in_ok-graph.graph, c.in_ok-graph.ensures, c.in_ok-assignment.ensures.coloured)

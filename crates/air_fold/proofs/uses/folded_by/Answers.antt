@@ -18,7 +18,8 @@ loop-place-preserved c =
     let k = c.get.result.now in
     let t = c.get-in-loop-place.result.now in
     let all =
-    tallied_all x c.args.pointers.now p (none (length x.known)) c.loop-block.tallies c.loop-block.block (omega (arith, c.blocks-block-end.ensures)) c.loop-block.invariant in
+    tallied_all x c.args.pointers.now p (none (length x.known)) c.loop-block.tallies c.loop-block.block
+    (omega (arith, c.blocks-block-end.ensures)) c.loop-block.invariant in
     let at_k : slice_get x.known at ≡ Some k = rw (← c.index.view_is) c.get.ensures in
     let at_t : slice_get c.loop-block.tallies at ≡ Some t = c.get-in-loop-place.ensures in
     fold_next p c.requires.valid x c.args.pointers.now (length x.known) at c.loop-block.tallies k t c.requires.index refl all at_k at_t c.loop-place.folds c.push.new.self

@@ -1,4 +1,4 @@
-use Rattle.std.proofs.Common.{◌≡◌, List, Bool, [], map, subst, sym, ap, ◌∙◌}
+use Rattle.std.proofs.Common.{◌≡◌, List, Bool, map, subst, ap, ◌∙◌}
 use Rattle.std.specs.Prelude.{IfOk}
 use Rattle.air_fold.specs.Foldable.{is_folded_by, pointers, uses}
 use Rattle.air_fold.specs.Values.{ids_of, index_of}

@@ -21,6 +21,7 @@ loop-at-preserved c =
     let v = c.value.result.now in
     let walk = rw c.in-Some.is at c.loop-at.invariant in
     walk_next c.args.p.now b c.in-Some.node v c.next-at.result (λ (vs : List Value). with_all x c.args.pointers.now c.loop-at.tallies (flat_map (uses_by b) vs))
-    (λ (vs : List Value). with_all x c.args.pointers.now c.note_value.new.tallies (flat_map (uses_by b) vs)) (with_all x c.args.pointers.now c.args.tallies.now (block_uses c.args.p.now.procedure b))
+    (λ (vs : List Value). with_all x c.args.pointers.now c.note_value.new.tallies (flat_map (uses_by b) vs))
+    (with_all x c.args.pointers.now c.args.tallies.now (block_uses c.args.p.now.procedure b))
     walk (c.value.ensures.head b walk.there) (value_next x c.args.pointers.now b c.loop-at.tallies c.note_value.new.tallies v c.note_value.ensures)
     (c.next-at.ensures.rest b walk.there) (c.next-at.ensures.there b walk.there)
