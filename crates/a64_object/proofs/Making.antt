@@ -136,7 +136,7 @@ short_asked p air is placed =
     omega arith
 
 -- ---- the rows of slots
-row_at : (offset size : ℕ) → SlotRow
+abbrev row_at : (offset size : ℕ) → SlotRow
 row_at offset size = record { offset = offset; size = size }
 
 rows_append : (offsets sizes : List ℕ) (offset size : ℕ) → length offsets ≡ length sizes
