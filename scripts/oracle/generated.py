@@ -13,11 +13,14 @@ class Draws:
         return self.state >> 33
 
 
-def procedure(name, draws, last):
-    """The lines of a procedure whose loop has the values b@13 to b@last beside its Phi and its end."""
+def procedure(name, draws, last, reach=None):
+    """The lines of a procedure whose loop has the values b@13 to b@last beside its Phi and its end. Its operands are any
+    values before, or, where `reach` is given, among so many right before."""
     def child(k):
-        u = draws.draw() % (k - 2)
-        return u if u < 10 else u + 2
+        u = draws.draw() % (k - 2 if reach is None else min(reach, k - 2))
+        if reach is None:
+            return u if u < 10 else u + 2
+        return 12 if k - 1 - u in (10, 11) else k - 1 - u
 
     lines = ["procedure " + name, "BB#0:"]
     lines += ["    Int64 b@%d = ArgumentReg(%%x%d)" % (r, r) for r in range(8)]
@@ -40,6 +43,6 @@ def text(n):
     return "\n".join(line for p in range(16) for line in procedure("g%d" % p, draws, 512)) + "\n"
 
 
-def one_text(values):
+def one_text(values, reach=None):
     """One procedure of so many values, made in the same way."""
-    return "\n".join(procedure("g", Draws(0), values - 5)) + "\n"
+    return "\n".join(procedure("g", Draws(0), values - 5, reach)) + "\n"
