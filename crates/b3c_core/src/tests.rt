@@ -1,6 +1,7 @@
 //! The tool on whole inputs: what it writes, which line it names, and its status.
 
 mod commands;
+mod memory;
 mod objects;
 mod passes;
 mod streams;

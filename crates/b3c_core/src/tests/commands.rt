@@ -9,13 +9,13 @@ fn an_object_is_written(rt: HostRuntime) -> Result<(), Fail> {
     let called = call(rt.alloc(), &["compile"], ADD_ONE.as_bytes(), "")?;
     assert_eq!(rt; called.status, 0);
     assert_eq!(rt; called.err.bytes(), b"".as_slice());
-    // e_machine 183; then stp x29, x30, [sp, #-16]!; mov x29, sp; sub sp, sp, #32
+    // e_machine 183; then stp x29, x30, [sp, #-16]!; mov x29, sp; add x0, x0, #1
     let machine = called.out.bytes().get(18..20).ok_or("too short")?;
     assert_eq!(rt; machine, b"\xb7\x00".as_slice());
-    let prologue = called.out.bytes().get(64..76).ok_or("too short")?;
+    let words = called.out.bytes().get(64..76).ok_or("too short")?;
     assert_eq!(rt;
-        prologue,
-        b"\xfd\x7b\xbf\xa9\xfd\x03\x00\x91\xff\x83\x00\xd1".as_slice()
+        words,
+        b"\xfd\x7b\xbf\xa9\xfd\x03\x00\x91\x00\x04\x00\x91".as_slice()
     );
     Ok(())
 }
@@ -139,37 +139,6 @@ fn texts_are_refused_by_line(rt: HostRuntime) -> Result<(), Fail> {
             "b3c: line 4: invalid rule 17\n",
         ),
         ("compile", UNCOVERED, 6, "b3c: line 11: invalid rule 20\n"),
-        // What is valid and has no code: a call, a patchpoint, a check, and a load and a store with Traps.
-        (
-            "compile",
-            "procedure f\nstack0: byteSize = 8\nBB#0:\n    Int64 b@0 = FramePointer()\n    Int64 b@1 = CCall(b@0)\n    Void b@2 = Return(b@1)\n",
-            10,
-            "b3c: line 5: not built\n",
-        ),
-        (
-            "compile",
-            "procedure f\nBB#0:\n    Int64 b@0 = ArgumentReg(%x0)\n    Void b@1 = Patchpoint(b@0:%x3)\n    Void b@2 = Return(b@0)\n",
-            10,
-            "b3c: line 4: not built\n",
-        ),
-        (
-            "compile",
-            "procedure f\nBB#0:\n    Int64 b@0 = ArgumentReg(%x0)\n    Int64 b@1 = Load(b@0)\n    Int64 b@2 = CheckAdd(b@0, b@1)\n    Void b@3 = Return(b@2)\n",
-            10,
-            "b3c: line 5: not built\n",
-        ),
-        (
-            "compile",
-            "procedure f\nBB#0:\n    Int64 b@0 = ArgumentReg(%x0)\n    Int64 b@1 = Load<Traps>(b@0)\n    Void b@2 = Return(b@1)\n",
-            10,
-            "b3c: line 4: not built\n",
-        ),
-        (
-            "compile",
-            "procedure f\nBB#0:\n    Int64 b@0 = ArgumentReg(%x0)\n    Void b@1 = Store(b@0, b@0)\n    Void b@2 = Store<Traps>(b@0, b@0)\n    Void b@3 = Return()\n",
-            10,
-            "b3c: line 5: not built\n",
-        ),
     ] {
         let called = call(rt.alloc(), &[word], text.as_bytes(), "")?;
         assert_eq!(rt; called.status, status, "{text}");
@@ -215,15 +184,15 @@ fn an_object_of_two_procedures_is_read_again(rt: HostRuntime) -> Result<(), Fail
     assert_eq!(rt; called.status, 0);
     let object = elf_obj::read(rt.alloc(), called.out.bytes())?;
     assert_eq!(rt; object.symbols.len(), 2);
-    // three words of prologue, one of an argument's store, two of its copy, four of the return; and 3, 2 and 4
+    // of both two words of prologue, one that puts the result in x0, and three of the return
     let (f, g) = (object.symbols.get(0), object.symbols.get(1));
     assert_eq!(rt;
         (f.name.as_slice(), f.offset, f.size),
-        (b"f".as_slice(), 0, 40)
+        (b"f".as_slice(), 0, 24)
     );
     assert_eq!(rt;
         (g.name.as_slice(), g.offset, g.size),
-        (b"g".as_slice(), 40, 36)
+        (b"g".as_slice(), 24, 24)
     );
     assert_eq!(rt; object.tables.frames.len(), 2);
     assert_eq!(rt; object.tables.sites.len(), 0);
