@@ -226,14 +226,18 @@ def first_breach(module):
 
 
 # ---- what is not compiled today
-UNCOMPILED = ["SlotBase", "FramePointer", "CCall", "Patchpoint", *ACCESSES, *CHECKS]
-COMPILED = [opcode for opcode in FORMS if opcode not in UNCOMPILED]
+UNCOMPILED = ["CCall", "Patchpoint", *CHECKS]
+# What is compiled and touches no memory and no frame.
+ARITHMETIC = [
+    opcode for opcode in FORMS if opcode not in ["SlotBase", "FramePointer", *ACCESSES, *UNCOMPILED]
+]
+
+
+def has_code(v):
+    return v["opcode"] not in UNCOMPILED and v["flag"] != "<Traps>"
 
 
 def unbuilt(module):
-    """The first line of a slot, or of a value without code."""
-    lines = []
-    for p in module:
-        lines += [line for _, _, line in p["slots"]]
-        lines += [v["line"] for block in p["blocks"] for v in block["values"] if v["opcode"] in UNCOMPILED]
+    """The first line of a value without code."""
+    lines = [v["line"] for p in module for block in p["blocks"] for v in block["values"] if not has_code(v)]
     return min(lines, default=None)

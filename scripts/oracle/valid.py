@@ -1,10 +1,10 @@
 """Random valid modules of the whole language or of what is compiled."""
-from oracle.rules import COMPARISONS, COMPILED, FORMS, INTS, OPEN, SHIFTS, site_breaches
+from oracle.rules import ARITHMETIC, COMPARISONS, FORMS, INTS, OPEN, SHIFTS, site_breaches
 from oracle.text import ACCESSES, ANYWHERE, CHECKS, TERMINALS
 
 WHOLE = [opcode for opcode in FORMS if opcode not in TERMINALS]
 # A Phi is made before the values of its block.
-PART = tuple(opcode for opcode in COMPILED if opcode not in (*TERMINALS, "Phi"))
+PART = tuple(opcode for opcode in ARITHMETIC if opcode not in (*TERMINALS, "Phi"))
 WORDS = [0, 1, 2, 5, 7, 2**31 - 1, 2**31, 2**32 - 1, 2**32, 2**63 - 1, 2**63, 2**64 - 1]
 QUOTIENTS = ("Div", "Mod", "UDiv", "UMod")
 # Opcodes whose second child may become a part of the instruction where it is a constant that fits.

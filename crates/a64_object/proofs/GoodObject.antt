@@ -24,7 +24,7 @@ use Rattle.a64_run.specs.Agrees.{Agrees}
 use Rattle.a64_run.specs.CodeOf.{IsCodeOf, IsCodeOfOne}
 use Rattle.air_select.specs.Contract.{IsWithinLimits}
 use Rattle.a64_object.specs.Joined.{ArePartsOf, IsJoinedOf, IsPartOf, Part, object_of, row_in, symbol_at, symbols_from, words_in}
-use Rattle.a64_object.specs.Taken.{AreWithinLimits, IsTaken}
+use Rattle.a64_object.specs.Taken.{AreWithinLimits, HasFewSlots, IsTaken}
 use Rattle.a64_object.proofs.Agreeing.{HasCode, agrees}
 use Rattle.a64_object.proofs.Joining.{bound_is, each_stands, text_short}
 use Rattle.a64_object.proofs.Making.{small_row, some_words, taken}
@@ -95,7 +95,7 @@ object_good ps parts all limits are narrow = record {
 
 -- ---- the file of the object is small
 frames_small : (ps : List Procedure) (parts : List Part) → All IsTaken ps → ArePartsOf ps parts
-    → sum_by (λ (frame : FrameRow). 16 + 8 * length frame.slots + 8 * length frame.saved) (map row_in parts) ≤ length ps * 96
+    → sum_by (λ (frame : FrameRow). 16 + 8 * length frame.slots + 8 * length frame.saved) (map row_in parts) ≤ length ps * 32864
 unfolding ArePartsOf
 frames_small [] [] are_taken are = omega arith
 frames_small [] (x ∷ parts) are_taken are = absurd are
@@ -117,11 +117,13 @@ symbols_small offset (p ∷ ps) (x ∷ parts) built are =
     omega (arith, symbols_small (offset + 4 * length x.words) ps parts (All-tail IsSupported p ps built) are.1)
 
 pub all_taken : (ps : List Procedure) → AreSupported ps → AreWithinLimits ps → All IsTaken ps
-all_taken ps all limits = by ps all.each limits.each
+all_taken ps all limits = by ps all.each limits.each limits.slots
   where
-    by : (qs : List Procedure) → All IsSupported qs → All IsWithinLimits qs → All IsTaken qs
-    by [] built within = All-nil _
-    by (q ∷ qs) built within = All-cons IsTaken q qs (taken q (All-head IsSupported q qs built).forms (All-head IsWithinLimits q qs within)) (by qs (All-tail IsSupported q qs built) (All-tail IsWithinLimits q qs within))
+    by : (qs : List Procedure) → All IsSupported qs → All IsWithinLimits qs → All HasFewSlots qs → All IsTaken qs
+    by [] built within slots = All-nil _
+    by (q ∷ qs) built within slots =
+        All-cons IsTaken q qs (taken q (All-head IsSupported q qs built) (All-head IsWithinLimits q qs within) (All-head HasFewSlots q qs slots))
+        (by qs (All-tail IsSupported q qs built) (All-tail IsWithinLimits q qs within) (All-tail HasFewSlots q qs slots))
 
 small_by : (ps : List Procedure) (parts : List Part) → AreSupported ps → AreWithinLimits ps → ArePartsOf ps parts → size_bound (object_of parts) ≤ 134_217_728
 small_by ps parts all limits are = omega (arith, text_below ps parts all limits are, all.few, frames_small ps parts (all_taken ps all limits) are, symbols_small 0 ps parts all.each are)

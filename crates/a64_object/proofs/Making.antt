@@ -1,11 +1,13 @@
 -- What the passes of a procedure that is taken may ask, and what is known of its words and its frame.
-use Rattle.std.proofs.Common.{◌≡◌, ℕ, zero, suc, ◌+◌, ◌*◌, ◌^◌, ◌<◌, ◌≤◌, true, not, List, [], ◌∷◌, ◌++◌, Some, length, refl, sym, ap, ◌∙◌, subst, arith, take, take-suc}
-use Rattle.std.specs.Prelude.{All, map, slice_get}
+use Rattle.std.proofs.Common.{◌≡◌, ℕ, zero, suc, ◌+◌, ◌*◌, ◌^◌, ◌<◌, ◌≤◌, Bool, true, false, not, List, [], ◌∷◌, ◌++◌, Some, length, refl, sym, ap, ◌∙◌, subst, arith, take, take-suc}
+use Rattle.std.specs.Prelude.{All, map, slice_get, sum_by}
 use Rattle.std.specs.List.{filter, flat_map}
-use Rattle.std.proofs.lemmas.List.{length-map}
-use Rattle.std.proofs.lemmas.List.Elements.{All-cons, All-nil, All-weaker}
+use Rattle.std.proofs.lemmas.Bool.{and_parts}
+use Rattle.std.proofs.lemmas.List.{length-map, length-take}
+use Rattle.std.proofs.lemmas.List.Elements.{All-cons, All-map, All-nil, All-weaker}
 use Rattle.std.proofs.lemmas.List.Concat.{flat_map-cons}
 use Rattle.std.proofs.lemmas.List.Filters.{length-filter_both}
+use Rattle.std.proofs.lemmas.List.Sums.{sum_by-cons}
 use Rattle.std.proofs.lemmas.Option.{get_or_from_slice_get, slice_get-map, slice_get-get_or, slice_get_within}
 use Rattle.std.specs.Option.{option_map}
 use Rattle.b3_ir.specs.Procedure.{Block, Kept, Procedure, empty_kept, procedures, total}
@@ -13,20 +15,21 @@ use Rattle.b3_ir.specs.declared.opcode.Opcode.{Opcode}
 use Rattle.b3_ir.specs.declared.opcode.Opcode.TheVariants as opcode
 use Rattle.b3_ir.specs.declared.procedure.SlotLine.{SlotLine}
 use Rattle.b3_ir.specs.declared.value.Value.{Value}
-use Rattle.b3_supported.specs.Forms.{HasCode, HasForms, has_code}
-use Rattle.stackmap.specs.declared.site.Returns.{Returns}
+use Rattle.b3_rules.specs.Valid.{IsValidProcedure, SlotAt}
+use Rattle.b3_rules.specs.declared.rule.Rule.TheVariants as rule
+use Rattle.b3_supported.specs.Forms.{HasCode, opcode_has_code}
+use Rattle.b3_supported.specs.Supported.{IsSupported}
 use Rattle.stackmap.specs.declared.site.SavedRow.{SavedRow}
 use Rattle.stackmap.specs.declared.site.SlotRow.{SlotRow}
 use Rattle.exit_table.specs.declared.tables.FrameRow.{FrameRow}
-use Rattle.air_ir.specs.declared.frame.Frame.{Frame}
 use Rattle.air_ir.specs.declared.procedure.AirProc.{AirProc}
 use Rattle.air_ir.specs.Weight.{weight}
-use Rattle.air_frame.specs.Frames.{HaveRoom, row_of, slot_bytes, slot_rows}
+use Rattle.air_frame.specs.Frames.{HaveRoom, rounded, slot_bytes, slot_rows}
 use Rattle.air_frame.specs.Needs.{callee_saved, spill_count, writes}
 use Rattle.a64_run.specs.Agrees.{child_count}
-use Rattle.air_select.specs.Contract.{HasArithmeticAlone, IsBuilt, IsWithinLimits, is_arithmetic_opcode, is_built, procedure_at}
+use Rattle.air_select.specs.Contract.{IsWithinLimits, is_built, procedure_at}
 use Rattle.a64_object.specs.Made.{IsMadeOf, IsPlacedOf}
-use Rattle.a64_object.specs.Taken.{IsTaken}
+use Rattle.a64_object.specs.Taken.{HasFewSlots, IsTaken, bytes_in}
 use Rattle.a64_object.proofs.Agreeing.{rows_length, ten_saved, text_of}
 use Rattle.a64_object.proofs.Items.{IsText}
 use Rattle.a64_layout.proofs.Words.{words_length}
@@ -56,17 +59,7 @@ all_behind : {X : Type 0} (P : X → Type 0) (a b : List X) → All P (a ++ b) �
 all_behind P a b all = all_of P b (λ k x there. one_in P (a ++ b) (length a + k) x (get_behind a b k ∙ there) all)
 
 -- ---- what is supported is taken
-code_built : (op : Opcode) → has_code op ≡ true → is_arithmetic_opcode op ≡ true
-code_built opcode.FramePointer e = cc
-code_built opcode.SlotBase e = cc
-code_built opcode.Load8Z e = cc
-code_built opcode.Load8S e = cc
-code_built opcode.Load16Z e = cc
-code_built opcode.Load16S e = cc
-code_built opcode.Load e = cc
-code_built opcode.Store8 e = cc
-code_built opcode.Store16 e = cc
-code_built opcode.Store e = cc
+code_built : (op : Opcode) → opcode_has_code op ≡ true → is_built op ≡ true
 code_built opcode.CCall e = cc
 code_built opcode.Patchpoint e = cc
 code_built opcode.Check e = cc
@@ -75,34 +68,38 @@ code_built opcode.CheckSub e = cc
 code_built opcode.CheckMul e = cc
 code_built _ e = refl
 
-blocks_built : (blocks : List Block) → All HasCode (flat_map (λ (b : Block). b.values) blocks)
-    → All (λ (b : Block). All (λ (v : Value). is_arithmetic_opcode v.kind.opcode ≡ true) b.values) blocks
-blocks_built [] all = All-nil _
-blocks_built (b ∷ blocks) all =
-    let parts : All HasCode (b.values ++ flat_map (λ (x : Block). x.values) blocks) = subst (All HasCode) (flat_map-cons (λ (x : Block). x.values) b blocks) all in
-    All-cons (λ (x : Block). All (λ (v : Value). is_arithmetic_opcode v.kind.opcode ≡ true) x.values) b blocks
-    (all_of (λ (v : Value). is_arithmetic_opcode v.kind.opcode ≡ true) b.values (λ k v there. code_built v.kind.opcode (one_in HasCode b.values k v there (all_front HasCode b.values (flat_map (λ (x : Block). x.values) blocks) parts))))
-    (blocks_built blocks (all_behind HasCode b.values (flat_map (λ (x : Block). x.values) blocks) parts))
+not_false : (b : Bool) → not b ≡ true → b ≡ false
+not_false true e = cc
+not_false false e = refl
 
--- what is selected as arithmetic is selected
-arithmetic_built : (op : Opcode) → is_arithmetic_opcode op ≡ true → is_built op ≡ true
-arithmetic_built opcode.CCall e = cc
-arithmetic_built opcode.Patchpoint e = cc
-arithmetic_built opcode.Check e = cc
-arithmetic_built opcode.CheckAdd e = cc
-arithmetic_built opcode.CheckSub e = cc
-arithmetic_built opcode.CheckMul e = cc
-arithmetic_built _ e = refl
+value_built : (v : Value) → HasCode v → is_built v.kind.opcode ≡ true
+value_built v has = code_built v.kind.opcode (and_parts (opcode_has_code v.kind.opcode) (not v.kind.traps) has).0
 
-pub built : (p : Procedure) → HasArithmeticAlone p → IsBuilt p
-built p alone =
-    let Q = λ (v : Value). is_arithmetic_opcode v.kind.opcode ≡ true in
-    let R = λ (v : Value). is_built v.kind.opcode ≡ true in
-    All-weaker (λ (b : Block). All Q b.values) (λ (b : Block). All R b.values)
-    (λ b all. All-weaker Q R (λ v e. arithmetic_built v.kind.opcode e) b.values all) p.blocks alone
+value_untrapped : (v : Value) → HasCode v → v.kind.traps ≡ false
+value_untrapped v has = not_false v.kind.traps (and_parts (opcode_has_code v.kind.opcode) (not v.kind.traps) has).1
 
-pub taken : (p : Procedure) → HasForms p → IsWithinLimits p → IsTaken p
-taken p forms limits = record { built = blocks_built p.blocks forms.values; slots = forms.slots; limits = limits }
+-- what holds of each value that has code holds of all, block by block
+module _ (P : Value → Type 0) (each : (v : Value) → HasCode v → P v) where
+  in_blocks : (blocks : List Block) → All HasCode (flat_map (λ (b : Block). b.values) blocks) → All (λ (b : Block). All P b.values) blocks
+  in_blocks [] all = All-nil _
+  in_blocks (b ∷ blocks) all =
+      let rest = flat_map (λ (x : Block). x.values) blocks in
+      let parts : All HasCode (b.values ++ rest) = subst (All HasCode) (flat_map-cons (λ (x : Block). x.values) b blocks) all in
+      All-cons (λ (x : Block). All P x.values) b blocks
+      (All-weaker HasCode P each b.values (all_front HasCode b.values rest parts))
+      (in_blocks blocks (all_behind HasCode b.values rest parts))
+
+sizes_of : (p : Procedure) → IsValidProcedure p → All (λ (slot : SlotLine). 1 ≤ slot.bytes) p.slots
+sizes_of p valid = all_of (λ (slot : SlotLine). 1 ≤ slot.bytes) p.slots (λ k slot there. let keeps : (slot.number ≡ k) × (0 < slot.bytes) = valid rule.Slots (SlotAt k slot) there in omega (arith, keeps.1))
+
+pub taken : (p : Procedure) → IsSupported p → IsWithinLimits p → HasFewSlots p → IsTaken p
+taken p is limits slots = record {
+  built = in_blocks (λ (v : Value). is_built v.kind.opcode ≡ true) value_built p.blocks is.forms.values;
+  untrapped = in_blocks (λ (v : Value). v.kind.traps ≡ false) value_untrapped p.blocks is.forms.values;
+  sizes = sizes_of p is.valid;
+  limits = limits;
+  slots = slots;
+}
 
 -- the procedure at a place of a module
 pub procedure_there : (m : List Kept) (at : ℕ) → at < length m → slice_get (procedures m) at ≡ Some (procedure_at m at)
@@ -110,15 +107,24 @@ procedure_there m at lt =
     slice_get-map (λ (k : Kept). k.procedure) m at ∙ ap (option_map (λ (k : Kept). k.procedure)) (slice_get-get_or m at (empty_kept [] 0) lt)
 
 -- ---- what the passes ask
-no_slots : (p : Procedure) (air : AirProc) → IsTaken p → IsPlacedOf p air → air.slots ≡ []
-no_slots p air is placed = placed.slots ∙ ap (map (λ (slot : SlotLine). slot.bytes)) is.slots
-
 pub slots_asked : (p : Procedure) (air : AirProc) → IsTaken p → IsPlacedOf p air → All (λ size. 1 ≤ size) air.slots
-slots_asked p air is placed = subst (All (λ size. 1 ≤ size)) (sym (no_slots p air is placed)) (All-nil _)
+slots_asked p air is placed = subst (All (λ size. 1 ≤ size)) (sym placed.slots) (All-map (λ size. 1 ≤ size) (λ (slot : SlotLine). slot.bytes) p.slots is.sizes)
+
+-- slots have at most 15 bytes more than what stands in them
+rounded_up : (n : ℕ) → rounded n ≤ n + 15
+rounded_up n = omega arith
+
+slots_rounded : (slots : List SlotLine) → slot_bytes (map (λ (slot : SlotLine). slot.bytes) slots) ≤ sum_by bytes_in slots + 15 * length slots
+slots_rounded [] = omega arith
+slots_rounded (slot ∷ slots) =
+    omega (arith, sum_by-cons rounded slot.bytes (map (λ (s : SlotLine). s.bytes) slots), sum_by-cons bytes_in slot slots, rounded_up slot.bytes, slots_rounded slots)
 
 pub room_asked : (p : Procedure) (air : AirProc) → IsTaken p → IsPlacedOf p air → HaveRoom air.slots (spill_count air)
 room_asked p air is placed =
-    let none : slot_bytes air.slots ≡ 0 = ap slot_bytes (no_slots p air is placed) in
+    let same : slot_bytes air.slots ≡ slot_bytes (map (λ (slot : SlotLine). slot.bytes) p.slots) = ap slot_bytes placed.slots in
+    let most = slots_rounded p.slots in
+    let count = is.slots.slots in
+    let bytes = is.slots.bytes in
     let few = placed.spills in
     omega arith
 
@@ -129,22 +135,25 @@ short_asked p air is placed =
     let children = is.limits.children in
     omega arith
 
-no_rows : (offsets : List ℕ) → slot_rows offsets [] ≡ []
-no_rows [] = refl
-no_rows (offset ∷ offsets) = refl
+-- ---- the rows of slots
+abbrev row_at : (offset size : ℕ) → SlotRow
+row_at offset size = record { offset = offset; size = size }
 
--- the row of a frame without slots
-pub row_without : (f : Frame) (returns : Returns) → record { bytes = f.bytes; returns = returns; slots = []; saved = f.saved } ≡ row_of f [] returns
-row_without f returns = ap (λ rows. row_by rows) (sym (no_rows f.slots))
-  where
-    row_by : List SlotRow → FrameRow
-    row_by rows = record { bytes = f.bytes; returns = returns; slots = rows; saved = f.saved }
+rows_append : (offsets sizes : List ℕ) (offset size : ℕ) → length offsets ≡ length sizes
+    → slot_rows (offsets ++ offset ∷ []) (sizes ++ size ∷ []) ≡ slot_rows offsets sizes ++ row_at offset size ∷ []
+rows_append [] [] offset size same = refl
+rows_append [] (y ∷ sizes) offset size same = absurd (omega arith)
+rows_append (x ∷ offsets) [] offset size same = absurd (omega arith)
+rows_append (x ∷ offsets) (y ∷ sizes) offset size same = ap (λ rows. row_at x y ∷ rows) (rows_append offsets sizes offset size (omega arith))
 
-pub row_made : (f : Frame) (returns : Returns) (rows : List SlotRow) → rows ≡ [] → record { bytes = f.bytes; returns = returns; slots = rows; saved = f.saved } ≡ row_of f [] returns
-row_made f returns rows none = rw none (row_without f returns)
-
-pub row_is_so : (p : Procedure) (air : AirProc) (f : Frame) (row : FrameRow) → IsTaken p → IsPlacedOf p air → row ≡ row_of f [] air.returns → row ≡ row_of f air.slots air.returns
-row_is_so p air f row is placed e = e ∙ ap (λ sizes. row_of f sizes air.returns) (sym (no_slots p air is placed))
+-- one row more
+pub rows_more : (offsets sizes : List ℕ) (k offset size : ℕ) (rows next : List SlotRow) → length offsets ≡ length sizes
+    → slice_get offsets k ≡ Some offset → slice_get sizes k ≡ Some size → rows ≡ slot_rows (take k offsets) (take k sizes) → next ≡ rows ++ row_at offset size ∷ []
+    → next ≡ slot_rows (take (k + 1) offsets) (take (k + 1) sizes)
+rows_more offsets sizes k offset size rows next same at its so_far more =
+    let few : length (take k offsets) ≡ length (take k sizes) = omega (arith, length-take k offsets, length-take k sizes, slice_get_within offsets k offset at, same) in
+    more ∙ ap (λ (rs : List SlotRow). rs ++ row_at offset size ∷ []) so_far ∙ sym (rows_append (take k offsets) (take k sizes) offset size few)
+    ∙ ap (λ xs. slot_rows xs (take k sizes ++ size ∷ [])) (sym (take_more offsets k offset at)) ∙ ap (slot_rows (take (k + 1) offsets)) (sym (take_more sizes k size its))
 
 -- ---- what is known of the words
 module _ (p : Procedure) (words : List ℕ) (row : FrameRow) (made : IsMadeOf p words row) where
@@ -164,11 +173,12 @@ module _ (p : Procedure) (words : List ℕ) (row : FrameRow) (made : IsMadeOf p 
       let whole = made.placed.light in
       omega arith
 
-  pub small_row : IsTaken p → 16 + 8 * length row.slots + 8 * length row.saved ≤ 96
+  pub small_row : IsTaken p → 16 + 8 * length row.slots + 8 * length row.saved ≤ 32864
   small_row is =
       let slots : length row.slots ≡ length (slot_rows made.frame.slots made.air.slots) = ap (λ (r : FrameRow). length r.slots) made.row_is in
       let rows = rows_length made.frame.slots made.air.slots made.is_frame.slots in
-      let none : length made.air.slots ≡ 0 = ap length (no_slots p made.air is made.placed) in
+      let count : length made.air.slots ≡ length p.slots = ap length made.placed.slots ∙ length-map p.slots (λ (slot : SlotLine). slot.bytes) in
+      let most_slots = is.slots.slots in
       let saved : length row.saved ≡ length made.frame.saved = ap (λ (r : FrameRow). length r.saved) made.row_is in
       let few = length-map made.frame.saved (λ (s : SavedRow). s.reg.0) in
       let kept : length (map (λ (s : SavedRow). s.reg.0) made.frame.saved) ≡ length (filter (writes made.air) callee_saved) = ap length made.is_frame.saved in

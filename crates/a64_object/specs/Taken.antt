@@ -1,16 +1,28 @@
--- The procedures that are taken: those that are selected as arithmetic alone, without slots, within the limits.
-use Rattle.std.specs.Prelude.{◌≡◌, ◌≤◌, List, [], All, sum_by}
+-- The procedures that are taken: those that are selected, without traps, within the limits.
+use Rattle.std.specs.Prelude.{ℕ, ◌≤◌, List, All, length, sum_by}
 use Rattle.b3_ir.specs.Procedure.{Procedure, total}
+use Rattle.b3_ir.specs.declared.procedure.SlotLine.{SlotLine}
 use Rattle.a64_run.specs.Agrees.{child_count}
-use Rattle.air_select.specs.Contract.{HasArithmeticAlone, IsWithinLimits}
+use Rattle.air_select.specs.Contract.{HasNoTraps, IsBuilt, IsWithinLimits}
+
+abbrev pub bytes_in : SlotLine → ℕ
+bytes_in slot = slot.bytes
+
+-- a procedure that has no more slots, and no more bytes in them, than a text may have
+pub record HasFewSlots (p : Procedure) : Type 0 where
+  pub slots : length p.slots ≤ 4096
+  pub bytes : sum_by bytes_in p.slots ≤ 65536
 
 pub record IsTaken (p : Procedure) : Type 0 where
-  pub built : HasArithmeticAlone p
-  pub slots : p.slots ≡ []
+  pub built : IsBuilt p
+  pub untrapped : HasNoTraps p
+  pub sizes : All (λ (slot : SlotLine). 1 ≤ slot.bytes) p.slots
   pub limits : IsWithinLimits p
+  pub slots : HasFewSlots p
 
--- procedures that have no more values, and children and cases, than a text may have
+-- procedures that have no more values, children and cases, and slots than a text may have
 pub record AreWithinLimits (ps : List Procedure) : Type 0 where
   pub values : sum_by total ps ≤ 65536
   pub children : sum_by child_count ps ≤ 262144
   pub each : All IsWithinLimits ps
+  pub slots : All HasFewSlots ps

@@ -1,13 +1,13 @@
 //! The passes of one procedure, one after the other.
 
-ghost use Rattle.std.specs.Prelude.{◌≡◌, ◌^◌, ◌<◌, ◌≤◌, [], length, IfOk};
+ghost use Rattle.std.specs.Prelude.{◌≡◌, ◌^◌, ◌<◌, ◌≤◌, length, IfOk};
 ghost use Rattle.air_ir.specs.Weight.{weight};
 ghost use Rattle.air_ir.specs.WellFormed.{IsWellFormed};
 ghost use Rattle.air_flow.specs.Proper.{IsProper};
 ghost use Rattle.air_graph.specs.Graph.{IsInterferenceOf};
 ghost use Rattle.air_graph.specs.declared.interference.Interference.{Interference};
 ghost use Rattle.air_colour.specs.Assigned.{IsColouringOf};
-ghost use Rattle.air_frame.specs.Frames.{row_of};
+ghost use Rattle.air_frame.specs.Frames as frames;
 ghost use Rattle.air_select.specs.Contract.{procedure_at};
 ghost use Rattle.a64_object.specs.Made.{IsMadeOf, IsPlacedOf};
 ghost use Rattle.a64_object.specs.Taken.{IsTaken};
@@ -21,11 +21,11 @@ use air_graph::graph;
 use air_ir::{AirProc, Assignment, Frame, same_blocks_laws};
 use air_select::select;
 use air_spill::rewrite;
-use b3_base::{CodeWords, NoMemory};
+use b3_base::{CodeWords, Ids, NoMemory};
 use b3_validate::Valid;
 use exit_table::FrameRow;
 use flow_live::live;
-use stackmap::{Returns, SlotRows};
+use stackmap::{Returns, SlotRow, SlotRows};
 use std::alloc::Global;
 
 /// The words of a procedure's code, and the row of its frame.
@@ -79,21 +79,43 @@ pub fn procedure_text(alloc: Global, valid: &Valid, proc: usize) -> Result<Proce
     let frame = layout(alloc, &placed)?;
     let emitted = emit(alloc, &placed, &frame)?;
     let text = resolve(alloc, emitted.code)?;
-    let row = frame_row(alloc, frame, placed.returns);
+    let row = frame_row(alloc, frame, &placed.slots, placed.returns)?;
     Ok(ProcedureText {
         words: text.words,
         row,
     })
 }
 
-/// The row of a frame without slots.
-fn frame_row(alloc: Global, frame: Frame, returns: Returns) -> FrameRow
-    ensures { result ≡ row_of frame [] returns }
+/// The rows of slots at these offsets, with these sizes.
+fn slot_rows(alloc: Global, offsets: &Ids, sizes: &Ids) -> Result<SlotRows, NoMemory>
+    requires { length offsets.now ≡ length sizes.now }
+    ensures { IfOk result (λ rows. rows ≡ frames.slot_rows offsets.now sizes.now) }
 {
-    FrameRow {
+    let mut rows = SlotRows::new(alloc);
+    for k in 0..offsets.len() {
+        rows.push(SlotRow {
+            offset: *offsets.get(k),
+            size: *sizes.get(k),
+        })?;
+    }
+    Ok(rows)
+}
+
+/// The row of a frame whose slots have these sizes.
+fn frame_row(
+    alloc: Global,
+    frame: Frame,
+    sizes: &Ids,
+    returns: Returns,
+) -> Result<FrameRow, NoMemory>
+    requires { length frame.slots ≡ length sizes.now }
+    ensures { IfOk result (λ row. row ≡ frames.row_of frame sizes.now returns) }
+{
+    let slots = slot_rows(alloc, &frame.slots, sizes)?;
+    Ok(FrameRow {
         bytes: frame.bytes,
         returns,
-        slots: SlotRows::new(alloc),
+        slots,
         saved: frame.saved,
-    }
+    })
 }

@@ -19,6 +19,7 @@ pub mod OneOp
 pub mod Opcodes
 pub mod Operands
 pub mod OneSite
+pub mod Untrapped
 pub mod Pieces
 pub mod Plain
 pub mod Pointers

@@ -110,7 +110,7 @@ use_low t id = choice_low (folds t id) _ _
 uses_low : (t : Tables) (ids : List ℕ) → All IsLow (map (use_of t) ids)
 uses_low t ids = All-map IsLow (use_of t) ids (all_of (λ id. IsLow (use_of t id)) (use_low t) ids)
 
-pick : {X : Type 0} (P : X → Type 0) (b : Bool) (x y : X) → P x → P y → P (if b then x else y)
+pub pick : {X : Type 0} (P : X → Type 0) (b : Bool) (x y : X) → P x → P y → P (if b then x else y)
 pick P true x y p q = p
 pick P false x y p q = q
 

@@ -67,6 +67,10 @@ abbrev pub HasArithmeticAlone : Procedure → Type 0
 HasArithmeticAlone p =
     All (λ (b : Block). All (λ (v : Value). is_arithmetic_opcode v.kind.opcode ≡ true) b.values) p.blocks
 
+-- no value of a procedure traps
+abbrev pub HasNoTraps : Procedure → Type 0
+HasNoTraps p = All (λ (b : Block). All (λ (v : Value). v.kind.traps ≡ false) b.values) p.blocks
+
 -- ---- sizes
 
 -- the values of a procedure are `total`; its children and cases
@@ -133,6 +137,10 @@ is_selected op = is_selected_kind (kind_of op)
 
 abbrev pub IsSelected : AirProc → Type 0
 IsSelected q = All (λ (b : AirBlock). All (λ (i : AirInst). is_selected i.op ≡ true) b.insts) q.blocks
+
+-- no instruction traps
+abbrev pub IsUntrapped : AirProc → Type 0
+IsUntrapped q = All (λ (b : AirBlock). All (λ (i : AirInst). i.traps ≡ false) b.insts) q.blocks
 
 -- ---- folded values
 

@@ -10,7 +10,7 @@ ghost use Rattle.stackmap.specs.declared.site.Returns.TheVariants as returns;
 ghost use Rattle.air_ir.specs.Run.{HasBlocksOf};
 ghost use Rattle.air_ir.specs.Weight.{weight};
 ghost use Rattle.air_ir.specs.WellFormed.{HasOneSiteEach, IsWellFormed, NamesSpillsBelow};
-ghost use Rattle.air_select.specs.Contract.{HasArithmeticAlone, IsArithmetic, IsBuilt, IsFew, IsFolded, IsSelected, IsWithinLimits, ReturnsType, child_count, procedure_at};
+ghost use Rattle.air_select.specs.Contract.{HasArithmeticAlone, HasNoTraps, IsArithmetic, IsBuilt, IsFew, IsFolded, IsSelected, IsUntrapped, IsWithinLimits, ReturnsType, child_count, procedure_at};
 ghost use Rattle.air_select.specs.Selected as code;
 
 use crate::entry::{entry, returns};
@@ -140,6 +140,7 @@ pub fn select(alloc: Global, valid: &Valid, proc: usize) -> Result<AirProc, NoMe
     ensures spills { IfOk result (λ q. NamesSpillsBelow 0 q) }
     ensures selected { IfOk result (λ q. IsSelected q) }
     ensures arithmetic { IfOk result (λ q. HasArithmeticAlone (procedure_at valid.now proc) → IsArithmetic q) }
+    ensures untrapped { IfOk result (λ q. HasNoTraps (procedure_at valid.now proc) → IsUntrapped q) }
     ensures light { IfOk result (λ q. weight q ≤ 120 * total (procedure_at valid.now proc)
         + 32 * child_count (procedure_at valid.now proc) + 256) }
     ensures few { IfOk result (λ q. IsFew (procedure_at valid.now proc) q) }

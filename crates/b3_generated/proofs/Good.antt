@@ -117,7 +117,7 @@ module _ (name : List ℕ) (line la lb lc : ℕ) (first second third : List Valu
       (All-cons P (block_on 2 lc third) [] (all_of Fits fits 516 third is.third_forms) (All-nil P)))
 
   made_forms : HasForms p
-  made_forms = record { slots = refl; values = all_of HasCode coded 0 (all_values p) (all_forms name line la lb lc first second third is) }
+  made_forms = record { values = all_of HasCode coded 0 (all_values p) (all_forms name line la lb lc first second third is) }
 
   made_parts : HasParts p
   made_parts =

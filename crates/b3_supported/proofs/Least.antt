@@ -6,11 +6,10 @@ use Rattle.std.proofs.lemmas.Bool.{and_parts, cases_lt}
 use Rattle.std.proofs.lemmas.Bool.Decides.{eqb_tells, nat_tests}
 use Rattle.b3_ir.specs.Names.{IsName, begins_name, may_stand_in_name}
 use Rattle.b3_ir.specs.Procedure.{Block, Procedure}
-use Rattle.b3_ir.specs.declared.procedure.SlotLine.{SlotLine}
 use Rattle.b3_ir.specs.declared.value.Value.{Value}
 use Rattle.b3_supported.specs.Forms.{has_code}
-use Rattle.b3_supported.specs.Lines.{blocks_line, header_line, is_name, lesser, module_line, procedure_line, slots_line, unless, value_line, values_line}
-use Rattle.b3_supported.specs.Faults.{IsOdd, IsOddHeader, IsOddIn, IsOddSlot, IsOddValue}
+use Rattle.b3_supported.specs.Lines.{blocks_line, header_line, is_name, lesser, module_line, procedure_line, unless, value_line, values_line}
+use Rattle.b3_supported.specs.Faults.{IsOdd, IsOddHeader, IsOddIn, IsOddValue}
 
 -- ---- the least line of which something holds
 
@@ -64,7 +63,7 @@ name_passes name h =
 -- ---- values
 
 abbrev OddHere : Value → ℕ → Type 0
-OddHere v line = (v.line ≡ line) × (has_code v.kind.opcode ≡ false)
+OddHere v line = (v.line ≡ line) × (has_code v.kind ≡ false)
 
 -- a value that is odd stands among some
 record OddAmong (vs : List Value) (line : ℕ) : Type 0 where
@@ -72,10 +71,10 @@ record OddAmong (vs : List Value) (line : ℕ) : Type 0 where
   pub value : Value
   pub there : slice_get vs place ≡ Some value
   pub on_line : value.line ≡ line
-  pub odd : has_code value.kind.opcode ≡ false
+  pub odd : has_code value.kind ≡ false
 
 value_least : (v : Value) → IsLeast (OddHere v) (value_line v)
-value_least v = one_least (has_code v.kind.opcode) v.line (has_code v.kind.opcode ≡ false) (λ good bad. cc) (λ bad. bad)
+value_least v = one_least (has_code v.kind) v.line (has_code v.kind ≡ false) (λ good bad. cc) (λ bad. bad)
 
 among_first : (v : Value) (vs : List Value) (line : ℕ) → OddHere v line ⊎ OddAmong vs line → OddAmong (v ∷ vs) line
 among_first v vs line h =
@@ -83,7 +82,7 @@ among_first v vs line h =
     (λ (here : OddHere v line). record { place = 0; value = v; there = refl; on_line = here.0; odd = here.1 })
     (λ (more : OddAmong vs line). record { place = suc more.place; value = more.value; there = more.there; on_line = more.on_line; odd = more.odd }) h
 
-among_split : (v : Value) (vs : List Value) (line place : ℕ) (w : Value) → slice_get (v ∷ vs) place ≡ Some w → w.line ≡ line → has_code w.kind.opcode ≡ false → OddHere v line ⊎ OddAmong vs line
+among_split : (v : Value) (vs : List Value) (line place : ℕ) (w : Value) → slice_get (v ∷ vs) place ≡ Some w → w.line ≡ line → has_code w.kind ≡ false → OddHere v line ⊎ OddAmong vs line
 among_split v vs line zero w there on odd = let same : w ≡ v = cc in inl (subst (λ (x : Value). OddHere x line) same (on, odd))
 among_split v vs line (suc place) w there on odd = inr (record { place = place; value = w; there = there; on_line = on; odd = odd })
 
@@ -138,59 +137,31 @@ blocks_least (x ∷ blocks) =
     (among_both x.values (row_of blocks)) (among_either x.values (row_of blocks))
     (lesser_least (OddAmong x.values) (OddAmong (row_of blocks)) (values_line x.values) (blocks_line blocks) (values_least x.values) (blocks_least blocks))
 
--- ---- slots
-
-record OddSlot (slots : List SlotLine) (line : ℕ) : Type 0 where
-  pub place : ℕ
-  pub slot : SlotLine
-  pub there : slice_get slots place ≡ Some slot
-  pub on_line : slot.line ≡ line
-
-slots_join : (x : SlotLine) (slots : List SlotLine) (line : ℕ) → (x.line ≡ line) ⊎ OddSlot slots line → OddSlot (x ∷ slots) line
-slots_join x slots line h =
-    ⊎_elim (λ (here : x.line ≡ line). record { place = 0; slot = x; there = refl; on_line = here }) (λ (more : OddSlot slots line). record { place = suc more.place; slot = more.slot; there = more.there; on_line = more.on_line }) h
-
-slots_split : (x : SlotLine) (slots : List SlotLine) (line place : ℕ) (slot : SlotLine) → slice_get (x ∷ slots) place ≡ Some slot → slot.line ≡ line → (x.line ≡ line) ⊎ OddSlot slots line
-slots_split x slots line zero slot there on = let same : slot ≡ x = cc in inl (ap (λ (s : SlotLine). s.line) (sym same) ∙ on)
-slots_split x slots line (suc place) slot there on = inr (record { place = place; slot = slot; there = there; on_line = on })
-
-slots_least : (slots : List SlotLine) → IsLeast (OddSlot slots) (slots_line slots)
-unfolding slots_line
-slots_least [] = λ line odd. let e : slice_get [] odd.place ≡ Some odd.slot = odd.there in cc
-slots_least (x ∷ slots) =
-    least_as (λ line. (x.line ≡ line) ⊎ OddSlot slots line) (OddSlot (x ∷ slots)) (lesser (Some x.line) (slots_line slots)) (slots_join x slots) (λ line h. slots_split x slots line h.place h.slot h.there h.on_line)
-    (lesser_least (λ line. x.line ≡ line) (OddSlot slots) (Some x.line) (slots_line slots) (refl, λ other h. omega (arith, h)) (slots_least slots))
-
 -- ---- procedures
 
 header_least : (k : ℕ) (p : Procedure) → IsLeast (λ line. (p.line ≡ line) × (¬ (IsName p.name) ⊎ (k ≡ 256))) (header_line k p)
 header_least k p = one_least (is_name p.name && not (nat_eq k 256)) p.line (¬ (IsName p.name) ⊎ (k ≡ 256)) (passes (is_name p.name) (IsName p.name) k 256 (name_tested p.name)) (fails (is_name p.name) (IsName p.name) k 256 (name_passes p.name))
 
 abbrev OddPieces : ℕ → Procedure → ℕ → Type 0
-OddPieces k p line = ((p.line ≡ line) × (¬ (IsName p.name) ⊎ (k ≡ 256))) ⊎ (OddSlot p.slots line ⊎ OddAmong (row_of p.blocks) line)
+OddPieces k p line = ((p.line ≡ line) × (¬ (IsName p.name) ⊎ (k ≡ 256))) ⊎ OddAmong (row_of p.blocks) line
 
 pieces_join : (k : ℕ) (p : Procedure) (line : ℕ) → OddPieces k p line → IsOddIn k p line
 pieces_join k p line h =
     ⊎_elim
     (λ (here : (p.line ≡ line) × (¬ (IsName p.name) ⊎ (k ≡ 256))). inl (record { on_line = here.0; odd = here.1 }))
-    (λ (more : OddSlot p.slots line ⊎ OddAmong (row_of p.blocks) line). ⊎_elim
-    (λ (s : OddSlot p.slots line). inr (inl (record { place = s.place; slot = s.slot; there = s.there; on_line = s.on_line })))
-    (λ (one : OddAmong (row_of p.blocks) line). inr (inr (record { place = one.place; value = one.value; there = one.there; on_line = one.on_line; odd = one.odd }))) more) h
+    (λ (one : OddAmong (row_of p.blocks) line). inr (record { place = one.place; value = one.value; there = one.there; on_line = one.on_line; odd = one.odd })) h
 
 pieces_split : (k : ℕ) (p : Procedure) (line : ℕ) → IsOddIn k p line → OddPieces k p line
 pieces_split k p line h =
     ⊎_elim
     (λ (here : IsOddHeader k p line). inl (here.on_line, here.odd))
-    (λ (more : IsOddSlot p line ⊎ IsOddValue p line). ⊎_elim
-    (λ (s : IsOddSlot p line). inr (inl (record { place = s.place; slot = s.slot; there = s.there; on_line = s.on_line })))
-    (λ (one : IsOddValue p line). inr (inr (record { place = one.place; value = one.value; there = one.there; on_line = one.on_line; odd = one.odd }))) more) h
+    (λ (one : IsOddValue p line). inr (record { place = one.place; value = one.value; there = one.there; on_line = one.on_line; odd = one.odd })) h
 
 procedure_least : (k : ℕ) (p : Procedure) → IsLeast (IsOddIn k p) (procedure_line k p)
 unfolding procedure_line
 procedure_least k p =
-    least_as (OddPieces k p) (IsOddIn k p) (lesser (header_line k p) (lesser (slots_line p.slots) (blocks_line p.blocks))) (pieces_join k p) (pieces_split k p)
-    (lesser_least (λ line. (p.line ≡ line) × (¬ (IsName p.name) ⊎ (k ≡ 256))) (λ line. OddSlot p.slots line ⊎ OddAmong (row_of p.blocks) line) (header_line k p) (lesser (slots_line p.slots) (blocks_line p.blocks)) (header_least k p)
-    (lesser_least (OddSlot p.slots) (OddAmong (row_of p.blocks)) (slots_line p.slots) (blocks_line p.blocks) (slots_least p.slots) (blocks_least p.blocks)))
+    least_as (OddPieces k p) (IsOddIn k p) (lesser (header_line k p) (blocks_line p.blocks)) (pieces_join k p) (pieces_split k p)
+    (lesser_least (λ line. (p.line ≡ line) × (¬ (IsName p.name) ⊎ (k ≡ 256))) (OddAmong (row_of p.blocks)) (header_line k p) (blocks_line p.blocks) (header_least k p) (blocks_least p.blocks))
 
 -- ---- modules
 

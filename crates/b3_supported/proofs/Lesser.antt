@@ -3,9 +3,8 @@ use Rattle.std.proofs.Common.{◌≡◌, ℕ, suc, ◌+◌, ◌<◌, List, [], �
 use Rattle.std.specs.Prelude.{slice_index_or}
 use Rattle.std.proofs.Math.Seq.{drop-cons}
 use Rattle.b3_ir.specs.Procedure.{Block, Procedure}
-use Rattle.b3_ir.specs.declared.procedure.SlotLine.{SlotLine}
 use Rattle.b3_ir.specs.declared.value.Value.{Value}
-use Rattle.b3_supported.specs.Lines.{blocks_line, lesser, module_line, procedure_line, slots_line, value_line, values_line}
+use Rattle.b3_supported.specs.Lines.{blocks_line, lesser, module_line, procedure_line, value_line, values_line}
 
 pub lesser_assoc : (a b c : Option ℕ) → lesser (lesser a b) c ≡ lesser a (lesser b c)
 lesser_assoc None b c = refl
@@ -28,10 +27,6 @@ dropped xs at d lt = drop-cons xs at d lt ∙ ap (λ n. slice_index_or xs at d �
     next : (n : ℕ) → suc n ≡ n + 1
     next n = omega arith
 
-pub slots_step : (slots rest : List SlotLine) (slot : SlotLine) → slots ≡ slot ∷ rest → slots_line slots ≡ lesser (Some slot.line) (slots_line rest)
-unfolding slots_line
-slots_step slots rest slot is = ap slots_line is
-
 pub values_step : (vs rest : List Value) (v : Value) → vs ≡ v ∷ rest → values_line vs ≡ lesser (value_line v) (values_line rest)
 unfolding values_line
 values_step vs rest v is = ap values_line is
@@ -43,10 +38,6 @@ blocks_step blocks rest block is = ap blocks_line is
 pub module_step : (k : ℕ) (ps rest : List Procedure) (p : Procedure) → ps ≡ p ∷ rest → module_line k ps ≡ lesser (procedure_line k p) (module_line (k + 1) rest)
 unfolding module_line
 module_step k ps rest p is = ap (module_line k) is
-
-pub slots_end : (slots : List SlotLine) → slots ≡ [] → slots_line slots ≡ None
-unfolding slots_line
-slots_end slots is = ap slots_line is
 
 pub values_end : (vs : List Value) → vs ≡ [] → values_line vs ≡ None
 unfolding values_line

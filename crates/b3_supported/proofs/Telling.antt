@@ -1,5 +1,5 @@
 -- What the least line tells of procedures.
-use Rattle.std.proofs.Common.{◌≡◌, ℕ, zero, suc, ◌<◌, ◌≤◌, ◌⊎◌, ◌↔◌, inl, inr, Bool, true, false, List, [], ◌∷◌, Option, Some, None, length, refl, sym, ap, ◌∙◌, subst, arith, ⊎_elim}
+use Rattle.std.proofs.Common.{◌≡◌, ℕ, zero, suc, ◌<◌, ◌≤◌, ◌↔◌, inl, inr, Bool, true, false, List, [], ◌∷◌, Option, Some, None, length, refl, sym, ap, ◌∙◌, subst, arith, ⊎_elim}
 use Rattle.std.specs.Prelude.{All, IfSome, slice_get, slice_index_or}
 use Rattle.std.specs.Option.{option_map}
 use Rattle.std.proofs.lemmas.Bool.{cases_lt}
@@ -9,12 +9,11 @@ use Rattle.std.proofs.lemmas.Option.{get_or_from_slice_get, slice_get-get_or, sl
 use Rattle.b3_ir.specs.Names.{IsName}
 use Rattle.b3_ir.specs.Naming.{all_values}
 use Rattle.b3_ir.specs.Procedure.{AllFit, Procedure}
-use Rattle.b3_ir.specs.declared.procedure.SlotLine.{SlotLine}
 use Rattle.b3_ir.specs.declared.value.Value.{Value}
 use Rattle.b3_rules.specs.Valid.{IsValid}
 use Rattle.b3_supported.specs.Forms.{HasCode, HasForms, has_code}
 use Rattle.b3_supported.specs.Lines.{is_name}
-use Rattle.b3_supported.specs.Faults.{HaveForms, IsFaultLine, IsOdd, IsOddHeader, IsOddSlot, IsOddValue}
+use Rattle.b3_supported.specs.Faults.{HaveForms, IsFaultLine, IsOdd, IsOddHeader, IsOddValue}
 use Rattle.b3_supported.specs.Supported.{AreSupported, IsSupported, names_of}
 use Rattle.b3_supported.proofs.Least.{IsLeast, name_passes, name_tested}
 
@@ -36,23 +35,16 @@ module _ (ps : List Procedure) (none : (line : ℕ) → ¬ (IsOdd ps line)) wher
         by true e = name_tested p.name e
         by false e = absurd (none p.line (record { place = k; procedure = p; there = there; part = inl (record { on_line = refl; odd = inl (λ name. let bad : false ≡ true = sym e ∙ name_passes p.name name in cc) }) }))
 
-    no_slots : p.slots ≡ []
-    no_slots = by p.slots refl
-      where
-        by : (slots : List SlotLine) → p.slots ≡ slots → p.slots ≡ []
-        by [] e = e
-        by (slot ∷ slots) e = absurd (none slot.line (record { place = k; procedure = p; there = there; part = inr (inl (record { place = 0; slot = slot; there = ap (λ (l : List SlotLine). slice_get l 0) e; on_line = refl })) }))
-
     code_at : (i : ℕ) (v : Value) → slice_get (all_values p) i ≡ Some v → HasCode v
-    code_at i v at = by (has_code v.kind.opcode) refl
+    code_at i v at = by (has_code v.kind) refl
       where
-        by : (b : Bool) → has_code v.kind.opcode ≡ b → HasCode v
+        by : (b : Bool) → has_code v.kind ≡ b → HasCode v
         by true e = e
         by false e =
-            absurd (none v.line (record { place = k; procedure = p; there = there; part = inr (inr (record { place = i; value = v; there = at; on_line = refl; odd = e })) }))
+            absurd (none v.line (record { place = k; procedure = p; there = there; part = inr (record { place = i; value = v; there = at; on_line = refl; odd = e }) }))
 
     forms_at : HasForms p
-    forms_at = record { slots = no_slots; values = λ i d lt. code_at i (slice_index_or (all_values p) i d) (slice_get-get_or (all_values p) i d lt) }
+    forms_at = record { values = λ i d lt. code_at i (slice_index_or (all_values p) i d) (slice_get-get_or (all_values p) i d lt) }
 
   few_procedures : length ps ≤ 256
   few_procedures =
@@ -79,10 +71,8 @@ none_odd ps have line odd =
     (λ (header : IsOddHeader odd.place p line). ⊎_elim
     (λ (no : ¬ (IsName p.name)). no (all_at (λ (q : Procedure). IsName q.name) ps odd.place p have.names odd.there))
     (λ (last : odd.place ≡ 256). omega (arith, have.few, slice_get_within ps odd.place p odd.there)) header.odd)
-    (λ (more : IsOddSlot p line ⊎ IsOddValue p line). ⊎_elim
-    (λ (s : IsOddSlot p line). let e : slice_get [] s.place ≡ Some s.slot = subst (λ (l : List SlotLine). slice_get l s.place ≡ Some s.slot) forms.slots s.there in cc)
-    (λ (one : IsOddValue p line). let good : has_code one.value.kind.opcode ≡ true = all_at HasCode (all_values p) one.place one.value forms.values one.there in
-    let odd : has_code one.value.kind.opcode ≡ false = one.odd in cc) more) odd.part
+    (λ (one : IsOddValue p line). let good : has_code one.value.kind ≡ true = all_at HasCode (all_values p) one.place one.value forms.values one.there in
+    let odd : has_code one.value.kind ≡ false = one.odd in cc) odd.part
 
 -- ---- what the answer tells
 pub none_tells : (ps : List Procedure) (o : Option ℕ) → IsLeast (IsOdd ps) o → (o ≡ None) ↔ HaveForms ps

@@ -3,7 +3,6 @@ use Rattle.std.specs.Prelude.{◌≡◌, ℕ, ◌≤◌, ◌⊎◌, false, List,
 use Rattle.b3_ir.specs.Names.{IsName}
 use Rattle.b3_ir.specs.Naming.{all_values}
 use Rattle.b3_ir.specs.Procedure.{Procedure}
-use Rattle.b3_ir.specs.declared.procedure.SlotLine.{SlotLine}
 use Rattle.b3_ir.specs.declared.value.Value.{Value}
 use Rattle.b3_supported.specs.Forms.{HasForms, has_code}
 
@@ -12,24 +11,17 @@ pub record IsOddHeader (k : ℕ) (p : Procedure) (line : ℕ) : Type 0 where
   pub on_line : p.line ≡ line
   pub odd : ¬ (IsName p.name) ⊎ (k ≡ 256)
 
--- on this line stands a slot
-pub record IsOddSlot (p : Procedure) (line : ℕ) : Type 0 where
-  pub place : ℕ
-  pub slot : SlotLine
-  pub there : slice_get p.slots place ≡ Some slot
-  pub on_line : slot.line ≡ line
-
--- on this line stands a value whose opcode has no code
+-- on this line stands a value whose kind has no code
 pub record IsOddValue (p : Procedure) (line : ℕ) : Type 0 where
   pub place : ℕ
   pub value : Value
   pub there : slice_get (all_values p) place ≡ Some value
   pub on_line : value.line ≡ line
-  pub odd : has_code value.kind.opcode ≡ false
+  pub odd : has_code value.kind ≡ false
 
 -- on this line stands an odd part of procedure k
 abbrev pub IsOddIn : ℕ → Procedure → ℕ → Type 0
-IsOddIn k p line = IsOddHeader k p line ⊎ IsOddSlot p line ⊎ IsOddValue p line
+IsOddIn k p line = IsOddHeader k p line ⊎ IsOddValue p line
 
 -- on this line stands an odd part of one of the procedures
 pub record IsOdd (ps : List Procedure) (line : ℕ) : Type 0 where

@@ -3,7 +3,6 @@ use Rattle.std.specs.Prelude.{ℕ, ◌+◌, Bool, ◌&&◌, not, min, nat_eq, na
 use Rattle.std.specs.List.{list_all}
 use Rattle.b3_ir.specs.Names.{begins_name, may_stand_in_name}
 use Rattle.b3_ir.specs.Procedure.{Block, Procedure}
-use Rattle.b3_ir.specs.declared.procedure.SlotLine.{SlotLine}
 use Rattle.b3_ir.specs.declared.value.Value.{Value}
 use Rattle.b3_supported.specs.Forms.{has_code}
 
@@ -24,12 +23,8 @@ is_name name = nat_le (length name) 255 && begins_name name && list_all may_stan
 abbrev pub header_line : ℕ → Procedure → Option ℕ
 header_line k p = unless (is_name p.name && not (nat_eq k 256)) p.line
 
-unfoldable pub slots_line : List SlotLine → Option ℕ
-slots_line [] = None
-slots_line (slot ∷ slots) = lesser (Some slot.line) (slots_line slots)
-
 abbrev pub value_line : Value → Option ℕ
-value_line v = unless (has_code v.kind.opcode) v.line
+value_line v = unless (has_code v.kind) v.line
 
 unfoldable pub values_line : List Value → Option ℕ
 values_line [] = None
@@ -41,7 +36,7 @@ blocks_line (block ∷ blocks) = lesser (values_line block.values) (blocks_line 
 
 -- of procedure k
 unfoldable pub procedure_line : ℕ → Procedure → Option ℕ
-procedure_line k p = lesser (header_line k p) (lesser (slots_line p.slots) (blocks_line p.blocks))
+procedure_line k p = lesser (header_line k p) (blocks_line p.blocks)
 
 unfoldable pub module_line : ℕ → List Procedure → Option ℕ
 module_line k [] = None

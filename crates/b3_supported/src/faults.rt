@@ -9,8 +9,8 @@ ghost use Rattle.b3_supported.specs.Supported.{AreSupported};
 use crate::lines::{lesser, procedure_line};
 use b3_ir::Module;
 
-/// The least line on which a part stands that has no code, or None where there is none: a slot, a value of an
-/// opcode that has no code, or the header of the 257th procedure or of one without a name. It takes no memory.
+/// The least line on which a part stands that has no code, or None where there is none: a value of a kind
+/// that has no code, or the header of the 257th procedure or of one without a name. It takes no memory.
 pub fn fault_line(module_: &Module) -> Option<u32>
     ensures none { (result ≡ None) ↔ HaveForms (procedures module_.now) }
     ensures some { (line : ℕ) → (result ≡ Some line) ↔ IsFaultLine (procedures module_.now) line }

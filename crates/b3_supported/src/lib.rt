@@ -1,4 +1,4 @@
-//! Which procedures are supported: valid ones that have no slots, and all of whose values have code.
+//! Which procedures are supported: valid ones all of whose values have code.
 #![tactic(auto)]
 
 mod faults;

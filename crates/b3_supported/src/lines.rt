@@ -42,22 +42,11 @@ fn header_line(p: &Proc, k: usize) -> Option<u32>
     unless(is_named(p) && k as u64 != MOST, p.line())
 }
 
-/// The least line of a slot.
-fn slots_line(p: &Proc) -> Option<u32>
-    ensures { result ≡ lines.slots_line p.now.procedure.slots }
-{
-    let mut line = None;
-    for at in 0..p.slots() {
-        line = lesser(line, Some(p.slot(at).line));
-    }
-    line
-}
-
-/// The line of a value, where its opcode has no code.
+/// The line of a value, where its kind has no code.
 fn value_line(value: &Value) -> Option<u32>
     ensures { result ≡ lines.value_line value.now }
 {
-    unless(has_code(value.kind.opcode), value.line)
+    unless(has_code(value.kind), value.line)
 }
 
 /// The lesser of a line and the least line of an odd value of a block.
@@ -89,5 +78,5 @@ fn blocks_line(p: &Proc) -> Option<u32>
 pub(crate) fn procedure_line(p: &Proc, k: usize) -> Option<u32>
     ensures { result ≡ lines.procedure_line k p.now.procedure }
 {
-    lesser(header_line(p, k), lesser(slots_line(p), blocks_line(p)))
+    lesser(header_line(p, k), blocks_line(p))
 }

@@ -1,4 +1,4 @@
--- Procedures of a text within the limits have no more values, blocks, children and cases than those allow.
+-- Procedures of a text within the limits have no more values, blocks, children and cases, and slots than those allow.
 use Rattle.std.proofs.Common.{◌≡◌, ℕ, zero, suc, ◌+◌, ◌<◌, ◌≤◌, true, List, [], ◌∷◌, ◌++◌, Some, length, refl, sym, ap, ◌∙◌, subst, arith, nat_le, le-leb, ⊎_elim, if◌then◌else◌}
 use Rattle.std.specs.Prelude.{All, map, slice_get, sum_by}
 use Rattle.std.specs.List.{flat_map}
@@ -6,16 +6,17 @@ use Rattle.std.proofs.lemmas.Bool.{cases_lt}
 use Rattle.std.proofs.lemmas.List.Concat.{flat_map-cons}
 use Rattle.std.proofs.lemmas.List.Sums.{sum_by-append, sum_by-cons}
 use Rattle.b3_ir.specs.Procedure.{Block, Kept, Procedure, procedures, total}
+use Rattle.b3_ir.specs.declared.procedure.SlotLine.{SlotLine}
 use Rattle.b3_ir.specs.declared.value.Body.{Body}
 use Rattle.b3_ir.specs.declared.value.Body.TheVariants.{Cases}
 use Rattle.b3_ir.specs.declared.value.Value.{Value}
-use Rattle.b3_module.specs.Limits.{Computed, Header, Heading, KeepsLimits, Placed, cases_of, counted, most, operands, part_of_value, parts_of, parts_of_block, parts_of_slots, parts_of_values, up_to}
+use Rattle.b3_module.specs.Limits.{Computed, Header, Heading, KeepsLimits, Placed, cases_of, counted, most, operands, part_of_slot, part_of_value, parts_of, parts_of_block, parts_of_slots, parts_of_values, up_to}
 use Rattle.b3_module.specs.declared.fault.LimitName.{LimitName}
 use Rattle.b3_module.specs.declared.fault.LimitName.TheVariants as limits
 use Rattle.a64_run.specs.Agrees.{case_count, child_count}
 use Rattle.b3_supported.specs.Supported.{AreSupported}
 use Rattle.air_select.specs.Contract.{IsWithinLimits, procedure_at}
-use Rattle.a64_object.specs.Taken.{AreWithinLimits, IsTaken}
+use Rattle.a64_object.specs.Taken.{AreWithinLimits, HasFewSlots, IsTaken, bytes_in}
 use Rattle.a64_object.proofs.GoodObject.{all_taken}
 use Rattle.a64_object.proofs.Making.{procedure_there}
 use Rattle.a64_object.proofs.Placed.{all_of, one_in}
@@ -104,6 +105,24 @@ blocks_counted p =
     let whole_of = in_procedure (count_of limits.ProcedureBlocks) p in
     omega (arith, ones p.blocks)
 
+-- ---- the slots of a procedure
+slots_in : (c : Placed → ℕ) (p : Procedure) → sum_by c (parts_of_slots p.slots) ≤ sum_by c (parts_of p)
+slots_in c p =
+    omega (
+      arith,
+      sum_by-cons c (record { line = p.line; part = Header }) (parts_of_slots p.slots ++ flat_map parts_of_block p.blocks),
+      sum_by-append c (parts_of_slots p.slots) (flat_map parts_of_block p.blocks),
+    )
+
+slots_counted : (slots : List SlotLine) → length slots ≤ sum_by (count_of limits.Slots) (parts_of_slots slots)
+slots_counted [] = omega arith
+slots_counted (slot ∷ slots) = omega (arith, sum_by-cons (count_of limits.Slots) (part_of_slot slot) (parts_of_slots slots), slots_counted slots)
+
+bytes_counted : (slots : List SlotLine) → sum_by bytes_in slots ≤ sum_by (count_of limits.SlotBytes) (parts_of_slots slots)
+bytes_counted [] = omega arith
+bytes_counted (slot ∷ slots) =
+    omega (arith, sum_by-cons bytes_in slot slots, sum_by-cons (count_of limits.SlotBytes) (part_of_slot slot) (parts_of_slots slots), bytes_counted slots)
+
 -- ---- all of it
 module _ (ps : List Procedure) (keeps : KeepsLimits ps) where
   in_text : (which : LimitName) → ((line : ℕ) → most which < up_to which line (flat_map parts_of ps) → ⊥) → sum_by (count_of which) (flat_map parts_of ps) ≤ most which
@@ -140,6 +159,18 @@ module _ (ps : List Procedure) (keeps : KeepsLimits ps) where
       children =
           let few = in_each limits.ProcedureChildren p (λ line past. keeps limits.ProcedureChildren line (k, p, there, past)) in
           let sums = child_counted limits.ProcedureChildren (λ n. refl) p in
+          omega arith;
+    });
+    slots = all_of HasFewSlots ps (λ k p there. record {
+      slots =
+          let few = in_each limits.Slots p (λ line past. keeps limits.Slots line (k, p, there, past)) in
+          let count = slots_counted p.slots in
+          let inside = slots_in (count_of limits.Slots) p in
+          omega arith;
+      bytes =
+          let few = in_each limits.SlotBytes p (λ line past. keeps limits.SlotBytes line (k, p, there, past)) in
+          let sum = bytes_counted p.slots in
+          let inside = slots_in (count_of limits.SlotBytes) p in
           omega arith;
     });
   }

@@ -139,24 +139,36 @@ fn texts_are_refused_by_line(rt: HostRuntime) -> Result<(), Fail> {
             "b3c: line 4: invalid rule 17\n",
         ),
         ("compile", UNCOVERED, 6, "b3c: line 11: invalid rule 20\n"),
-        // What is valid and has no code: a slot, a FramePointer, and a load.
+        // What is valid and has no code: a call, a patchpoint, a check, and a load and a store with Traps.
         (
             "compile",
-            "procedure f\nstack0: byteSize = 8\nBB#0:\n    Int64 b@0 = FramePointer()\n    Void b@1 = Return(b@0)\n",
+            "procedure f\nstack0: byteSize = 8\nBB#0:\n    Int64 b@0 = FramePointer()\n    Int64 b@1 = CCall(b@0)\n    Void b@2 = Return(b@1)\n",
             10,
-            "b3c: line 2: not built\n",
+            "b3c: line 5: not built\n",
         ),
         (
             "compile",
-            "procedure f\nBB#0:\n    Int64 b@0 = FramePointer()\n    Void b@1 = Return(b@0)\n",
-            10,
-            "b3c: line 3: not built\n",
-        ),
-        (
-            "compile",
-            "procedure f\nBB#0:\n    Int64 b@0 = ArgumentReg(%x0)\n    Int64 b@1 = Load(b@0)\n    Void b@2 = Return(b@1)\n",
+            "procedure f\nBB#0:\n    Int64 b@0 = ArgumentReg(%x0)\n    Void b@1 = Patchpoint(b@0:%x3)\n    Void b@2 = Return(b@0)\n",
             10,
             "b3c: line 4: not built\n",
+        ),
+        (
+            "compile",
+            "procedure f\nBB#0:\n    Int64 b@0 = ArgumentReg(%x0)\n    Int64 b@1 = Load(b@0)\n    Int64 b@2 = CheckAdd(b@0, b@1)\n    Void b@3 = Return(b@2)\n",
+            10,
+            "b3c: line 5: not built\n",
+        ),
+        (
+            "compile",
+            "procedure f\nBB#0:\n    Int64 b@0 = ArgumentReg(%x0)\n    Int64 b@1 = Load<Traps>(b@0)\n    Void b@2 = Return(b@1)\n",
+            10,
+            "b3c: line 4: not built\n",
+        ),
+        (
+            "compile",
+            "procedure f\nBB#0:\n    Int64 b@0 = ArgumentReg(%x0)\n    Void b@1 = Store(b@0, b@0)\n    Void b@2 = Store<Traps>(b@0, b@0)\n    Void b@3 = Return()\n",
+            10,
+            "b3c: line 5: not built\n",
         ),
     ] {
         let called = call(rt.alloc(), &[word], text.as_bytes(), "")?;

@@ -1,6 +1,6 @@
 use Rattle.std.proofs.Common.{◌∙◌, refl}
 use Rattle.air_select.specs.Contract.{procedure_at}
-use Rattle.a64_object.proofs.Making.{room_asked, row_is_so, short_asked, slots_asked}
+use Rattle.a64_object.proofs.Making.{room_asked, short_asked, slots_asked}
 use Rattle.a64_object.proofs.procedure.procedure_text.Goals as goal
 
 pub layout-requires-clause-slots : goal.layout-requires-clause-slots
@@ -26,6 +26,6 @@ returns c = record {
     few = c.in_ok-text.ensures.words;
     unmarked = c.in_ok-text.ensures.marks ∙ c.in_ok-emitted.ensures.code.unmarked;
     words_are = refl;
-    row_is = row_is_so (procedure_at c.args.valid.now c.args.proc) c.in_ok-placed.placed c.in_ok-frame.frame c.frame_row-row.result c.requires.taken c.in_ok-placed.ensures.placed c.frame_row-row.ensures;
+    row_is = c.in_ok-row.ensures;
   };
 }

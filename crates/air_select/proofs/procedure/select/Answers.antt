@@ -10,7 +10,7 @@ use Rattle.air_ir.specs.Run.{HasBlocksOf}
 use Rattle.air_ir.specs.Weight.{weight}
 use Rattle.air_ir.specs.WellFormed.{HasOneSiteEach, IsWellFormed, NamesSpillsBelow}
 use Rattle.air_ir.specs.declared.procedure.AirProc.{AirProc}
-use Rattle.air_select.specs.Contract.{HasArithmeticAlone, IsArithmetic, IsFew, IsFolded, IsSelected, IsWithinLimits, ReturnsType, child_count, procedure_at}
+use Rattle.air_select.specs.Contract.{HasArithmeticAlone, HasNoTraps, IsArithmetic, IsFew, IsFolded, IsSelected, IsUntrapped, IsWithinLimits, ReturnsType, child_count, procedure_at}
 use Rattle.air_select.specs.Selected.{selected, tables}
 use Rattle.air_select.proofs.Folded.{is_folded}
 use Rattle.air_select.proofs.Returned as returned
@@ -18,6 +18,7 @@ use Rattle.air_select.proofs.Selecting.{at_is, if_ok, kept_slots, same, valid_at
 use Rattle.air_select.proofs.OneSite.{sites}
 use Rattle.air_select.proofs.Sites.{are_selected, arithmetic, spills}
 use Rattle.air_select.proofs.Sound.{sound}
+use Rattle.air_select.proofs.Untrapped.{untrapped}
 use Rattle.air_select.proofs.Weights.{few, light}
 use Rattle.air_select.proofs.Well.{well}
 use Rattle.air_select.proofs.procedure.select.Goals as goal
@@ -68,6 +69,9 @@ returns-clause-selected c = by c IsSelected (are_selected (asked c))
 
 pub returns-clause-arithmetic : goal.returns-clause-arithmetic
 returns-clause-arithmetic c = by c (λ q. HasArithmeticAlone (asked c) → IsArithmetic q) (arithmetic (asked c))
+
+pub returns-clause-untrapped : goal.returns-clause-untrapped
+returns-clause-untrapped c = by c (λ q. HasNoTraps (asked c) → IsUntrapped q) (untrapped (asked c))
 
 pub returns-clause-light : goal.returns-clause-light
 returns-clause-light c = by c (λ q. weight q ≤ 120 * total (asked c) + 32 * child_count (asked c) + 256) (light (asked c))

@@ -4,4 +4,4 @@ use Rattle.b3_supported.proofs.lines.procedure_line.Goals as goal
 
 pub returns : goal.returns
 unfolding procedure_line
-returns c = rw (c.lesser-2.ensures, c.lesser.ensures, c.header_line.ensures, c.slots_line.ensures, c.blocks_line.ensures) refl
+returns c = rw (c.lesser.ensures, c.header_line.ensures, c.blocks_line.ensures) refl
