@@ -126,8 +126,9 @@ fn selected(alloc: Global, p: &Proc) -> Result<AirProc, NoMemory>
 }
 
 /// Selects instructions for a procedure of a valid module, by its place. A comparison that is the condition of one
-/// Branch or Select, a test of one bit that is that of one Branch, and a constant that fits as an immediate in each
-/// of its uses, have no instruction of their own. It is refused for want of memory alone.
+/// Branch or Select, a test of one bit that is that of one Branch, a sum that is the pointer of one access and stands in
+/// its address, a shift in such a sum, and a constant that fits in each of its uses, have no instruction of their own. An
+/// access traps where its value does. It is refused for want of memory alone.
 pub fn select(alloc: Global, valid: &Valid, proc: usize) -> Result<AirProc, NoMemory>
     requires there { proc < length valid.now }
     requires built { IsBuilt (procedure_at valid.now proc) }
