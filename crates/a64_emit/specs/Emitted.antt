@@ -30,7 +30,7 @@ use Rattle.a64_emit.specs.Related.{IsRelated}
 
 -- ---- moments
 
--- an instruction that is done there touches of the frame only bytes that are there, at SP or above, before and after; it
+-- an instruction that is done there touches of the frame only bytes at SP or above, the lower of before and after; it
 -- leaves x18
 pub record IsSafe (z : Setting) (c : Machine) (inst : Inst) : Type 0 where
   pub there : (at n i : ℕ) → touched inst c.registers ≡ Some (at, n) → i < n

@@ -10,8 +10,14 @@ use Rattle.a64_inst.specs.declared.item.Item.{Item}
 use Rattle.air_ir.specs.Run.{HasBlocksOf}
 use Rattle.air_ir.specs.Weight.{weight}
 use Rattle.air_ir.specs.WellFormed.{IsWellFormed}
+use Rattle.air_ir.specs.declared.assignment.Assignment.{Assignment}
 use Rattle.air_ir.specs.declared.frame.Frame.{Frame}
 use Rattle.air_ir.specs.declared.procedure.AirProc.{AirProc}
+use Rattle.air_graph.specs.Graph.{IsInterferenceOf}
+use Rattle.air_graph.specs.declared.interference.Interference.{Interference}
+use Rattle.air_colour.specs.Assigned.{IsColouringOf}
+use Rattle.air_select.specs.Selected.{selected}
+use Rattle.air_spill.specs.Rewritten.{rewritten}
 use Rattle.air_frame.specs.Frames.{IsFrameOf, row_of}
 use Rattle.air_frame.specs.Needs.{named_count, spill_count}
 use Rattle.a64_layout.specs.Layout.{most_words}
@@ -36,6 +42,14 @@ pub record IsPlacedOf (p : Procedure) (air : AirProc) : Type 0 where
   pub returns_32 : air.returns ≡ W32 → ReturnsType p Int32
   pub returns_64 : air.returns ≡ W64 → ReturnsType p Int64
 
+-- a procedure of Air is what is selected of a procedure, rewritten by a colouring of its interference graph
+pub record IsColouredOf (p : Procedure) (air : AirProc) : Type 0 where
+  pub graph : Interference
+  pub assignment : Assignment
+  pub interference : IsInterferenceOf (selected p) graph
+  pub colouring : IsColouringOf graph assignment
+  pub is : air ≡ rewritten (selected p) assignment
+
 -- words are the shortest text of the code of such a procedure with its frame, which has this row
 pub record IsMadeOf (p : Procedure) (words : List ℕ) (row : FrameRow) : Type 0 where
   pub air : AirProc
@@ -43,6 +57,7 @@ pub record IsMadeOf (p : Procedure) (words : List ℕ) (row : FrameRow) : Type 0
   pub code : List Item
   pub text : Text
   pub placed : IsPlacedOf p air
+  pub coloured : IsColouredOf p air
   pub is_frame : IsFrameOf air frame
   pub is_code : IsCodeOfAir air frame code
   pub is_text : IsShortestText code text

@@ -9,7 +9,7 @@ ghost use Rattle.air_graph.specs.declared.interference.Interference.{Interferenc
 ghost use Rattle.air_colour.specs.Assigned.{IsColouringOf};
 ghost use Rattle.air_frame.specs.Frames as frames;
 ghost use Rattle.air_select.specs.Contract.{procedure_at};
-ghost use Rattle.a64_object.specs.Made.{IsMadeOf, IsPlacedOf};
+ghost use Rattle.a64_object.specs.Made.{IsColouredOf, IsMadeOf, IsPlacedOf};
 ghost use Rattle.a64_object.specs.Taken.{IsTaken};
 
 use a64_emit::emit;
@@ -59,6 +59,7 @@ pub fn placed_procedure(alloc: Global, valid: &Valid, proc: usize) -> Result<Air
     requires there { proc < length valid.now }
     requires taken { IsTaken (procedure_at valid.now proc) }
     ensures placed { IfOk result (IsPlacedOf (procedure_at valid.now proc)) }
+    ensures coloured { IfOk result (IsColouredOf (procedure_at valid.now proc)) }
 {
     same_blocks_laws();
     spill_counts();

@@ -60,8 +60,8 @@ impl Interference {
         self.edges.add(i, j)
     }
 
-    /// Whether two homes interfere; no other home than a temporary of the procedure and the 25 registers does. It takes
-    /// no memory.
+    /// Whether there is an edge between two homes; any other home than a temporary of the procedure and the 25
+    /// registers has none. It takes no memory.
     pub fn meets(&self, a: Home, b: Home) -> bool
         ensures { result ≡ edge_between self.now.edges (number_of self.now.tmps a) (number_of self.now.tmps b) }
     {

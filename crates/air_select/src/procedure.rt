@@ -125,9 +125,10 @@ fn selected(alloc: Global, p: &Proc) -> Result<AirProc, NoMemory>
     })
 }
 
-/// Selects instructions for a procedure of a valid module, by its place. A comparison that is the condition of one
-/// Branch or Select, a test of one bit that is that of one Branch, and a constant that fits as an immediate in each
-/// of its uses, have no instruction of their own. It is refused for want of memory alone.
+/// Selects instructions for a procedure of a valid module, by its place. A value that is foldable has no instruction of
+/// its own: a comparison or a test of one bit that is the condition of one value of its block, a sum that is the pointer
+/// of one access of its block, a shift in it, and a constant that fits as an immediate in each of its uses. It is refused
+/// for want of memory alone.
 pub fn select(alloc: Global, valid: &Valid, proc: usize) -> Result<AirProc, NoMemory>
     requires there { proc < length valid.now }
     requires built { IsBuilt (procedure_at valid.now proc) }

@@ -4,13 +4,13 @@ use Rattle.std.specs.Prelude.{AllPairs, not}
 use Rattle.std.specs.List.{count_by}
 use Rattle.std.proofs.lemmas.Bool.{cases_order}
 use Rattle.std.proofs.lemmas.List.{length-map}
-use Rattle.std.proofs.lemmas.List.Elements.{All-get_or}
+use Rattle.std.proofs.lemmas.List.Elements.{All-cons, All-get_or, All-nil}
 use Rattle.std.proofs.lemmas.List.Sums.{sum_by-cons}
 use Rattle.b3_ir.specs.declared.value.Reg.{Reg as Register}
 use Rattle.air_ir.specs.declared.operand.Home.{Home}
 use Rattle.air_ir.specs.declared.operand.Home.TheVariants.{Reg}
-use Rattle.air_shuffle.specs.Moves.{GoUp, IsSource, Move, is_self, writes}
-use Rattle.air_shuffle.specs.Pending.{Going, one_if, saves}
+use Rattle.air_shuffle.specs.Moves.{GoUp, IsMadeOf, IsSource, Move, is_self, writes}
+use Rattle.air_shuffle.specs.Pending.{Going, Has, IsDrawn, one_if, saves}
 use Rattle.air_shuffle.specs.Waiting.{AreCounts, AreFree, AreWriters, IsKept, IsSequenceable, is_left_at, left_of, move_at, no_move, pending_in}
 use Rattle.air_shuffle.specs.declared.pending.Pending.{Pending}
 use Rattle.air_shuffle.proofs.Left.{differ_left, has-contains, none_left, others, others-from, others-self, place_of}
@@ -53,6 +53,7 @@ first-going scratch ms fine apart =
     going-first scratch (left_of ms (others ms)) (differ_left ms (others ms) fine)
     (λ c has. let r = place_of ms (others ms) c has in λ e. apart r.at r.within (sym (ap (λ (m : Move). m.to) r.is) ∙ e))
     (λ c has. let r = place_of ms (others ms) c has in subst (λ (m : Move). IsSource m.from) (sym r.is) (fine.sources r.at r.within))
+    (λ c has. others-self c ms has)
 
 -- ---- numbers of moves
 
@@ -86,3 +87,23 @@ ended scratch whole done p place n le many behind g = subst (Going scratch whole
 pub straight : (scratch : Register) (ms done : List Move) → Going scratch (left_of ms (others ms)) done [] → (rank : Home → ℕ) → GoUp rank ms → count_by (writes (Reg scratch)) done ≡ 0
 straight scratch ms done g rank up =
     sym (count-saves scratch done) ∙ (g.plain rank (λ c has h e. up c (has-contains c ms (others-from c ms has)) (others-self c ms has) h e)).0
+
+-- each move that was done is one of the given ones or a part of it
+drawn-made : (scratch : Register) (ms : List Move) (c : Move) → IsDrawn scratch (left_of ms (others ms)) c → IsMadeOf scratch ms c
+drawn-made scratch ms c drawn = record { given = drawn.given; has = has-contains drawn.given ms (others-from drawn.given ms drawn.has); is = drawn.is }
+
+pub made : (scratch : Register) (ms done : List Move) → ((c : Move) → Has c done → IsDrawn scratch (left_of ms (others ms)) c) → All (IsMadeOf scratch ms) done
+unfolding Has
+made scratch ms [] drawn = All-nil (IsMadeOf scratch ms)
+made scratch ms (c ∷ done) drawn =
+    All-cons (IsMadeOf scratch ms) c done (drawn-made scratch ms c (drawn c (inl refl))) (made scratch ms done (λ d has. drawn d (inr has)))
+
+-- and none is from a home to itself
+pub no_self : (done : List Move) → ((c : Move) → Has c done → is_self c ≡ false) → count_by is_self done ≡ 0
+unfolding Has
+no_self [] goes = refl
+no_self (c ∷ done) goes =
+    let rest = no_self done (λ d has. goes d (inr has)) in
+    let n = count-cons is_self c done in
+    let none : one_if (is_self c) ≡ 0 = ap one_if (goes c (inl refl)) in
+    omega arith

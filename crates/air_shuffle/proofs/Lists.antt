@@ -33,6 +33,17 @@ module _ {A : Type 0} where
   has-one x [] cs = inl refl
   has-one x (b ∷ bs) cs = inr (has-one x bs cs)
 
+  -- each member has a property, once one more has it, or one in place of another
+  pub each-then : (P : A → Type 0) (x : A) (xs : List A) → P x → ((y : A) → Has y xs → P y) → (y : A) → Has y (xs ++ x ∷ []) → P y
+  unfolding Has
+  each-then P x [] px all y (inl e) = subst P (sym e) px
+  each-then P x [] px all y (inr h) = absurd h
+  each-then P x (z ∷ xs) px all y (inl e) = all y (inl e)
+  each-then P x (z ∷ xs) px all y (inr h) = each-then P x xs px (λ m hm. all m (inr hm)) y h
+
+  pub each-other : (P : A → Type 0) (x x' : A) (bs cs : List A) → P x' → ((y : A) → Has y (bs ++ x ∷ cs) → P y) → (y : A) → Has y (bs ++ x' ∷ cs) → P y
+  each-other P x x' bs cs px all y h = elim (has-rest y x' bs cs h) [ inl e ↦ subst P (sym e) px | inr r ↦ all y (has-more y x bs cs r) ]
+
   pub length-one : (x : A) (bs cs : List A) → length (bs ++ x ∷ cs) ≡ suc (length (bs ++ cs))
   length-one x [] cs = refl
   length-one x (b ∷ bs) cs = ap suc (length-one x bs cs)

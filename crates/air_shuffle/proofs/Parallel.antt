@@ -11,9 +11,8 @@ use Rattle.air_ir.specs.declared.operand.Home.TheVariants.{Reg}
 use Rattle.air_ir.specs.declared.operand.Arg.{Arg}
 use Rattle.air_ir.specs.declared.operand.Arg.TheVariants.{At, Imm, Addr, Index, FrameSlot}
 use Rattle.air_ir.proofs.HomeLaws.{put-other, put-same, same_home-refl}
-use Rattle.air_shuffle.specs.Moves.{IsSource, Move, reads}
+use Rattle.air_shuffle.specs.Moves.{IsSource, Move, from_scratch, reads}
 use Rattle.air_shuffle.specs.Pending.{AreReady, Has, HasWord, Parallel, held, taken}
-use Rattle.air_shuffle.specs.Waiting.{from_scratch}
 use Rattle.air_shuffle.proofs.Lists.{has-rest, has-more, has-one}
 
 -- a source that doesn't read a home gives the same word after a write there

@@ -8,10 +8,9 @@ use Rattle.air_ir.specs.declared.operand.Home.TheVariants.{Reg}
 use Rattle.air_ir.specs.declared.operand.Arg.{Arg}
 use Rattle.air_ir.specs.declared.operand.Arg.TheVariants.{At, Imm, Addr, Index, FrameSlot}
 use Rattle.air_ir.proofs.HomeLaws.{same_home-false, same_home-refl, same_home-true}
-use Rattle.air_shuffle.specs.Moves.{IsSource, Move, reads}
-use Rattle.air_shuffle.specs.Pending.{AreReady, Differ, Going, Has, HasWord, Parallel, Runs, Up, cost, costs, one_if, readers, run, saves, taken}
-use Rattle.air_shuffle.specs.Waiting.{from_scratch, saved}
-use Rattle.air_shuffle.proofs.Lists.{has-rest, has-more, has-one, length-one, Alone, pigeonhole}
+use Rattle.air_shuffle.specs.Moves.{IsSource, Move, from_scratch, is_self, reads, saved}
+use Rattle.air_shuffle.specs.Pending.{AreReady, Differ, Going, Has, HasWord, IsDrawn, IsDue, Parallel, Runs, Up, cost, costs, one_if, readers, run, saves, taken}
+use Rattle.air_shuffle.proofs.Lists.{each-other, each-then, has-rest, has-more, has-one, length-one, Alone, pigeonhole}
 use Rattle.air_shuffle.proofs.Parallel.{parallel-first, parallel-saved, ready-first, ready-saved}
 
 -- ---- lists of moves
@@ -152,6 +151,34 @@ no-ascent rank cs d blocked up (suc n) m h lt =
     let less : rank r.0.to < rank m.to = up m h r.0.to r.2 in
     no-ascent rank cs d blocked up n r.0 r.1 (omega arith)
 
+-- ---- what moves are made of
+due-drawn : (scratch : Register) (whole : List Move) (c : Move) → IsDue scratch whole c → IsDrawn scratch whole c
+due-drawn scratch whole c due = record {
+  given = due.given;
+  has = due.has;
+  is = elim due.is [ inl e ↦ inl e | inr e ↦ inr (inr e) ];
+  goes = due.goes;
+}
+
+-- a pending move that doesn't read the scratch is whole
+due-whole : (scratch : Register) (whole : List Move) (c : Move) → reads (Reg scratch) c.from ≡ false → (due : IsDue scratch whole c) → c ≡ due.given
+due-whole scratch whole c unread due = elim due.is [
+  | inl e ↦ e
+  | inr e ↦ absurd (false≢true (sym unread ∙ ap (λ (m : Move). reads (Reg scratch) m.from) e ∙ same_home-refl (Reg scratch)))
+]
+
+saved-drawn : (scratch : Register) (whole : List Move) (c : Move) → reads (Reg scratch) c.from ≡ false → IsDue scratch whole c → IsDrawn scratch whole (saved scratch c)
+saved-drawn scratch whole c unread due =
+    record { given = due.given; has = due.has; is = inr (inl (ap (saved scratch) (due-whole scratch whole c unread due))); goes = unread }
+
+saved-due : (scratch : Register) (whole : List Move) (c : Move) → reads (Reg scratch) c.from ≡ false → c.to ≢ Reg scratch → IsDue scratch whole c → IsDue scratch whole (from_scratch scratch c)
+saved-due scratch whole c unread apart due = record {
+  given = due.given;
+  has = due.has;
+  is = inr (ap (from_scratch scratch) (due-whole scratch whole c unread due));
+  goes = same_home-false (Reg scratch) c.to (λ e. apart (sym e));
+}
+
 -- ---- the steps
 cost-some : (scratch : Register) (c : Move) → 1 ≤ cost scratch c
 cost-some scratch c = elim (cases_Bool (reads (Reg scratch) c.from)) [ inl t ↦ rw t (omega arith) | inr f ↦ rw f (omega arith) ]
@@ -165,9 +192,9 @@ costs-most scratch [] = omega arith
 costs-most scratch (c ∷ cs) = let one = cost-most scratch c in let rest = costs-most scratch cs in omega arith
 
 pub going-first : (scratch : Register) (whole : List Move) → Differ whole → ((c : Move) → Has c whole → c.to ≢ Reg scratch) → ((c : Move) → Has c whole → IsSource c.from)
-    → Going scratch whole [] whole
-unfolding run Runs saves
-going-first scratch whole d apart sources = record {
+    → ((c : Move) → Has c whole → is_self c ≡ false) → Going scratch whole [] whole
+unfolding run Runs saves Has
+going-first scratch whole d apart sources goes = record {
   means = λ s t p. p;
   runs = λ s ready. (tt, ready);
   bound = let m = costs-most scratch whole in omega arith;
@@ -176,6 +203,8 @@ going-first scratch whole d apart sources = record {
   differ = d;
   apart = apart;
   sources = sources;
+  drawn = λ c h. absurd h;
+  due = λ c h. record { given = c; has = h; is = inl refl; goes = goes c h };
 }
 
 pub going-last : (scratch : Register) (whole done : List Move) → Going scratch whole done []
@@ -210,6 +239,8 @@ going-move scratch whole done bs cs c free g =
       differ = differ-rest bs cs c g.differ;
       apart = λ d h. g.apart d (has-more d c bs cs h);
       sources = from;
+      drawn = each-then (IsDrawn scratch whole) c done (due-drawn scratch whole c (g.due c (has-one c bs cs))) (λ d h. g.drawn d h);
+      due = λ d h. g.due d (has-more d c bs cs h);
     }
 
 pub going-saved : (scratch : Register) (whole done bs cs : List Move) (c : Move) → AreBlocked (bs ++ c ∷ cs)
@@ -242,4 +273,6 @@ going-saved scratch whole done bs cs c blocked g =
         | inl e ↦ subst (λ (k : Move). IsSource k.from) (sym e) tt
         | inr r ↦ g.sources d (has-more d c bs cs r)
       ];
+      drawn = each-then (IsDrawn scratch whole) (saved scratch c) done (saved-drawn scratch whole c (none c (has-one c bs cs)) (g.due c (has-one c bs cs))) (λ d h. g.drawn d h);
+      due = each-other (IsDue scratch whole) c c' bs cs (saved-due scratch whole c (none c (has-one c bs cs)) (g.apart c (has-one c bs cs)) (g.due c (has-one c bs cs))) (λ d h. g.due d h);
     }

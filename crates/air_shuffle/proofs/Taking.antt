@@ -10,9 +10,9 @@ use Rattle.air_ir.specs.declared.operand.Home.TheVariants.{Reg}
 use Rattle.air_ir.specs.declared.operand.Arg.{Arg}
 use Rattle.air_ir.specs.declared.operand.Arg.TheVariants.{At}
 use Rattle.air_ir.proofs.HomeLaws.{same_home-false, same_home-refl}
-use Rattle.air_shuffle.specs.Moves.{IsSource, Move, reads}
+use Rattle.air_shuffle.specs.Moves.{IsSource, Move, from_scratch, reads, saved}
 use Rattle.air_shuffle.specs.Pending.{Going, one_if, readers}
-use Rattle.air_shuffle.specs.Waiting.{HasFreeBut, IsCounted, IsKept, IsKeptBut, count_at, freed, from_scratch, is_left_at, left_of, lowered, move_at, pending_in, saved, writer_of}
+use Rattle.air_shuffle.specs.Waiting.{HasFreeBut, IsCounted, IsKept, IsKeptBut, count_at, freed, is_left_at, left_of, lowered, move_at, pending_in, writer_of}
 use Rattle.air_shuffle.specs.declared.pending.Pending.{Pending}
 use Rattle.air_shuffle.proofs.Lists.{length-one}
 use Rattle.air_shuffle.proofs.Left.{Splits, left_has, place_of, splits}

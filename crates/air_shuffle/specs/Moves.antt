@@ -1,5 +1,5 @@
 -- Moves carried out one after the other, and all at once by a Shuffle.
-use Rattle.std.specs.Prelude.{◌≡◌, ◌≢◌, ◌<◌, ℕ, Bool, true, false, List, [], ◌∷◌, map, Contains}
+use Rattle.std.specs.Prelude.{◌≡◌, ◌≢◌, ◌<◌, ℕ, Bool, true, false, List, [], ◌∷◌, ◌⊎◌, map, Contains}
 use Rattle.b3_base.specs.Observed.{Start}
 use Rattle.b3_ir.specs.declared.value.Reg.{Reg as Register}
 use Rattle.air_ir.specs.Meaning.{meaning}
@@ -41,6 +41,19 @@ GoUp rank cs = (c : Move) → Contains cs c → is_self c ≡ false → (h : Hom
 -- to this home
 abbrev pub writes : Home → Move → Bool
 writes h c = same_home c.to h
+
+-- a move in two parts: its word is saved in the scratch, and is taken from there
+abbrev pub saved : Register → Move → Move
+saved scratch c = record { from = c.from; to = Reg scratch; width = c.width }
+
+abbrev pub from_scratch : Register → Move → Move
+from_scratch scratch c = record { from = At (Reg scratch); to = c.to; width = c.width }
+
+-- a move is one of the given ones, whole, or one of its two parts
+pub record IsMadeOf (scratch : Register) (cs : List Move) (c : Move) : Type 0 where
+  pub given : Move
+  pub has : Contains cs given
+  pub is : (c ≡ given) ⊎ ((c ≡ saved scratch given) ⊎ (c ≡ from_scratch scratch given))
 
 -- moves as operands: pairs of a source and a destination
 unfoldable pub pairs : List Move → List Operand

@@ -1,12 +1,12 @@
 -- No public clause cites this module. What is left to do while moves are put in order.
-use Rattle.std.specs.Prelude.{◌≡◌, ◌≢◌, ℕ, ◌+◌, ◌*◌, ◌<◌, ◌≤◌, ◌⊎◌, Bool, if◌then◌else◌, List, [], ◌∷◌, length, Option, Some, None}
+use Rattle.std.specs.Prelude.{◌≡◌, ◌≢◌, ℕ, ◌+◌, ◌*◌, ◌<◌, ◌≤◌, ◌⊎◌, Bool, false, if◌then◌else◌, List, [], ◌∷◌, length, Option, Some, None}
 use Rattle.b3_base.specs.declared.word.Width.{Width}
 use Rattle.b3_ir.specs.declared.value.Reg.{Reg as Register}
 use Rattle.air_ir.specs.Operands.{Held, Empty, Holds, Homes, put, same_home, word_of}
 use Rattle.air_ir.specs.declared.operand.Home.{Home}
 use Rattle.air_ir.specs.declared.operand.Home.TheVariants.{Reg}
 use Rattle.air_ir.specs.declared.operand.Arg.TheVariants.{At}
-use Rattle.air_shuffle.specs.Moves.{IsSource, Move, reads}
+use Rattle.air_shuffle.specs.Moves.{IsSource, Move, from_scratch, is_self, reads, saved}
 
 -- ---- moves by what homes hold
 
@@ -76,6 +76,20 @@ costs scratch (c ∷ cs) = cost scratch c + costs scratch cs
 abbrev pub Up : (Home → ℕ) → List Move → Type 0
 Up rank cs = (c : Move) → Has c cs → (h : Home) → c.from ≡ At h → rank h < rank c.to
 
+-- a move that is done is one of the whole or a part of it
+pub record IsDrawn (scratch : Register) (whole : List Move) (c : Move) : Type 0 where
+  pub given : Move
+  pub has : Has given whole
+  pub is : (c ≡ given) ⊎ ((c ≡ saved scratch given) ⊎ (c ≡ from_scratch scratch given))
+  pub goes : is_self c ≡ false
+
+-- a pending move is one of the whole, or takes its word from the scratch
+pub record IsDue (scratch : Register) (whole : List Move) (c : Move) : Type 0 where
+  pub given : Move
+  pub has : Has given whole
+  pub is : (c ≡ given) ⊎ (c ≡ from_scratch scratch given)
+  pub goes : is_self c ≡ false
+
 -- the moves that are done and those that are pending do what the whole does
 pub record Going (scratch : Register) (whole done pending : List Move) : Type 0 where
   pub means : (s t : Homes) → Parallel scratch pending (run done s) t → Parallel scratch whole s t
@@ -86,3 +100,5 @@ pub record Going (scratch : Register) (whole done pending : List Move) : Type 0 
   pub differ : Differ pending
   pub apart : (c : Move) → Has c pending → c.to ≢ Reg scratch
   pub sources : (c : Move) → Has c pending → IsSource c.from
+  pub drawn : (c : Move) → Has c done → IsDrawn scratch whole c
+  pub due : (c : Move) → Has c pending → IsDue scratch whole c

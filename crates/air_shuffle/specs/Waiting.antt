@@ -1,7 +1,6 @@
 -- No public clause cites this module. The moves that are left, by their places among all moves.
 use Rattle.std.specs.Prelude.{◌≡◌, ◌≢◌, ℕ, ◌+◌, ◌*◌, ◌-◌, ◌<◌, Bool, true, false, nat_eq, if◌then◌else◌, List, [], ◌∷◌, ◌++◌, length, Option, Some, None, Contains, slice_index_or, slice_set}
 use Rattle.b3_base.specs.declared.word.Width.TheVariants.{W32}
-use Rattle.b3_ir.specs.declared.value.Reg.{Reg as Register}
 use Rattle.indexmap.specs.IndexMap as map
 use Rattle.air_ir.specs.declared.operand.Home.{Home}
 use Rattle.air_ir.specs.declared.operand.Home.TheVariants.{Tmp, Reg, Spill}
@@ -29,13 +28,6 @@ unfoldable pub left_of : List Move → List Bool → List Move
 left_of [] bs = []
 left_of (c ∷ cs) [] = []
 left_of (c ∷ cs) (b ∷ bs) = if b then c ∷ left_of cs bs else left_of cs bs
-
--- a source is saved in the scratch, and a move takes its word from there
-abbrev pub saved : Register → Move → Move
-saved scratch c = record { from = c.from; to = Reg scratch; width = c.width }
-
-abbrev pub from_scratch : Register → Move → Move
-from_scratch scratch c = record { from = At (Reg scratch); to = c.to; width = c.width }
 
 -- ---- which move writes a home
 

@@ -4,7 +4,7 @@ ghost use Rattle.std.specs.Prelude.{◌≡◌, ◌≢◌, ℕ, ◌+◌, ◌*◌,
 ghost use Rattle.std.specs.List.{count_by};
 ghost use Rattle.air_ir.specs.declared.operand.Home.{Home};
 ghost use Rattle.air_ir.specs.declared.operand.Home.TheVariants as home;
-ghost use Rattle.air_shuffle.specs.Moves.{DoAtOnce, GoUp, IsSource, is_self, writes};
+ghost use Rattle.air_shuffle.specs.Moves.{DoAtOnce, GoUp, IsMadeOf, IsSource, is_self, writes};
 
 use crate::moves::{Move, Moves};
 use crate::pending::Pending;
@@ -18,6 +18,8 @@ pub fn sequence(alloc: Global, moves: &[Move], scratch: Reg) -> Result<Moves, No
     requires differ { AllPairs (λ one other. one.to ≢ other.to) moves.now }
     requires apart { All (λ one. one.to ≢ home.Reg scratch) moves.now }
     ensures at_once { IfOk result (DoAtOnce scratch moves.now) }
+    ensures made { IfOk result (All (IsMadeOf scratch moves.now)) }
+    ensures no_self { IfOk result (λ done. count_by is_self done ≡ 0) }
     ensures length { IfOk result (λ done. length done + count_by is_self moves.now
         ≡ length moves.now + count_by (writes (home.Reg scratch)) done) }
     ensures straight { IfOk result (λ done. (rank : Home → ℕ) → GoUp rank moves.now

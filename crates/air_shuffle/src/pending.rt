@@ -2,9 +2,9 @@
 
 ghost use Rattle.std.specs.Prelude.{◌≡◌, ◌≢◌, ◌<◌, ◌≤◌, ◌+◌, ◌^◌, ℕ, [], List, IfOk, IfSome, OnOk, length, map, not, slice_index_or, slice_set, true, false};
 ghost use Rattle.air_ir.specs.declared.operand.Home.TheVariants as home;
-ghost use Rattle.air_shuffle.specs.Moves.{Move, is_self};
+ghost use Rattle.air_shuffle.specs.Moves.{Move, from_scratch, is_self, saved};
 ghost use Rattle.air_shuffle.specs.Pending.{Going};
-ghost use Rattle.air_shuffle.specs.Waiting.{AreCounts, AreFree, AreWriters, IsKept, IsKeptBut, IsSequenceable, freed, from_scratch, left_of, lowered, move_at, pending_in, raised, saved, writer_of};
+ghost use Rattle.air_shuffle.specs.Waiting.{AreCounts, AreFree, AreWriters, IsKept, IsKeptBut, IsSequenceable, freed, left_of, lowered, move_at, pending_in, raised, writer_of};
 
 use crate::moves::{Move, Moves, is_self};
 use crate::writers::{Writers, writer_of, writers_of};

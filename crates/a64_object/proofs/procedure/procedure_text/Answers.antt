@@ -20,6 +20,7 @@ returns c = record {
     code = c.in_ok-emitted.emitted.code;
     text = c.in_ok-text.text;
     placed = c.in_ok-placed.ensures.placed;
+    coloured = c.in_ok-placed.ensures.coloured;
     is_frame = c.in_ok-frame.ensures;
     is_code = c.in_ok-emitted.ensures.code;
     is_text = c.in_ok-text.ensures.text;

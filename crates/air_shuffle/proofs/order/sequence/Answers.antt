@@ -6,10 +6,10 @@ use Rattle.std.proofs.lemmas.List.{length-set}
 use Rattle.b3_ir.specs.declared.value.Reg.{Reg as Register}
 use Rattle.air_ir.specs.declared.operand.Home.TheVariants.{Reg}
 use Rattle.air_ir.specs.declared.operand.Arg.TheVariants.{At}
-use Rattle.air_shuffle.specs.Moves.{Move, writes}
+use Rattle.air_shuffle.specs.Moves.{Move, saved, writes}
 use Rattle.air_shuffle.specs.Pending.{Going, saves}
-use Rattle.air_shuffle.specs.Waiting.{is_left_at, left_of, move_at, pending_in, saved}
-use Rattle.air_shuffle.proofs.Beginning.{apart-at, count-others, count-saves, ended, first-going, sequenceable, straight}
+use Rattle.air_shuffle.specs.Waiting.{is_left_at, left_of, move_at, pending_in}
+use Rattle.air_shuffle.proofs.Beginning.{apart-at, count-others, count-saves, ended, first-going, made, no_self, sequenceable, straight}
 use Rattle.air_shuffle.proofs.Left.{differ-at, has-contains, others, without_self}
 use Rattle.air_shuffle.proofs.Shuffles.{do_at_once}
 use Rattle.air_shuffle.proofs.Steps.{going-last}
@@ -99,6 +99,20 @@ returns-clause-at_once c =
     let g = ended c.args.scratch (left_of ms (others ms)) c.loop-place.done c.loop-place.pending c.loop-place.place (length ms) c.loop-place-test.false inv.many inv.behind inv.going in
     do_at_once c.args.scratch ms (left_of ms (others ms)) (without_self ms) c.loop-place.done (differ-at ms (sequenceable ms c.requires.sources c.requires.differ).differ)
     (λ m has. has-contains m ms has) (going-last c.args.scratch (left_of ms (others ms)) c.loop-place.done g).0 (λ t ready. (g.runs t ready).0)
+
+pub returns-clause-made : goal.returns-clause-made
+returns-clause-made c =
+    let ms : List Move = c.args.moves.now in
+    let inv = c.loop-place.invariant in
+    let g = ended c.args.scratch (left_of ms (others ms)) c.loop-place.done c.loop-place.pending c.loop-place.place (length ms) c.loop-place-test.false inv.many inv.behind inv.going in
+    made c.args.scratch ms c.loop-place.done (λ d has. g.drawn d has)
+
+pub returns-clause-no_self : goal.returns-clause-no_self
+returns-clause-no_self c =
+    let ms : List Move = c.args.moves.now in
+    let inv = c.loop-place.invariant in
+    let g = ended c.args.scratch (left_of ms (others ms)) c.loop-place.done c.loop-place.pending c.loop-place.place (length ms) c.loop-place-test.false inv.many inv.behind inv.going in
+    no_self c.loop-place.done (λ d has. (g.drawn d has).goes)
 
 pub returns-clause-length : goal.returns-clause-length
 returns-clause-length c =

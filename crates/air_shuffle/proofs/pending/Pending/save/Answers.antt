@@ -1,8 +1,8 @@
 use Rattle.std.proofs.Common.{◌≡◌, ◌<◌, sym, ap, ◌∙◌}
 use Rattle.std.specs.Prelude.{slice_index_or, slice_set}
 use Rattle.air_ir.specs.declared.operand.Arg.{Arg}
-use Rattle.air_shuffle.specs.Moves.{Move}
-use Rattle.air_shuffle.specs.Waiting.{freed, from_scratch, lowered, move_at, writer_of}
+use Rattle.air_shuffle.specs.Moves.{Move, from_scratch}
+use Rattle.air_shuffle.specs.Waiting.{freed, lowered, move_at, writer_of}
 use Rattle.air_shuffle.proofs.Left.{if_some, read_move}
 use Rattle.air_shuffle.proofs.Taking.{IsSaved, IsLeft, saved-kept, from_at, released-there}
 use Rattle.air_shuffle.proofs.pending.Pending.save.Goals as goal
