@@ -43,7 +43,7 @@ returns-then-is_empty c =
     let test : ℕ → Bool = λ y. not (is_move c.args.moves.now (home_at c.args.tmps y) to) in
     let empty : c.in_ok-sources.sources ≡ [] = c.is_empty.ensures.0 c.if-is_empty.true in
     let none : (from : Home) → is_move c.args.moves.now from to ≡ false = λ from.
-        sym (ap (λ (l : List Home). list_any (λ h. same_home h from) l) (sym empty) ∙ c.in_ok-sources.ensures from
-        ∙ ap (λ (h : Home). is_move c.args.moves.now from h) c.home_at.ensures) in
+    sym (ap (λ (l : List Home). list_any (λ h. same_home h from) l) (sym empty) ∙ c.in_ok-sources.ensures from
+    ∙ ap (λ (h : Home). is_move c.args.moves.now from h) c.home_at.ensures) in
     let kept : filter test c.args.live.now ≡ c.args.live.now = all_kept test c.args.live.now (λ y. ap not (none (home_at c.args.tmps y))) in
     c.in_ok-extend.ensures.ok ∙ ap (λ (l : List ℕ). l ++ c.args.live.now) c.new-list.ensures ∙ sym kept
