@@ -3,8 +3,10 @@
 use super::ADD_ONE;
 use crate::compiler::supported_module;
 use a64_emit::emit;
+use a64_inst::Inst;
 use a64_layout::resolve;
 use a64_object::{placed_procedure, procedure_text};
+use a64_word::decode;
 use air_frame::layout;
 use std::test::Fail;
 
@@ -28,7 +30,64 @@ fn a_sum_goes_through_each_pass(rt: HostRuntime) -> Result<(), Fail> {
     let text = resolve(rt.alloc(), emitted.code)?;
     assert_eq!(rt; text.marks.len(), 0);
     let whole = procedure_text(rt.alloc(), &valid, 0)?;
-    assert_eq!(rt; whole.words.len(), text.words.len());
+    assert_eq!(rt; whole.words.as_slice(), text.words.as_slice());
     assert_eq!(rt; whole.row.bytes, frame.bytes);
+    // two words of prologue, the sum, and three of the return
+    assert_eq!(rt; text.words.len(), 6);
+    Ok(())
+}
+
+/// Whether x0 is below 5, by a Branch on that alone.
+const BELOW_FIVE: &str =
+    "procedure f\nBB#0:\n    Int64 b@0 = ArgumentReg(%x0)\n    Int64 b@1 = Const64(5)\n    Int32 b@2 = LessThan(b@0, b@1)\n    Void b@3 = Branch(b@2)\n  Successors: Then:#1, Else:#2\nBB#1:\n    Int64 b@4 = Const64(10)\n    Void b@5 = Return(b@4)\nBB#2:\n    Int64 b@6 = Const64(20)\n    Void b@7 = Return(b@6)\n";
+
+/// How many words compare with 5, branch on flags, and select by flags.
+#[derive(Clone, Copy, Debug, PartialEq, Eq)]
+struct Counts {
+    compared: usize,
+    branches: usize,
+    selects: usize,
+}
+
+fn counts_in(words: &[u32]) -> Counts {
+    let mut counts = Counts {
+        compared: 0,
+        branches: 0,
+        selects: 0,
+    };
+    for word in words {
+        match decode(*word) {
+            Some(
+                Inst::AddSubImm {
+                    sub: true,
+                    flags: true,
+                    imm12: 5,
+                    ..
+                },
+            ) => counts.compared = counts.compared.saturating_add(1),
+            Some(Inst::BranchIf { .. }) => counts.branches = counts.branches.saturating_add(1),
+            Some(Inst::Select { .. }) => counts.selects = counts.selects.saturating_add(1),
+            _ => {}
+        }
+    }
+    counts
+}
+
+#[test]
+fn a_comparison_costs_a_word_and_a_branch(rt: HostRuntime) -> Result<(), Fail> {
+    let valid = match supported_module(rt.alloc(), BELOW_FIVE.as_bytes()) {
+        Ok(valid) => valid,
+        Err(_) => return Err("refused".into()),
+    };
+    if valid.module().procs() != 1 {
+        return Err("not one procedure".into());
+    }
+    let text = procedure_text(rt.alloc(), &valid, 0)?;
+    let expected = Counts {
+        compared: 1,
+        branches: 1,
+        selects: 0,
+    };
+    assert_eq!(rt; counts_in(text.words.as_slice()), expected);
     Ok(())
 }
