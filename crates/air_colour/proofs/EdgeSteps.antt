@@ -1,8 +1,10 @@
 -- Edges one after the other, as two classes are joined.
-use Rattle.std.proofs.Common.{◌≡◌, ℕ, ◌+◌, ◌<◌, ◌⊎◌, inl, inr, ◌↔◌, true, List, get_or, length, take, arith}
-use Rattle.std.specs.Prelude.{Contains}
+use Rattle.std.proofs.Common.{◌≡◌, ℕ, ◌+◌, ◌<◌, ◌⊎◌, inl, inr, ◌↔◌, true, false, not, ◌&&◌, List, get_or, length, take, arith, sym, ◌∙◌, subst}
+use Rattle.std.specs.Prelude.{Contains, filter, slice_index_or, Bool}
+use Rattle.std.proofs.lemmas.Bool.{and_from, cases_Bool, not_from_false}
 use Rattle.air_graph.specs.Edges.{ArePair, EdgeSet}
-use Rattle.air_graph.proofs.Adding.{contains_more}
+use Rattle.air_graph.proofs.Adding.{contains_more, filtered}
+use Rattle.air_graph.proofs.Beside.{edge_back}
 use Rattle.air_colour.specs.Kept.{JoinedTo, has}
 
 pub none_joined_to : (old : EdgeSet) (a : ℕ) (near : List ℕ) (y z : ℕ) → JoinedTo old old a (take 0 near) y z
@@ -48,3 +50,42 @@ joined_more old m new a near k lt so_far added y z =
         ]
       ]),
     )
+
+-- where the class had an edge already none is added, and none to a class that is gone
+module _ (old new : EdgeSet) (left : List Bool) (a b : ℕ) (near fresh : List ℕ) (are : (x : ℕ) → Contains near x ↔ (has old b x ≡ true))
+    (e : fresh ≡ filter (λ x. slice_index_or left x false && not (has old a x)) near)
+    (joined : (y z : ℕ) → JoinedTo old new a fresh y z) where
+  pub fresh_near : (x : ℕ) → Contains fresh x → Contains near x
+  fresh_near x c = ((filtered (λ y. slice_index_or left y false && not (has old a y)) near x).0 (subst (λ (l : List ℕ). Contains l x) e c)).0
+
+  near_fresh : (x : ℕ) → slice_index_or left x false ≡ true → has old b x ≡ true → (has old a x ≡ true) ⊎ Contains fresh x
+  near_fresh x lx t = elim (cases_Bool (has old a x)) [
+    | inl u ↦ inl u
+    | inr f ↦ inr (subst (λ (l : List ℕ). Contains l x) (sym e) ((filtered (λ y. slice_index_or left y false && not (has old a y)) near x).1
+        ((are x).1 t, and_from (slice_index_or left x false) (not (has old a x)) lx (not_from_false (has old a x) f))))
+  ]
+
+  pub joined_left : (y z : ℕ) → slice_index_or left y false ≡ true → slice_index_or left z false ≡ true
+      → (has new y z ≡ true) ↔ ((has old y z ≡ true) ⊎ (((y ≡ a) × (has old b z ≡ true)) ⊎ ((z ≡ a) × (has old b y ≡ true))))
+  joined_left y z ly lz = (
+    λ t. elim ((joined y z).0 t) [
+      | inl u ↦ inl u
+      | inr v ↦ inr (elim v [
+        | inl q ↦ inl (q.0, (are z).0 (fresh_near z q.1))
+        | inr q ↦ inr (q.0, (are y).0 (fresh_near y q.1))
+      ])
+    ],
+    λ t. elim t [
+      | inl u ↦ (joined y z).1 (inl u)
+      | inr v ↦ elim v [
+        | inl q ↦ elim (near_fresh z lz q.1) [
+          | inl u ↦ (joined y z).1 (inl (subst (λ (x : ℕ). has old x z ≡ true) (sym q.0) u))
+          | inr c ↦ (joined y z).1 (inr (inl (q.0, c)))
+        ]
+        | inr q ↦ elim (near_fresh y ly q.1) [
+          | inl u ↦ (joined y z).1 (inl (subst (λ (x : ℕ). has old y x ≡ true) (sym q.0) (edge_back old y a ∙ u)))
+          | inr c ↦ (joined y z).1 (inr (inr (q.0, c)))
+        ]
+      ]
+    ],
+  )

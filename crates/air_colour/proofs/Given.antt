@@ -1,31 +1,10 @@
 -- An interference graph has the edges that colouring asks for.
-use Rattle.std.proofs.Common.{◌≡◌, ℕ, ◌+◌, ◌-◌, ◌<◌, inl, inr, true, false, arith, refl, sym, ap, ◌∙◌, subst}
-use Rattle.std.specs.FinSet as set
-use Rattle.std.proofs.lemmas.Bool.{cases_lt, leb-true, le-ltb, lt-ltb}
-use Rattle.air_graph.specs.Edges.{EdgeSet, has_edge, pair_number}
+use Rattle.std.proofs.Common.{◌≡◌, ℕ, ◌+◌, ◌-◌, ◌<◌, true, arith, sym, ◌∙◌, subst}
+use Rattle.std.proofs.lemmas.Bool.{leb-true}
+use Rattle.air_graph.specs.Edges.{EdgeSet, has_edge}
+use Rattle.air_graph.proofs.Beside.{edge_back, no_edge}
 use Rattle.air_colour.specs.Homes.{home_graph}
 use Rattle.air_colour.specs.Interference.{IsInterference}
-
-up : (e : EdgeSet) (i j : ℕ) → i < j → has_edge e i j ≡ set.contains e.pairs (pair_number i j)
-up e i j lt = rw (lt-ltb i j lt) refl
-
-down : (e : EdgeSet) (i j : ℕ) → j < i → has_edge e i j ≡ set.contains e.pairs (pair_number j i)
-down e i j lt = rw (le-ltb i j (omega (arith, lt)), lt-ltb j i lt) refl
-
-pub no_edge : (e : EdgeSet) (i : ℕ) → has_edge e i i ≡ false
-no_edge e i = rw (le-ltb i i (omega arith)) refl
-
-pub edge_back : (e : EdgeSet) (i j : ℕ) → has_edge e i j ≡ has_edge e j i
-edge_back e i j =
-    elim (cases_lt i j) [
-      | inl lt ↦ up e i j lt ∙ sym (down e j i lt)
-      | inr le ↦ elim (cases_lt j i) [
-        | inl lt ↦ down e i j lt ∙ sym (up e j i lt)
-        | inr le' ↦
-            let same : i ≡ j = omega (arith, le, le') in
-            ap (has_edge e i) (sym same) ∙ ap (λ (k : ℕ). has_edge e k i) same
-      ]
-    ]
 
 pub given_interference : (e : EdgeSet) (tmps : ℕ) → ((r s : ℕ) → r < 25 → s < 25 → (r ≡ s → ⊥) → has_edge e (tmps + r) (tmps + s) ≡ true)
     → IsInterference (home_graph e tmps 25)

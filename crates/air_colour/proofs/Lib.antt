@@ -16,5 +16,5 @@ mod Given
 mod Assigned
 mod Working
 mod Members
-mod Active
+mod Below
 mod Bars

@@ -1,9 +1,10 @@
 -- What is kept when the classes of a move are joined.
 use Rattle.std.proofs.Common.{◌≡◌, ℕ, ◌+◌, ◌<◌, ◌≤◌, ◌⊎◌, inl, inr, ◌↔◌, Bool, true, false, cond, ◌&&◌, ◌||◌, List, [], ◌∷◌, ◌++◌, length, arith, refl, sym, ◌∙◌, ap, subst, length-set, slice_index_or, append_assoc}
 use Rattle.std.specs.Prelude.{◌==◌, slice_set}
-use Rattle.std.proofs.lemmas.Bool.{and_from, or_left, or_right, eq-eqb, false≢true, false_from_ne_true}
+use Rattle.std.proofs.lemmas.Bool.{and_from, cases_eq, or_left, or_right, eq-eqb, false≢true}
 use Rattle.std.proofs.lemmas.Grind.{get_or_default_zero}
 use Rattle.air_graph.specs.Edges.{EdgeSet}
+use Rattle.air_graph.proofs.Beside.{edge_back}
 use Rattle.air_colour.specs.Interference.{Graph, IsIn, IsInterference, one}
 use Rattle.air_colour.specs.Joining.{join, MayJoin}
 use Rattle.air_colour.specs.Classes.{classes_of, merged, stays, goes, MayJoinMove, after_move, after_joins, Moves, JoinsFrom}
@@ -11,23 +12,29 @@ use Rattle.air_colour.specs.declared.moves.Move.{Move}
 use Rattle.air_colour.specs.Kept.{graph_of, has, HasRoom}
 use Rattle.air_colour.specs.Progress.{IsClassing, IsSame, class_in, IsState, IsKept, IsJoinedSoFar}
 use Rattle.air_colour.proofs.Joins.{join_meets}
-use Rattle.air_colour.proofs.KeptGraph.{left_taken}
+use Rattle.air_colour.proofs.Counting.{but, but_gone, but_same}
+use Rattle.air_colour.proofs.KeptGraph.{is_left, left_taken}
 use Rattle.air_colour.proofs.Merging.{same_tests, class_stands, merged_cases, merged_same, merged_classing}
 use Rattle.air_colour.proofs.Same.{same_in, same_sym, same_trans, same_may, same_join}
 use std.Path.{fun_ext}
 
--- what joining does to the edges
-abbrev pub Takes : EdgeSet → EdgeSet → ℕ → ℕ → ℕ → Type 0
-Takes old new a b n = (x y : ℕ) → x < n → y < n → (has new x y ≡ true) ↔ ((has old x y ≡ true) ⊎ (((x ≡ a) × (has old b y ≡ true)) ⊎ ((y ≡ a)
-    × (has old b x ≡ true))))
+-- what joining does to the edges between classes that are left
+abbrev pub Takes : EdgeSet → EdgeSet → List Bool → ℕ → ℕ → Type 0
+Takes old new left a b = (x y : ℕ) → is_left left x ≡ true → is_left left y ≡ true
+    → (has new x y ≡ true) ↔ ((has old x y ≡ true) ⊎ (((x ≡ a) × (has old b y ≡ true)) ⊎ ((y ≡ a) × (has old b x ≡ true))))
+
+-- what is left was left before
+still_left : (left : List Bool) (b x : ℕ) → b < length left → is_left (slice_set left b false) x ≡ true → is_left left x ≡ true
+still_left left b x lt t =
+    elim (cases_eq x b) [
+      | inl e ↦ absurd (false≢true (sym (but_gone (is_left left) b) ∙ subst (λ (y : ℕ). but (is_left left) b y ≡ true) e (sym (left_taken left b x lt) ∙ t)))
+      | inr ne ↦ sym (but_same (is_left left) b x ne) ∙ sym (left_taken left b x lt) ∙ t
+    ]
 
 module _ (edges new : EdgeSet) (left fixed : List Bool) (class class' : List ℕ) (a b : ℕ) (state : IsState edges left fixed class)
-    (in_a : a < length left) (in_b : b < length left) (apart : has edges a b ≡ false)
-    (room : HasRoom new (length left) (length left)) (takes : Takes edges new a b (length left))
+    (in_a : a < length left) (in_b : b < length left)
+    (room : HasRoom new (length left) (length left)) (takes : Takes edges new left a b)
     (moved : (x : ℕ) → class_in class' x ≡ merged (class_in class) a b x) (long : length class' ≡ length class) where
-  apart_back : has edges b a ≡ true → ⊥
-  apart_back t = false≢true (sym apart ∙ state.symmetric b a in_b in_a t)
-
   at_zero : (l : List ℕ) (u : ℕ) → u < length l → slice_index_or l u 0 ≡ class_in l u
   at_zero l u lt = sym (get_or_default_zero l u u lt)
 
@@ -49,22 +56,6 @@ module _ (edges new : EdgeSet) (left fixed : List Bool) (class class' : List ℕ
         room = record { names = let h = room.names in omega arith; same = let h = state.room.same in omega arith };
         classes = let h = state.classes in omega arith;
         below = λ u lt. let h = merged_below u lt in omega arith;
-        irreflexive = λ x lt. false_from_ne_true (has new x x) (λ t.
-            let lt' : x < length left = omega arith in
-            elim ((takes x x lt' lt').0 t) [
-              | inl old ↦ false≢true (sym (state.irreflexive x lt') ∙ old)
-              | inr p ↦ elim p [
-                | inl q ↦ apart_back (subst (λ (y : ℕ). has edges b y ≡ true) q.0 q.1)
-                | inr q ↦ apart_back (subst (λ (y : ℕ). has edges b y ≡ true) q.0 q.1)
-              ]
-            ]);
-        symmetric = λ x y lx ly t.
-            let lx' : x < length left = omega arith in
-            let ly' : y < length left = omega arith in
-            (takes y x ly' lx').1 (elim ((takes x y lx' ly').0 t) [
-              | inl old ↦ inl (state.symmetric x y lx' ly' old)
-              | inr p ↦ elim p [ inl q ↦ inr (inr q) | inr q ↦ inr (inl q) ]
-            ]);
       }
 
   -- the kept graph is the joined one
@@ -74,21 +65,20 @@ module _ (edges new : EdgeSet) (left fixed : List Bool) (class class' : List ℕ
     classes = λ x lt. left_taken left b x in_b;
     registers = λ x there. sym (ap (λ r. slice_index_or fixed x false || ((x == a) && r)) free ∙ drop_false (slice_index_or fixed x false) (x == a));
     meets = λ x y there there'.
-        let same = length-set left b false in
-        let lx : x < length left = let lt = there.0 in omega arith in
-        let ly : y < length left = let lt = there'.0 in omega arith in
+        let lx = still_left left b x in_b there.1 in
+        let ly = still_left left b y in_b there'.1 in
         same_tests (has new x y) ((join (graph_of edges left fixed) a b).meets x y)
         (λ t. elim ((takes x y lx ly).0 t) [
           | inl old ↦ or_left (has edges x y) (((x == a) && has edges b y) || ((y == a) && has edges x b)) old
           | inr p ↦ or_right (has edges x y) (((x == a) && has edges b y) || ((y == a) && has edges x b)) (elim p [
             | inl q ↦ or_left ((x == a) && has edges b y) ((y == a) && has edges x b) (and_from (x == a) (has edges b y) (eq-eqb x a q.0) q.1)
             | inr q ↦ or_right ((x == a) && has edges b y) ((y == a)
-                && has edges x b) (and_from (y == a) (has edges x b) (eq-eqb y a q.0) (state.symmetric b x in_b lx q.1))
+                && has edges x b) (and_from (y == a) (has edges x b) (eq-eqb y a q.0) (edge_back edges x b ∙ q.1))
           ])
         ])
         (λ t. (takes x y lx ly).1 (elim (join_meets (graph_of edges left fixed) a b x y t) [
           | inl old ↦ inl old
-          | inr p ↦ inr (elim p [ inl q ↦ inl q | inr q ↦ inr (q.0, state.symmetric x b lx in_b q.1) ])
+          | inr p ↦ inr (elim p [ inl q ↦ inl q | inr q ↦ inr (q.0, edge_back edges b x ∙ q.1) ])
         ]));
   }
     where
@@ -189,16 +179,16 @@ module _ (g : Graph) (edges : EdgeSet) (left fixed : List Bool) (class : List �
 pub move_joined : (k : ℕ) (g : Graph) (edges new : EdgeSet) (left fixed : List Bool) (class class' : List ℕ) (m : Move) (a b : ℕ)
     → IsInterference g → IsState edges left fixed class → IsKept g edges left fixed class → m.from < length class → m.to < length class
     → a ≡ stays_in fixed class m → b ≡ goes_in fixed class m → MayJoin k (graph_of edges left fixed) a b
-    → HasRoom new (length left) (length left) → Takes edges new a b (length left)
+    → HasRoom new (length left) (length left) → Takes edges new left a b
     → ((x : ℕ) → class_in class' x ≡ merged (class_in class) a b x) → length class' ≡ length class
     → MayJoinMove k g (class_in class) m × IsKept g new (slice_set left b false) fixed class' × (class_in class' ≡ after_move g (class_in class) m)
 move_joined k g edges new left fixed class class' m a b is state kept lf lt ea eb may room takes moved long =
     let in_a : a < length left = may.into.0 in
     let in_b : b < length left = may.from.0 in
     let e : class_in class' ≡ merged
-    (class_in class) a b = moved_class edges new left fixed class class' a b state in_a in_b may.apart room takes moved long in (
+    (class_in class) a b = moved_class edges new left fixed class class' a b state in_a in_b room takes moved long in (
       kept_move g edges left fixed class m state kept lf lt k a b ea eb may,
-      join_keeps edges new left fixed class class' a b state in_a in_b may.apart room takes moved long k g is kept may (free_from k
+      join_keeps edges new left fixed class class' a b state in_a in_b room takes moved long k g is kept may (free_from k
           (graph_of edges left fixed) a b may),
       e ∙ ap (λ (x : ℕ). merged (class_in class) x b) (ea ∙ stays_are g edges left fixed class m state kept lf lt)
           ∙ ap (λ (y : ℕ). merged (class_in class) (stays g (class_in class) m) y) (eb ∙ goes_are g edges left fixed class m state kept lf lt),

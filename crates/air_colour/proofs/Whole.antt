@@ -63,8 +63,6 @@ module _ (edges : EdgeSet) (left fixed : List Bool) (class : List ℕ) (given : 
         let is_u = start.class u (omega arith) in
         let long = start.left_long in
         omega arith;
-    irreflexive = λ x lt. is.irreflexive x (home x (let e = start.left_long in omega arith));
-    symmetric = λ x y lx ly m. let e = start.left_long in is.symmetric x y (home x (omega arith)) (home y (omega arith)) m;
   }
 
   homes_same : IsSame (graph_of edges left fixed) (home_graph edges t k)

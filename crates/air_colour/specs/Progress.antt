@@ -1,10 +1,10 @@
 -- How far joining has come.
-use Rattle.std.specs.Prelude.{◌≡◌, ℕ, ◌<◌, ◌⊎◌, Bool, true, false, List, ◌++◌, length, slice_index_or, Contains}
+use Rattle.std.specs.Prelude.{◌≡◌, ℕ, ◌<◌, Bool, true, false, List, ◌++◌, length, slice_index_or}
 use Rattle.air_graph.specs.Edges.{EdgeSet}
 use Rattle.air_colour.specs.Interference.{Graph, IsIn, count}
 use Rattle.air_colour.specs.Classes.{classes_of, Moves, after_joins, JoinsFrom}
 use Rattle.air_colour.specs.declared.moves.Move.{Move}
-use Rattle.air_colour.specs.Kept.{graph_of, has, HasRoom}
+use Rattle.air_colour.specs.Kept.{graph_of, HasRoom}
 
 -- the home that stands for a class is a member of it, and members of a class don't interfere
 pub record IsClassing (g : Graph) (class : ℕ → ℕ) : Type 0 where
@@ -27,13 +27,11 @@ left_count left = count (λ x. slice_index_or left x false) (length left)
 abbrev pub class_in : List ℕ → ℕ → ℕ
 class_in class u = slice_index_or class u u
 
--- edges, lists and classes are those of as many homes, and interference is symmetric and irreflexive
+-- edges, lists and classes are those of as many homes
 pub record IsState (edges : EdgeSet) (left fixed : List Bool) (class : List ℕ) : Type 0 where
   pub room : HasRoom edges (length left) (length fixed)
   pub classes : length class ≡ length left
   pub below : (u : ℕ) → u < length class → slice_index_or class u 0 < length left
-  pub irreflexive : (x : ℕ) → x < length left → has edges x x ≡ false
-  pub symmetric : (x y : ℕ) → x < length left → y < length left → has edges x y ≡ true → has edges y x ≡ true
 
 -- they are the classes of the graph
 pub record IsKept (g : Graph) (edges : EdgeSet) (left fixed : List Bool) (class : List ℕ) : Type 0 where
@@ -50,13 +48,3 @@ pub record IsJoinedSoFar (k : ℕ) (g : Graph) (moves : Moves) (first : ℕ → 
     → ℕ) : Type 0 where
   pub more : (rest : List ℕ) → JoinsFrom k g moves class rest → JoinsFrom k g moves first (joins ++ rest)
   pub after : (rest : List ℕ) → after_joins g moves first (joins ++ rest) ≡ after_joins g moves class rest
-
--- the move can be joined no more: a home isn't in the graph, or the classes of both are one or interfere
-abbrev pub IsOver : Graph → (ℕ → ℕ) → Move → Type 0
-IsOver g class m =
-    IsIn g m.from → IsIn g m.to
-    → (class m.from ≡ class m.to) ⊎ ((classes_of g class).meets (class m.from) (class m.to) ≡ true)
-
--- each move that may be joined yet is in the list
-abbrev pub AreActive : Graph → Moves → (ℕ → ℕ) → List ℕ → Type 0
-AreActive g moves class active = (j : ℕ) → j < moves.count → Contains active j ⊎ IsOver g class (moves.at j)

@@ -1,6 +1,6 @@
 //! Whether two classes may be joined, and joining them.
 
-ghost use Rattle.std.specs.Prelude.{◌≡◌, not, ℕ, ◌<◌, ◌≤◌, ◌↔◌, ◌⊎◌, ◌&&◌, length, slice_index_or, slice_set, IsTrue, OnOk, Contains, ◌≢◌, leb, true, false};
+ghost use Rattle.std.specs.Prelude.{◌≡◌, not, ℕ, ◌<◌, ◌≤◌, ◌↔◌, ◌⊎◌, ◌&&◌, length, slice_index_or, slice_set, filter, IsTrue, IfOk, OnOk, Contains, ◌≢◌, leb, true, false};
 ghost use Rattle.air_colour.specs.Interference.{IsIn, count, degree};
 ghost use Rattle.air_colour.specs.Joining.{is_significant, is_neighbour_of_either, MayJoin};
 ghost use Rattle.air_colour.specs.Kept.{graph_of, has, HasRoom, JoinedTo, neighbours_left, significant_left};
@@ -10,7 +10,7 @@ use b3_base::NoMemory;
 use std::alloc::Global;
 
 /// Whether the class `a` interferes with at least `k` of the classes that are left. It stops at the first `k`.
-fn reaches(edges: &Edges, left: &[bool], a: usize, k: usize) -> bool
+pub(crate) fn reaches(edges: &Edges, left: &[bool], a: usize, k: usize) -> bool
     requires room { HasRoom edges.now (length left.now) (length left.now) }
     requires a { a < length left.now }
     ensures { result ≡ leb k (neighbours_left edges.now left.now a) }
@@ -183,26 +183,66 @@ fn add_edges(edges: &mut Edges, a: usize, near: &[u32]) -> Result<(), NoMemory>
     Ok(())
 }
 
-/// Lets class `b` go into class `a`, which takes over its neighbours. It is refused for want of memory alone.
+/// Neighbours of a class that are left: those that another class has too, and those that it doesn't have.
+#[derive(Drop)]
+pub(crate) struct Shared {
+    pub(crate) both: Vec<u32>,
+    pub(crate) fresh: Vec<u32>,
+}
+
+/// Which of some classes that are left the class `a` interferes with, and with which it doesn't.
+fn split(
+    alloc: Global,
+    edges: &Edges,
+    left: &[bool],
+    near: &[u32],
+    a: usize,
+) -> Result<Shared, NoMemory>
+    requires room { HasRoom edges.now (length left.now) (length left.now) }
+    requires a { a < length left.now }
+    requires near { (x : ℕ) → Contains near.now x → x < length left.now }
+    ensures both { IfOk result (λ s. s.both.items ≡ filter (λ x. slice_index_or left.now x false
+        && has edges.now a x) near.now) }
+    ensures fresh { IfOk result (λ s. s.fresh.items ≡ filter (λ x. slice_index_or left.now x false
+        && not (has edges.now a x)) near.now) }
+{
+    let mut both = Vec::new(alloc);
+    let mut fresh = Vec::new(alloc);
+    for x in near {
+        if left[*x as usize] {
+            if edges.has(a, *x as usize) {
+                both.push(*x)?;
+            } else {
+                fresh.push(*x)?;
+            }
+        }
+    }
+    Ok(Shared { both, fresh })
+}
+
+/// Lets class `b` go into class `a`, which takes over its neighbours that are left. It gives these, and is refused for
+/// want of memory alone.
 pub(crate) fn join(
     alloc: Global,
     edges: &mut Edges,
     left: &mut [bool],
     a: usize,
     b: usize,
-) -> Result<(), NoMemory>
+) -> Result<Shared, NoMemory>
     requires room { HasRoom edges.old (length left.old) (length left.old) }
     requires a { a < length left.old }
     requires b { b < length left.old }
     requires apart { has edges.old b a ≡ false }
     ensures room { HasRoom edges.new (length left.old) (length left.old) }
-    ensures left { OnOk result (left.new ≡ slice_set left.old b false) }
-    ensures meets { OnOk result ((x y : ℕ) → x < length left.old → y < length left.old → (has edges.new x y ≡ true)
+    ensures left { IfOk result (λ _. left.new ≡ slice_set left.old b false) }
+    ensures below { IfOk result (λ s. (x : ℕ) → Contains s.both.items x → x < length left.old) }
+    ensures meets { IfOk result (λ _. (x y : ℕ) → slice_index_or left.old x false ≡ true
+        → slice_index_or left.old y false ≡ true → (has edges.new x y ≡ true)
         ↔ ((has edges.old x y ≡ true) ⊎ (((x ≡ a) × (has edges.old b y ≡ true)) ⊎ ((y ≡ a)
         × (has edges.old b x ≡ true))))) }
 {
-    let near = Vec::from_slice(alloc, edges.near(b))?;
-    add_edges(edges, a, &near)?;
+    let near = split(alloc, edges, left, edges.near(b), a)?;
+    add_edges(edges, a, &near.fresh)?;
     left[b] = false;
-    Ok(())
+    Ok(near)
 }

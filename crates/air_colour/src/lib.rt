@@ -13,6 +13,7 @@ mod simplify;
 mod slow;
 #[cfg(test)]
 mod tests;
+mod waiting;
 mod worklist;
 
 pub use colouring::colour;

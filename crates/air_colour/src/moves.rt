@@ -1,12 +1,13 @@
-//! Joining moves, pass after pass, until none may be joined.
+//! Joining moves until none may be joined.
 
 ghost use Rattle.std.specs.Prelude.{◌≡◌, ◌^◌, ℕ, ◌<◌, ◌≤◌, ◌↔◌, ◌⊎◌, List, Bool, length, slice_index_or, cond, true, false, [], Contains, IsTrue, IfOk, OnOk};
 ghost use Rattle.air_colour.specs.Interference.{Graph, IsInterference};
 ghost use Rattle.air_colour.specs.Classes.{MayJoinMove, after_move, JoinsFrom, after_joins};
-ghost use Rattle.air_colour.specs.Progress.{class_in, AreActive, IsOver, IsState, IsKept, moves_of, IsJoinedSoFar, left_count};
+ghost use Rattle.air_colour.specs.Progress.{class_in, IsState, IsKept, moves_of, IsJoinedSoFar, left_count};
 
 use crate::classes::Classes;
 use crate::joining::{join, may_join};
+use crate::waiting::Waiting;
 use air_graph::Edges;
 use b3_base::NoMemory;
 use std::alloc::Global;
@@ -36,51 +37,20 @@ fn sides(fixed: &[bool], class: &[usize], m: Move) -> (usize, usize)
     if fixed[from] { (from, to) } else { (to, from) }
 }
 
-/// Whether a move can be joined no more: a home is none of the graph, or the classes of both are one or interfere.
-fn is_over(edges: &Edges, class: &[usize], m: Move) -> bool
-    requires { (u : ℕ) → u < length class.now → slice_index_or class.now u 0 < edges.now.names }
-    ensures { IsTrue result → (g : Graph) → (left fixed : List Bool) → IsState edges.now left fixed class.now
-        → IsKept g edges.now left fixed class.now → IsOver g (class_in class.now) m }
-{
-    if m.from >= class.len() || m.to >= class.len() {
-        return true;
-    }
-    let from = class[m.from];
-    let to = class[m.to];
-    from == to || edges.has(from, to)
-}
-
-/// Adds the number of a move to a list, unless it can be joined no more. It is refused for want of memory alone.
-fn keep_active(
-    edges: &Edges,
-    class: &[usize],
-    m: Move,
-    j: u32,
-    active: &mut Vec<u32>,
-) -> Result<(), NoMemory>
-    requires { (u : ℕ) → u < length class.now → slice_index_or class.now u 0 < edges.now.names }
-    ensures kept { OnOk result ((x : ℕ) → Contains active.old.items x → Contains active.new.items x) }
-    ensures only { OnOk result ((x : ℕ) → Contains active.new.items x → Contains active.old.items x ⊎ (x ≡ j)) }
-    ensures active { OnOk result ((g : Graph) → (left fixed : List Bool) → IsState edges.now left fixed class.now
-        → IsKept g edges.now left fixed class.now → Contains active.new.items j ⊎ IsOver g (class_in class.now) m) }
-{
-    if !is_over(edges, class, m) {
-        active.push(j)?;
-    }
-    Ok(())
-}
-
-/// Joins the classes of a move, if they may be. True where they were. It is refused for want of memory alone.
+/// Joins the classes of a move, if they may be, and lists the moves that may pass a test now. True where they were
+/// joined. It is refused for want of memory alone.
 fn join_move(
     alloc: Global,
     edges: &mut Edges,
     left: &mut [bool],
     fixed: &[bool],
     class: &mut Classes,
+    waiting: &mut Waiting,
     m: Move,
     k: usize,
 ) -> Result<bool, NoMemory>
     requires state { IsState edges.old left.old fixed.now class.old }
+    ensures waiting { length waiting.new.listed.items ≡ length waiting.old.listed.items }
     ensures state { IfOk result (λ _. IsState edges.new left.new fixed.now class.new) }
     ensures unchanged { IfOk result (λ done. done ≡ false → (edges.new ≡ edges.old) × (left.new ≡ left.old)
         × (class.new ≡ class.old)) }
@@ -100,57 +70,89 @@ fn join_move(
     if !may_join(edges, left, fixed, a, b, k) {
         return Ok(false);
     }
-    join(alloc, edges, left, a, b)?;
+    let near = join(alloc, edges, left, a, b)?;
     class.merge(alloc, a, b)?;
+    waiting.note_join(alloc, edges, left, fixed, a, b, &near, k)?;
     Ok(true)
 }
 
-/// One pass over the active moves, outside of which each can be joined no more: each is joined, if it may be, and its
-/// number is added to `joins`. Those that are active afterwards are put into `still`. True where some were joined. It is
-/// refused for want of memory alone.
+/// Tries moves, one after the other: each is joined, if it may be, and its number is added to `joins`. True where some
+/// were joined. It is refused for want of memory alone.
 fn join_pass(
     alloc: Global,
     edges: &mut Edges,
     left: &mut [bool],
     fixed: &[bool],
     class: &mut Classes,
+    waiting: &mut Waiting,
     moves: &[Move],
-    active: &[u32],
-    still: &mut Vec<u32>,
+    tried: &[u32],
     joins: &mut Vec<u32>,
     k: usize,
 ) -> Result<bool, NoMemory>
-    requires below { (j : ℕ) → Contains active.now j → j < length moves.now }
-    requires none { still.old.items ≡ [] }
+    requires waiting { length waiting.old.listed.items ≡ length moves.now }
+    requires below { (j : ℕ) → Contains tried.now j → j < length moves.now }
     requires state { IsState edges.old left.old fixed.now class.old }
-    ensures below { IfOk result (λ _. (j : ℕ) → Contains still.new.items j → j < length moves.now) }
+    ensures waiting { length waiting.new.listed.items ≡ length moves.now }
     ensures state { IfOk result (λ _. IsState edges.new left.new fixed.now class.new) }
     ensures fewer { IfOk result (λ any. any ≡ true → left_count left.new < left_count left.old) }
     ensures no_more { IfOk result (λ any. left_count left.new ≤ left_count left.old) }
     ensures joined { IfOk result (λ any. (g : Graph) → (first : ℕ → ℕ) → IsInterference g
         → IsKept g edges.old left.old fixed.now class.old
         → IsJoinedSoFar k g (moves_of moves.now) first joins.old.items (class_in class.old)
-        → AreActive g (moves_of moves.now) (class_in class.old) active.now
         → IsKept g edges.new left.new fixed.now class.new
         × IsJoinedSoFar k g (moves_of moves.now) first joins.new.items (class_in class.new)
-        × AreActive g (moves_of moves.now) (class_in class.new) still.new.items
-        × (any ≡ false → JoinsFrom k g (moves_of moves.now) (class_in class.new) [])) }
+        × (any ≡ false → (j : ℕ) → Contains tried.now j
+        → MayJoinMove k g (class_in class.new) ((moves_of moves.now).at j) → ⊥)) }
 {
     let mut any = false;
-    for j in active {
-        let m = moves[*j as usize];
-        let joined = join_move(alloc, edges, left, fixed, class, m, k)?;
+    for j in tried {
+        let at = *j as usize;
+        waiting.note_tried(at);
+        let joined = join_move(alloc, edges, left, fixed, class, waiting, moves[at], k)?;
         if joined {
             joins.push(*j)?;
             any = true;
         }
-        keep_active(edges, class.as_slice(), m, *j, still)?;
     }
     Ok(any)
 }
 
+/// Tries the moves that wait, until none of them may be joined and none waits. It is refused for want of memory alone.
+fn join_waiting(
+    alloc: Global,
+    edges: &mut Edges,
+    left: &mut [bool],
+    fixed: &[bool],
+    class: &mut Classes,
+    waiting: &mut Waiting,
+    moves: &[Move],
+    joins: &mut Vec<u32>,
+    k: usize,
+) -> Result<(), NoMemory>
+    requires waiting { length waiting.old.listed.items ≡ length moves.now }
+    requires state { IsState edges.old left.old fixed.now class.old }
+    ensures waiting { length waiting.new.listed.items ≡ length moves.now }
+    ensures state { OnOk result (IsState edges.new left.new fixed.now class.new) }
+    ensures no_more { OnOk result (left_count left.new ≤ left_count left.old) }
+    ensures joined { OnOk result ((g : Graph) → (first : ℕ → ℕ) → IsInterference g
+        → IsKept g edges.old left.old fixed.now class.old
+        → IsJoinedSoFar k g (moves_of moves.now) first joins.old.items (class_in class.old)
+        → IsKept g edges.new left.new fixed.now class.new
+        × IsJoinedSoFar k g (moves_of moves.now) first joins.new.items (class_in class.new)) }
+{
+    let mut going = true;
+    while going {
+        let tried = waiting.take(alloc);
+        going = join_pass(
+            alloc, edges, left, fixed, class, waiting, moves, &tried, joins, k,
+        )?;
+    }
+    Ok(())
+}
+
 /// The numbers below a bound. It is refused for want of memory alone.
-fn numbers(alloc: Global, n: usize) -> Result<Vec<u32>, NoMemory>
+pub(crate) fn numbers(alloc: Global, n: usize) -> Result<Vec<u32>, NoMemory>
     requires { n ≤ 2 ^ 32 }
     ensures { IfOk result (λ list. (j : ℕ) → Contains list.items j ↔ (j < n)) }
 {
@@ -161,8 +163,9 @@ fn numbers(alloc: Global, n: usize) -> Result<Vec<u32>, NoMemory>
     Ok(list)
 }
 
-/// Joins moves, pass after pass, until none may be joined, and gives their numbers in this order. A move that can be
-/// joined no more is left out of later passes. It is refused for want of memory alone.
+/// Joins moves until none may be joined, and gives their numbers in this order. A move that was refused is tried again
+/// where a join may have let it pass; a last pass over all moves makes sure that none is left, and where it joins one,
+/// what waits then is tried again. It is refused for want of memory alone.
 pub(crate) fn join_moves(
     alloc: Global,
     edges: &mut Edges,
@@ -181,14 +184,33 @@ pub(crate) fn join_moves(
         × (class_in class.new ≡ after_joins g (moves_of moves.now) (class_in class.old) joins.items)) }
 {
     let mut joins = Vec::new(alloc);
-    let mut active = numbers(alloc, moves.len())?;
+    let mut waiting = Waiting::new(alloc, left.len(), moves)?;
+    let all = numbers(alloc, moves.len())?;
     let mut going = true;
     while going {
-        let mut still = Vec::new(alloc);
-        going = join_pass(
-            alloc, edges, left, fixed, class, moves, &active, &mut still, &mut joins, k,
+        join_waiting(
+            alloc,
+            edges,
+            left,
+            fixed,
+            class,
+            &mut waiting,
+            moves,
+            &mut joins,
+            k,
         )?;
-        active = still;
+        going = join_pass(
+            alloc,
+            edges,
+            left,
+            fixed,
+            class,
+            &mut waiting,
+            moves,
+            &all,
+            &mut joins,
+            k,
+        )?;
     }
     Ok(joins)
 }

@@ -1,6 +1,6 @@
 use Rattle.std.proofs.Common.{◌≡◌, ℕ, ◌<◌, ◌↔◌, arith, subst}
 use Rattle.std.specs.Prelude.{Contains}
-use Rattle.air_colour.proofs.Active.{numbers_more, numbers_none}
+use Rattle.air_colour.proofs.Below.{numbers_more, numbers_none}
 use Rattle.air_colour.proofs.moves.numbers.Goals as goal
 
 pub loop-j-init : goal.loop-j-init
