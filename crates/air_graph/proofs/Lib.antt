@@ -5,3 +5,4 @@ pub mod Adding
 mod Pairs
 mod Meeting
 mod Walking
+pub mod Paged

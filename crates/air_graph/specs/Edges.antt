@@ -2,7 +2,8 @@
 use Rattle.std.specs.Prelude.{◌≡◌, ℕ, zero, suc, ◌+◌, ◌^◌, ◌<◌, ◌≤◌, ◌⊎◌, ◌↔◌, Bool, true, false, cond, nat_lt, List, [], ◌∷◌, length, slice_index_or, Contains, refl}
 use Rattle.std.specs.Coded.{Coded, code_by, coded×, coded_ℕ}
 use Rattle.std.specs.FinSet as set
-use Rattle.bit_rows.specs.BitRows.{BitRows, BitSet, row_of}
+use Rattle.bit_rows.specs.BitRows.{BitSet}
+use Rattle.air_graph.specs.Pages.{PagedBits}
 
 -- how many pairs there are of two different numbers below n
 unfoldable pub pairs_below : ℕ → ℕ
@@ -60,9 +61,8 @@ pub record AreNear (e : EdgeSet) (near : List (List ℕ)) : Type 0 where
   pub lists : (i : ℕ) → i < e.names → IsListOf (has_edge e i) (slice_index_or near i [])
   pub below : (i x : ℕ) → i < e.names → Contains (slice_index_or near i []) x → x < e.names
 
--- one row, with a bit for each pair, and lists beside it
-pub record IsKept (names : ℕ) (rows : BitRows) (near : List (List ℕ)) : Type 0 where
-  pub one : length rows.sets ≡ 1
-  pub bits : rows.bits ≡ pairs_below names
+-- a bit for each pair, and lists beside them
+pub record IsKept (names : ℕ) (pairs : PagedBits) (near : List (List ℕ)) : Type 0 where
+  pub bits : pairs.bits ≡ pairs_below names
   pub few : names ≤ 2 ^ 17
-  pub beside : AreNear (record { names = names; pairs = row_of rows 0 }) near
+  pub beside : AreNear (record { names = names; pairs = pairs.members }) near

@@ -2,4 +2,5 @@ pub mod Edges
 pub mod Graph
 pub mod Homes
 pub mod Moves
+pub mod Pages
 pub mod Walk

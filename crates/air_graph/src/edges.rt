@@ -4,32 +4,30 @@ ghost use Rattle.std.specs.Prelude.{◌≡◌, ◌≢◌, ◌↔◌, ◌⊎◌, 
 ghost use Rattle.std.specs.FinSet as set;
 ghost use Rattle.air_graph.specs.Edges.{ArePair, IsListOf, has_edge, pair_number, pairs_below};
 
-use crate::near::{Near, empty_lists, put_both};
+use crate::near::{Near, empty_lists, put_pair};
+use crate::pages::Pages;
 use b3_base::NoMemory;
-use bit_rows::Rows;
 use std::alloc::Global;
 use std::marker::Model;
 
-/// Edges between numbers below a bound: one row of bits, with a bit for each pair of two different numbers, and
-/// beside it a list of the neighbours of each number.
+/// Edges between numbers below a bound: a bit for each pair of two different numbers, in pages of which only those with
+/// an edge take memory, and beside them a list of the neighbours of each number.
 #[derive(Drop)]
 pub struct Edges {
-    rows: Rows,
+    pairs: Pages,
     near: Vec<Near>,
     names: usize,
 }
 
 impl Model for Edges {
     ghost use Rattle.air_graph.specs.Edges.{EdgeSet, IsKept, edge_set_code};
-    ghost use Rattle.bit_rows.specs.BitRows.{row_of};
-
     ghost Value = { EdgeSet };
 
     ghost coded = { edge_set_code };
 
-    ghost view = { λ e. record { names = e.names; pairs = row_of e.rows 0 } };
+    ghost view = { λ e. record { names = e.names; pairs = e.pairs.members } };
 
-    ghost invariant = { λ e. IsKept e.names e.rows e.near.items };
+    ghost invariant = { λ e. IsKept e.names e.pairs e.near.items };
 }
 
 /// How many pairs there are of two different numbers below n.
@@ -56,9 +54,9 @@ impl Edges {
         requires { names ≤ 2 ^ 17 }
         ensures { IfOk result (λ made. made ≡ record { names = names; pairs = set.empty }) }
     {
-        let rows = Rows::new(alloc, 1, pairs_below(names))?;
+        let pairs = Pages::new(alloc, pairs_below(names))?;
         let near = empty_lists(alloc, names)?;
-        Ok(Edges { rows, near, names })
+        Ok(Edges { pairs, near, names })
     }
 
     /// How many numbers there are. It takes no memory.
@@ -75,9 +73,9 @@ impl Edges {
         ensures { result ≡ has_edge self.now i j }
     {
         if i < j {
-            self.rows.has(0, pair_number(i, j))
+            self.pairs.has(pair_number(i, j))
         } else if j < i {
-            self.rows.has(0, pair_number(j, i))
+            self.pairs.has(pair_number(j, i))
         } else {
             false
         }
@@ -105,14 +103,12 @@ impl Edges {
         if self.has(i, j) {
             return Ok(());
         }
-        let rows = &mut self.rows;
         let pair = if i < j {
             pair_number(i, j)
         } else {
             pair_number(j, i)
         };
-        put_both(&mut self.near, i as u32, j as u32)?;
-        rows.set(0, pair);
+        put_pair(&mut self.near, &mut self.pairs, i as u32, j as u32, pair)?;
         Ok(())
     }
 }

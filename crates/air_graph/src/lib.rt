@@ -9,6 +9,7 @@ mod live;
 mod met;
 mod moves;
 mod near;
+mod pages;
 #[cfg(test)]
 mod tests;
 mod touched;

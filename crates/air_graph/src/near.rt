@@ -1,7 +1,9 @@
 //! Lists of numbers, one for each number.
 
 ghost use Rattle.std.specs.Prelude.{◌≡◌, ◌≢◌, ◌++◌, ◌∷◌, ◌<◌, ◌-◌, ℕ, [], List, length, replicate, take, slice_index_or, IfOk, OnOk, OnErr};
+ghost use Rattle.std.specs.FinSet as set;
 
+use crate::pages::Pages;
 use b3_base::NoMemory;
 use std::alloc::Global;
 use std::marker::Model;
@@ -89,7 +91,7 @@ fn shorten_at(lists: &mut [Near], i: usize)
 }
 
 /// Adds each of two numbers to the list of the other. It is refused for want of memory alone, and then changes nothing.
-pub(crate) fn put_both(lists: &mut [Near], i: u32, j: u32) -> Result<(), NoMemory>
+fn put_both(lists: &mut [Near], i: u32, j: u32) -> Result<(), NoMemory>
     requires i { i < length lists.old }
     requires j { j < length lists.old }
     requires differ { i ≢ j }
@@ -103,6 +105,52 @@ pub(crate) fn put_both(lists: &mut [Near], i: u32, j: u32) -> Result<(), NoMemor
     let more = push_at(lists, j as usize, i);
     if more.is_err() {
         shorten_at(lists, i as usize);
+    }
+    more
+}
+
+/// Takes the last number of each of two lists away.
+fn shorten_both(lists: &mut [Near], i: usize, j: usize)
+    requires i { i < length lists.old }
+    requires j { j < length lists.old }
+    requires differ { i ≢ j }
+    ensures long { length lists.new ≡ length lists.old }
+    ensures others { (a : ℕ) → a ≢ i → a ≢ j → slice_index_or lists.new a [] ≡ slice_index_or lists.old a [] }
+    ensures first { slice_index_or lists.new i [] ≡ take (length (slice_index_or lists.old i []) - 1)
+        (slice_index_or lists.old i []) }
+    ensures second { slice_index_or lists.new j [] ≡ take (length (slice_index_or lists.old j []) - 1)
+        (slice_index_or lists.old j []) }
+{
+    shorten_at(lists, i);
+    shorten_at(lists, j);
+}
+
+/// Adds each of two numbers to the list of the other, and the number of their pair to the set. It is refused for want
+/// of memory alone, and then changes nothing.
+pub(crate) fn put_pair(
+    lists: &mut [Near],
+    pairs: &mut Pages,
+    i: u32,
+    j: u32,
+    pair: usize,
+) -> Result<(), NoMemory>
+    requires i { i < length lists.old }
+    requires j { j < length lists.old }
+    requires differ { i ≢ j }
+    requires pair { pair < pairs.old.bits }
+    ensures long { length lists.new ≡ length lists.old }
+    ensures others { (a : ℕ) → a ≢ i → a ≢ j → slice_index_or lists.new a [] ≡ slice_index_or lists.old a [] }
+    ensures first { OnOk result (slice_index_or lists.new i [] ≡ slice_index_or lists.old i [] ++ j ∷ []) }
+    ensures second { OnOk result (slice_index_or lists.new j [] ≡ slice_index_or lists.old j [] ++ i ∷ []) }
+    ensures pairs { OnOk result (pairs.new ≡ record { bits = pairs.old.bits;
+        members = set.insert pairs.old.members pair }) }
+    ensures err { OnErr result ((a : ℕ) → slice_index_or lists.new a [] ≡ slice_index_or lists.old a []) }
+    ensures same { OnErr result (pairs.new ≡ pairs.old) }
+{
+    put_both(lists, i, j)?;
+    let more = pairs.set(pair);
+    if more.is_err() {
+        shorten_both(lists, i as usize, j as usize);
     }
     more
 }

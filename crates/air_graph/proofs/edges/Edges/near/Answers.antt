@@ -1,7 +1,6 @@
 use Rattle.std.proofs.Common.{◌≡◌, ℕ, ◌<◌, List, [], get_or, arith, sym, ap, subst}
 use Rattle.std.specs.Prelude.{Contains}
 use Rattle.std.proofs.lemmas.Grind.{common_steps}
-use Rattle.bit_rows.specs.BitRows.{row_of}
 use Rattle.air_graph.specs.Edges.{EdgeSet, IsListOf, has_edge}
 use Rattle.air_graph.proofs.edges.Edges.near.Goals as goal
 
@@ -10,7 +9,7 @@ returns-clause-is c =
     let e : c.as_slice.result.now ≡ get_or c.self.inside.near.items c.args.i [] = grind (arith, common_steps) in
     let lt : c.args.i < c.self.inside.names = let n = ap (λ (s : EdgeSet). s.names) c.self.view_is in omega (arith, n) in
     subst (λ (s : EdgeSet). IsListOf (has_edge s c.args.i) c.as_slice.result.now) c.self.view_is
-    (subst (λ (l : List ℕ). IsListOf (has_edge (record { names = c.self.inside.names; pairs = row_of c.self.inside.rows 0 }) c.args.i) l) (sym e)
+    (subst (λ (l : List ℕ). IsListOf (has_edge (record { names = c.self.inside.names; pairs = c.self.inside.pairs.members }) c.args.i) l) (sym e)
     (c.self.invariant.beside.lists c.args.i lt))
 
 pub returns-clause-below : goal.returns-clause-below
