@@ -1,9 +1,8 @@
 -- Degrees and the list of classes that can go, as a class is taken away.
-use Rattle.std.proofs.Common.{◌≡◌, ℕ, zero, suc, ◌+◌, ◌-◌, ◌<◌, ◌≤◌, ◌⊎◌, inl, inr, Bool, true, false, not, ◌&&◌, eqb, Some, List, [], ◌∷◌, ◌++◌, length, get_or, take, arith, refl, sym, ap, ◌∙◌, subst, length-set}
+use Rattle.std.proofs.Common.{◌≡◌, ℕ, zero, suc, ◌+◌, ◌-◌, ◌<◌, ◌≤◌, ◌⊎◌, inl, inr, Bool, true, false, not, ◌&&◌, eqb, List, [], ◌∷◌, ◌++◌, length, get_or, take, arith, refl, sym, ap, ◌∙◌, subst, length-set}
 use Rattle.std.specs.Prelude.{Contains, slice_set, slice_index_or}
-use Rattle.std.proofs.Math.Seq.{take-length}
 use Rattle.std.proofs.lemmas.Bool.{cases_eq, cases_lt, false≢true}
-use Rattle.std.proofs.lemmas.List.{get_or-set_other, get_or-set_same, take_more}
+use Rattle.std.proofs.lemmas.List.{get_or-set_other, get_or-set_same}
 use Rattle.std.proofs.lemmas.List.Elements.{Contains-append_left, Contains-get_or, Contains-push, Contains-push_cases}
 use Rattle.air_graph.specs.Edges.{EdgeSet, IsOnce}
 use Rattle.air_graph.specs.Walk.{in_list}
@@ -21,15 +20,6 @@ use Rattle.air_colour.proofs.Listed.{absent_false}
 use Rattle.air_colour.proofs.Merging.{same_tests}
 
 -- ---- lists
-
-pub popped : (items rest : List ℕ) (a : ℕ) → 0 < length items → rest ≡ take (length items - 1) items → Some a ≡ Some (get_or items (length items - 1) 0)
-    → items ≡ rest ++ a ∷ []
-popped items rest a lt e f =
-    let n : ℕ = length items - 1 in
-    let one_more : n + 1 ≡ length items = omega (arith, lt) in
-    let is : a ≡ get_or items n 0 = cc in
-    sym (take-length items) ∙ ap (λ (k : ℕ). take k items) (sym one_more) ∙ take_more items n 0 (omega (arith, lt))
-    ∙ ap (λ (l : List ℕ). l ++ get_or items n 0 ∷ []) (sym e) ∙ ap (λ (x : ℕ). rest ++ x ∷ []) (sym is)
 
 -- an element stands at one place of a list without repetition
 pub not_before : (list : List ℕ) (k : ℕ) → IsOnce list → k < length list → Contains (take k list) (get_or list k 0) → ⊥

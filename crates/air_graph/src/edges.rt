@@ -21,6 +21,7 @@ pub struct Edges {
 
 impl Model for Edges {
     ghost use Rattle.air_graph.specs.Edges.{EdgeSet, IsKept, edge_set_code};
+
     ghost Value = { EdgeSet };
 
     ghost coded = { edge_set_code };

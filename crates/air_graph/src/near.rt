@@ -142,8 +142,10 @@ pub(crate) fn put_pair(
     ensures others { (a : ℕ) → a ≢ i → a ≢ j → slice_index_or lists.new a [] ≡ slice_index_or lists.old a [] }
     ensures first { OnOk result (slice_index_or lists.new i [] ≡ slice_index_or lists.old i [] ++ j ∷ []) }
     ensures second { OnOk result (slice_index_or lists.new j [] ≡ slice_index_or lists.old j [] ++ i ∷ []) }
-    ensures pairs { OnOk result (pairs.new ≡ record { bits = pairs.old.bits;
-        members = set.insert pairs.old.members pair }) }
+    ensures pairs { OnOk result (pairs.new ≡ record {
+      bits = pairs.old.bits;
+      members = set.insert pairs.old.members pair;
+    }) }
     ensures err { OnErr result ((a : ℕ) → slice_index_or lists.new a [] ≡ slice_index_or lists.old a []) }
     ensures same { OnErr result (pairs.new ≡ pairs.old) }
 {

@@ -140,8 +140,10 @@ impl Pages {
     /// Adds a number. It is refused for want of memory alone, and then changes nothing.
     pub(crate) fn set(&mut self, bit: usize) -> Result<(), NoMemory>
         requires { bit < self.old.bits }
-        ensures ok { OnOk result (self.new ≡ record { bits = self.old.bits;
-            members = set.insert self.old.members bit }) }
+        ensures ok { OnOk result (self.new ≡ record {
+          bits = self.old.bits;
+          members = set.insert self.old.members bit;
+        }) }
         ensures err { OnErr result (self.new ≡ self.old) }
     {
         set_at(&mut self.pages, bit / BITS, bit % BITS)

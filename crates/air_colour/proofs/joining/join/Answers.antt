@@ -1,9 +1,9 @@
-use Rattle.std.proofs.Common.{◌≡◌, ℕ, ◌<◌, ◌&&◌, true, false, not, List, length, slice_index_or, arith, sym, ◌∙◌, subst}
+use Rattle.std.proofs.Common.{◌≡◌, ℕ, ◌&&◌, true, false, not, List, slice_index_or, arith, sym, ◌∙◌, subst}
 use Rattle.std.specs.Prelude.{Contains}
 use Rattle.std.proofs.lemmas.Bool.{false≢true}
 use Rattle.air_graph.proofs.Adding.{filtered}
 use Rattle.air_colour.specs.Kept.{JoinedTo, has}
-use Rattle.air_colour.proofs.EdgeSteps.{fresh_near, joined_left}
+use Rattle.air_colour.proofs.EdgeSteps.{joined_left}
 use Rattle.air_colour.proofs.joining.join.Goals as goal
 
 pub split-requires-clause-near : goal.split-requires-clause-near

@@ -1,4 +1,4 @@
-use Rattle.std.proofs.Common.{◌≡◌, ℕ, ◌+◌, [], false, length}
+use Rattle.std.proofs.Common.{◌≡◌, ◌+◌, [], false, length}
 use Rattle.air_colour.specs.Interference.{Graph, IsInterference, one}
 use Rattle.air_colour.specs.Classes.{JoinsFrom}
 use Rattle.air_colour.specs.Progress.{class_in, IsState, IsKept, moves_of, IsJoinedSoFar, left_count}

@@ -1,6 +1,6 @@
-use Rattle.std.proofs.Common.{◌≡◌, ℕ, length, List, arith, sym, ◌∙◌, subst}
+use Rattle.std.proofs.Common.{ℕ, List, arith, subst}
 use Rattle.std.specs.Prelude.{Contains}
-use Rattle.air_colour.specs.Progress.{class_in, left_count}
+use Rattle.air_colour.specs.Progress.{left_count}
 use Rattle.air_colour.proofs.Moving.{pass_falls}
 use Rattle.air_colour.proofs.moves.join_waiting.Goals as goal
 

@@ -1,5 +1,4 @@
-use Rattle.std.proofs.Common.{◌≡◌, ℕ, ◌<◌, ◌++◌, Bool, List, length, take, take_at, drop, arith, sym, ap, ◌∙◌, subst}
-use Rattle.std.specs.Prelude.{Contains}
+use Rattle.std.proofs.Common.{◌≡◌, ◌<◌, ◌++◌, Bool, List, length, take, take_at, drop, arith, sym, ap, subst}
 use Rattle.air_colour.proofs.waiting.Waiting.wake.Goals as goal
 
 pub list_all-requires : goal.list_all-requires
