@@ -67,4 +67,5 @@ returns-clause-joined c = λ _ g is kept.
 pub note_join-requires-clause-below : goal.note_join-requires-clause-below
 note_join-requires-clause-below c x i =
     let lt = c.in_ok-near.ensures.below x i in
-    subst (λ (l : List Bool). x < length l) (sym c.in_ok-near.ensures.left) (let same = length-set c.args.left.now c.sides-a.result.1 false in omega (arith, lt, same))
+    subst (λ (l : List Bool). x < length l) (sym c.in_ok-near.ensures.left)
+    (let same = length-set c.args.left.now c.sides-a.result.1 false in omega (arith, lt, same))

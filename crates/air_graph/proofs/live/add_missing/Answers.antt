@@ -24,4 +24,5 @@ loop-y-preserved c =
 
 pub returns : goal.returns
 returns c =
-    subst (λ (l : List ℕ). (y : ℕ) → Contains c.loop-y.list y ↔ (Contains c.args.list.now y ⊎ Contains l y)) (take_all c.loop-y.y-index c.args.more.now c.loop-y-test.false) c.loop-y.invariant
+    subst (λ (l : List ℕ). (y : ℕ) → Contains c.loop-y.list y ↔ (Contains c.args.list.now y ⊎ Contains l y))
+    (take_all c.loop-y.y-index c.args.more.now c.loop-y-test.false) c.loop-y.invariant

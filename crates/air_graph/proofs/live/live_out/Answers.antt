@@ -19,7 +19,8 @@ pub returns-clause-live : goal.returns-clause-live
 returns-clause-live c p is n lt =
     let all : List ℕ = c.in_ok-names.names in
     let list : c.loop-name.list ≡ filter_map (number_named c.args.tmps) all = c.loop-name.invariant
-    ∙ ap (filter_map (number_named c.args.tmps)) (take_all c.loop-name.name-index c.as_slice-name-items.result.now c.loop-name-test.false ∙ c.as_slice-name-items.ensures) in
+    ∙ ap (filter_map (number_named c.args.tmps))
+    (take_all c.loop-name.name-index c.as_slice-name-items.result.now c.loop-name-test.false ∙ c.as_slice-name-items.ensures) in
     let here = numbered_in c.args.tmps all n lt in
     let name = c.in_ok-names.ensures.live (flow_of p) is (name_at c.args.tmps n) in
     let below = name_below c.args.tmps n lt in (
