@@ -8,3 +8,4 @@ pub mod Taking
 pub mod Counting
 pub mod Beginning
 pub mod Going
+pub mod Sequenced
