@@ -9,3 +9,4 @@ pub mod Counting
 pub mod Beginning
 pub mod Going
 pub mod Sequenced
+pub mod Following

@@ -1,6 +1,5 @@
 -- Moves in order do what moves do at once.
-use Rattle.std.proofs.Common.{◌≡◌, ◌≢◌, ℕ, zero, suc, ◌+◌, ◌*◌, ◌≤◌, ◌<◌, ◌⊎◌, inl, inr, Bool, true, false, ◌&&◌, if◌then◌else◌, nat_eq, List, [], ◌∷◌, ◌++◌, length, Option, Some, None, All, arith, refl, sym, ap, ◌∙◌, subst, append_assoc, append-nil}
-use Rattle.std.specs.Prelude.{AllPairs}
+use Rattle.std.proofs.Common.{◌≡◌, ℕ, zero, suc, ◌+◌, ◌*◌, ◌≤◌, ◌<◌, inl, inr, Bool, true, false, ◌&&◌, if◌then◌else◌, List, [], ◌∷◌, ◌++◌, length, Option, Some, None, arith, refl, sym, ap, ◌∙◌, subst, append_assoc, append-nil}
 use Rattle.std.specs.List.{count_by}
 use Rattle.std.proofs.lemmas.Bool.{cases_Bool}
 use Rattle.std.proofs.lemmas.Bool.Decides.{nat_tests}
@@ -9,9 +8,9 @@ use Rattle.air_ir.specs.declared.operand.Home.TheVariants.{Reg}
 use Rattle.air_ir.specs.declared.operand.Arg.{Arg}
 use Rattle.air_ir.specs.declared.operand.Arg.TheVariants.{Imm}
 use Rattle.air_ir.proofs.HomeLaws.{same_home-refl}
-use Rattle.air_shuffle.specs.Moves.{IsSource, Move, from_scratch, is_self, reads, saved, writes}
+use Rattle.air_shuffle.specs.Moves.{Move, from_scratch, reads, saved, writes}
 use Rattle.air_shuffle.specs.Pending.{Going, Has, cost, costs, one_if, readers, saves}
-use Rattle.air_shuffle.specs.Sequenced.{Choice, Does, Saves, Ends, IsSequenceOf, SequencesAreRight, carried_out, choice, chosen, first_that, is_free, is_next, ordered, others_than, saves_first, sequenced}
+use Rattle.air_shuffle.specs.Sequenced.{Choice, Does, Saves, Ends, SequencesAreRight, carried_out, choice, chosen, first_that, is_free, is_next, ordered, others_than, saves_first, sequenced}
 use Rattle.air_shuffle.specs.Waiting.{left_of}
 use Rattle.air_shuffle.proofs.Beginning.{apart-at, count-others, count-saves, first-going, made, no_self, sequenceable, straight}
 use Rattle.air_shuffle.proofs.Left.{differ-at, has-contains, others, without_self}
@@ -60,7 +59,7 @@ none_passes test (c ∷ cs) e d h = elim (cases_Bool (test c)) [
 free_is : (pending : List Move) (c : Move) → is_free pending c ≡ true → readers c.to pending ≡ 0
 free_is pending c e = grind (arith, nat_tests)
 
-some_reads : (pending : List Move) (c : Move) → is_free pending c ≡ false → 0 < readers c.to pending
+pub some_reads : (pending : List Move) (c : Move) → is_free pending c ≡ false → 0 < readers c.to pending
 some_reads pending c e = grind (arith, nat_tests)
 
 next_free : (a b : Bool) → (a && b) ≡ true → b ≡ true
@@ -97,10 +96,10 @@ choice_is last pending =
 
 -- ---- all of it
 
-cost-one : (scratch : Register) (c : Move) → 1 ≤ cost scratch c
+pub cost-one : (scratch : Register) (c : Move) → 1 ≤ cost scratch c
 cost-one scratch c = elim (cases_Bool (reads (Reg scratch) c.from)) [ inl t ↦ rw t (omega arith) | inr f ↦ rw f (omega arith) ]
 
-costs_none : (scratch : Register) (cs : List Move) → costs scratch cs ≤ 0 → cs ≡ []
+pub costs_none : (scratch : Register) (cs : List Move) → costs scratch cs ≤ 0 → cs ≡ []
 unfolding costs
 costs_none scratch [] le = refl
 costs_none scratch (c ∷ cs) le = let one = cost-one scratch c in absurd (omega arith)
@@ -143,7 +142,7 @@ module _ (scratch : Register) (whole : List Move) where
       subst (λ (l : List Move). Going scratch whole l []) (sym (append-nil done)) (subst (Going scratch whole done) (costs_none scratch pending le) g)
   completes (suc n) last done pending g le = carries n (completes n) done pending g le (choice last pending) (choice_is last pending)
 
-length-least : (scratch : Register) (whole pending : List Move) (n : ℕ) → Going scratch whole [] pending → 2 * length whole ≤ n → costs scratch pending ≤ n
+pub length-least : (scratch : Register) (whole pending : List Move) (n : ℕ) → Going scratch whole [] pending → 2 * length whole ≤ n → costs scratch pending ≤ n
 length-least scratch whole pending n g le = let b = g.bound in omega arith
 
 pub sequences_right : SequencesAreRight

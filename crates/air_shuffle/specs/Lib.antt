@@ -3,3 +3,4 @@ pub mod Pending
 pub mod Waiting
 pub mod Tested
 pub mod Sequenced
+pub mod Following
