@@ -1,5 +1,5 @@
 -- What is left at first, and at last.
-use Rattle.std.proofs.Common.{◌≡◌, ◌≢◌, ℕ, ◌+◌, ◌<◌, ◌≤◌, inl, inr, Bool, true, false, List, [], ◌∷◌, length, All, arith, refl, sym, ap, ◌∙◌, subst}
+use Rattle.std.proofs.Common.{◌≡◌, ◌≢◌, ℕ, ◌+◌, ◌<◌, inl, inr, Bool, true, false, List, [], ◌∷◌, length, All, arith, refl, sym, ap, ◌∙◌, subst}
 use Rattle.std.specs.Prelude.{AllPairs, not}
 use Rattle.std.specs.List.{count_by}
 use Rattle.std.proofs.lemmas.Bool.{cases_order}
@@ -11,9 +11,9 @@ use Rattle.air_ir.specs.declared.operand.Home.{Home}
 use Rattle.air_ir.specs.declared.operand.Home.TheVariants.{Reg}
 use Rattle.air_shuffle.specs.Moves.{GoUp, IsMadeOf, IsSource, Move, is_self, writes}
 use Rattle.air_shuffle.specs.Pending.{Going, Has, IsDrawn, one_if, saves}
-use Rattle.air_shuffle.specs.Waiting.{AreCounts, AreFree, AreWriters, IsKept, IsSequenceable, is_left_at, left_of, move_at, no_move, pending_in}
+use Rattle.air_shuffle.specs.Waiting.{AreCounts, IsCounted, AreWriters, IsSequenceable, left_of, move_at, no_move}
 use Rattle.air_shuffle.specs.declared.pending.Pending.{Pending}
-use Rattle.air_shuffle.proofs.Left.{differ_left, has-contains, none_left, others, others-from, others-self, place_of}
+use Rattle.air_shuffle.proofs.Left.{differ_left, has-contains, others, others-from, others-self, place_of}
 use Rattle.air_shuffle.proofs.Steps.{going-first}
 
 pub sequenceable : (ms : List Move) → All (λ (c : Move). IsSource c.from) ms → AllPairs (λ (c d : Move). c.to ≢ d.to) ms → IsSequenceable ms
@@ -36,15 +36,14 @@ pub record First (ms : List Move) (p : Pending) : Type 0 where
   pub writers : AreWriters ms p.writers
   pub left : p.left.items ≡ others ms
   pub counts : AreCounts ms (left_of ms p.left.items) p.counts.items
-  pub free : AreFree p.counts.items p.free.items
 
-pub first-kept : (p : Pending) → First p.moves.items p → IsKept p
-first-kept p f = record {
-  counted = record { many = ap length f.left ∙ length-map p.moves.items (λ (c : Move). not (is_self c)); sound = f.sound; apart = f.apart; writers = f.writers; counts = f.counts };
-  free = record {
-    sound = λ k has. let s = (f.free).sound k has in ((let lt = s.0 in let many = (f.counts).many in omega arith), s.1);
-    complete = λ k lt left z but. (f.free).complete k (let many = (f.counts).many in omega arith) z;
-  };
+pub first-counted : (p : Pending) → First p.moves.items p → IsCounted p
+first-counted p f = record {
+  many = ap length f.left ∙ length-map p.moves.items (λ (c : Move). not (is_self c));
+  sound = f.sound;
+  apart = f.apart;
+  writers = f.writers;
+  counts = f.counts;
 }
 
 pub first-going : (scratch : Register) (ms : List Move) → IsSequenceable ms → ((k : ℕ) → k < length ms → (move_at ms k).to ≢ Reg scratch)
@@ -77,11 +76,6 @@ count-saves scratch [] = refl
 count-saves scratch (c ∷ cs) = let n = count-cons (writes (Reg scratch)) c cs in let rest = count-saves scratch cs in omega arith
 
 -- ---- at last
-
--- nothing is left once each place was passed
-pub ended : (scratch : Register) (whole done : List Move) (p : Pending) (place n : ℕ) → n ≤ place → length p.moves.items ≡ n → ((k : ℕ) → k < place → is_left_at p k ≡ false)
-    → Going scratch whole done (pending_in p) → Going scratch whole done []
-ended scratch whole done p place n le many behind g = subst (Going scratch whole done) (none_left p.moves.items p.left.items (λ k lt. behind k (omega arith))) g
 
 -- nothing is saved where each move goes up
 pub straight : (scratch : Register) (ms done : List Move) → Going scratch (left_of ms (others ms)) done [] → (rank : Home → ℕ) → GoUp rank ms → count_by (writes (Reg scratch)) done ≡ 0

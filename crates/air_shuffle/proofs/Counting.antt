@@ -1,52 +1,14 @@
--- The first counts and free moves.
-use Rattle.std.proofs.Common.{◌≡◌, ◌≢◌, ℕ, zero, suc, ◌+◌, ◌<◌, ◌≤◌, inl, inr, Bool, true, false, Option, List, [], ◌∷◌, ◌++◌, length, take, replicate, arith, refl, sym, ap, ◌∙◌, subst}
-use Rattle.std.specs.Prelude.{Contains, slice_index_or}
-use Rattle.std.proofs.lemmas.Bool.{cases_eq, false≢true}
-use Rattle.std.proofs.lemmas.List.Elements.{Contains-append_left, Contains-push, Contains-push_cases}
+-- The first counts.
+use Rattle.std.proofs.Common.{◌≡◌, ℕ, zero, suc, ◌+◌, ◌<◌, ◌≤◌, Bool, true, false, Option, List, [], ◌∷◌, ◌++◌, length, take, replicate, arith, refl, sym, ap, ◌∙◌}
+use Rattle.std.specs.Prelude.{slice_index_or}
+use Rattle.std.proofs.lemmas.Bool.{false≢true}
 use Rattle.std.proofs.lemmas.List.{get_or-replicate}
 use Rattle.air_ir.specs.declared.operand.Home.{Home}
 use Rattle.air_ir.specs.declared.operand.Arg.{Arg}
 use Rattle.air_shuffle.specs.Moves.{Move, reads}
 use Rattle.air_shuffle.specs.Pending.{one_if, readers}
-use Rattle.air_shuffle.specs.Waiting.{AreCounts, AreFree, IsSequenceable, count_at, left_of, move_at, raised}
+use Rattle.air_shuffle.specs.Waiting.{AreCounts, IsSequenceable, count_at, left_of, move_at, raised}
 use Rattle.air_shuffle.proofs.Releasing.{WriterIs, counts-more}
-
--- ---- free places
-
--- the first n counts that are 0
-pub record FreeBelow (n : ℕ) (counts free : List ℕ) : Type 0 where
-  pub sound : (k : ℕ) → Contains free k → (k < n) × (count_at counts k ≡ 0)
-  pub complete : (k : ℕ) → k < n → count_at counts k ≡ 0 → Contains free k
-
-pub free-none : (counts : List ℕ) → FreeBelow 0 counts []
-free-none counts = record { sound = λ k has. absurd (let lt = has.1 in omega arith); complete = λ k lt z. absurd (omega arith) }
-
-pub free-more : (n : ℕ) (counts free : List ℕ) → count_at counts n ≡ 0 → FreeBelow n counts free → FreeBelow (n + 1) counts (free ++ n ∷ [])
-free-more n counts free z f = record {
-  sound = λ k has. elim (Contains-push_cases free n k has) [
-    | inl old ↦ let s = f.sound k old in ((let lt = s.0 in omega arith), s.1)
-    | inr e ↦ (omega arith, ap (count_at counts) (sym e) ∙ z)
-  ];
-  complete = λ k lt z'. elim (cases_eq k n) [
-    | inl e ↦ subst (Contains (free ++ n ∷ [])) (sym e) (Contains-push free n)
-    | inr ne ↦ Contains-append_left free (n ∷ []) k (f.complete k (omega arith) z')
-  ];
-}
-
-pub free-same : (n : ℕ) (counts free : List ℕ) → count_at counts n ≢ 0 → FreeBelow n counts free → FreeBelow (n + 1) counts free
-free-same n counts free some f = record {
-  sound = λ k has. let s = f.sound k has in ((let lt = s.0 in omega arith), s.1);
-  complete = λ k lt z. elim (cases_eq k n) [
-    | inl e ↦ absurd (some (ap (count_at counts) (sym e) ∙ z))
-    | inr ne ↦ f.complete k (omega arith) z
-  ];
-}
-
-pub free-all : (n : ℕ) (counts free : List ℕ) → n ≡ length counts → FreeBelow n counts free → AreFree counts free
-free-all n counts free e f = record {
-  sound = λ k has. let s = f.sound k has in ((let lt = s.0 in omega arith), s.1);
-  complete = λ k lt z. f.complete k (omega arith) z;
-}
 
 -- ---- counts, move by move
 

@@ -8,6 +8,13 @@ use Rattle.air_shuffle.specs.Waiting.{IsSequenceable, left_of, move_at, no_move}
 use Rattle.air_shuffle.proofs.Lists.{has-one}
 use Rattle.air_shuffle.proofs.Shuffles.{IsWithoutSelf}
 
+-- a move of the first k places is left
+pub record Earlier (ms : List Move) (ls : List Bool) (k : ℕ) (d : Move) : Type 0 where
+  pub at : ℕ
+  pub before : at < k
+  pub left : slice_index_or ls at false ≡ true
+  pub is : d ≡ move_at ms at
+
 -- a move that is left stands between others
 pub record Splits (ms : List Move) (ls : List Bool) (k : ℕ) : Type 0 where
   pub before : List Move
@@ -15,24 +22,39 @@ pub record Splits (ms : List Move) (ls : List Bool) (k : ℕ) : Type 0 where
   pub whole : left_of ms ls ≡ before ++ move_at ms k ∷ after
   pub gone : left_of ms (slice_set ls k false) ≡ before ++ after
   pub changed : (c : Move) → left_of (slice_set ms k c) ls ≡ before ++ c ∷ after
+  pub earlier : (d : Move) → Has d before → Earlier ms ls k d
+
+earlier-next : (b : Bool) (c d : Move) (cs : List Move) (bs : List Bool) (k : ℕ) → Earlier cs bs k d → Earlier (c ∷ cs) (b ∷ bs) (suc k) d
+earlier-next b c d cs bs k e = record { at = suc e.at; before = (let lt = e.before in omega arith); left = e.left; is = e.is }
 
 splits-later : (b : Bool) (c : Move) (cs : List Move) (bs : List Bool) (k : ℕ) → Splits cs bs k → Splits (c ∷ cs) (b ∷ bs) (suc k)
-unfolding left_of
+unfolding left_of Has
 splits-later true c cs bs k r = record {
   before = c ∷ r.before;
   after = r.after;
   whole = ap (λ (l : List Move). c ∷ l) r.whole;
   gone = ap (λ (l : List Move). c ∷ l) r.gone;
   changed = λ d. ap (λ (l : List Move). c ∷ l) (r.changed d);
+  earlier = λ d h. elim h [
+    | inl here ↦ record { at = 0; before = omega arith; left = refl; is = here }
+    | inr there ↦ earlier-next true c d cs bs k (r.earlier d there)
+  ];
 }
-splits-later false c cs bs k r = record { before = r.before; after = r.after; whole = r.whole; gone = r.gone; changed = r.changed }
+splits-later false c cs bs k r = record {
+  before = r.before;
+  after = r.after;
+  whole = r.whole;
+  gone = r.gone;
+  changed = r.changed;
+  earlier = λ d h. earlier-next false c d cs bs k (r.earlier d h);
+}
 
 pub splits : (ms : List Move) (ls : List Bool) (k : ℕ) → k < length ms → length ls ≡ length ms → slice_index_or ls k false ≡ true → Splits ms ls k
-unfolding left_of
+unfolding left_of Has
 splits [] ls k lt many left = absurd (omega arith)
 splits (c ∷ cs) [] k lt many left = absurd (false≢true left)
 splits (c ∷ cs) (false ∷ bs) zero lt many left = absurd (false≢true left)
-splits (c ∷ cs) (true ∷ bs) zero lt many left = record { before = []; after = left_of cs bs; whole = refl; gone = refl; changed = λ d. refl }
+splits (c ∷ cs) (true ∷ bs) zero lt many left = record { before = []; after = left_of cs bs; whole = refl; gone = refl; changed = λ d. refl; earlier = λ d h. absurd h }
 splits (c ∷ cs) (b ∷ bs) (suc k) lt many left = splits-later b c cs bs k (splits cs bs k (omega arith) (omega arith) left)
 
 -- a move that is left has a place

@@ -8,3 +8,5 @@ pub mod Taking
 pub mod Counting
 pub mod Beginning
 pub mod Going
+pub mod Sequenced
+pub mod Following

@@ -1,9 +1,8 @@
 -- Counts and free moves once a move no longer reads its source.
-use Rattle.std.proofs.Common.{◌≡◌, ◌≢◌, ℕ, ◌+◌, ◌-◌, ◌<◌, ◌⊎◌, inl, inr, Bool, true, false, if◌then◌else◌, Option, Some, None, List, [], ◌∷◌, ◌++◌, length, arith, refl, sym, ap, ◌∙◌, subst}
-use Rattle.std.specs.Prelude.{Contains, nat_eq, slice_set}
-use Rattle.std.proofs.lemmas.Bool.{cases_Bool, cases_eq, eq-eqb, eqb-true}
+use Rattle.std.proofs.Common.{◌≡◌, ◌≢◌, ℕ, ◌+◌, ◌-◌, ◌<◌, ◌⊎◌, inl, inr, true, false, Option, Some, None, List, length, arith, refl, sym, ap, ◌∙◌, subst}
+use Rattle.std.specs.Prelude.{nat_eq, slice_set}
+use Rattle.std.proofs.lemmas.Bool.{cases_eq}
 use Rattle.std.proofs.lemmas.List.{get_or-set_other, get_or-set_same, length-set}
-use Rattle.std.proofs.lemmas.List.Elements.{Contains-append_left, Contains-push, Contains-push_cases}
 use Rattle.indexmap.specs.IndexMap as map
 use Rattle.air_ir.specs.Operands.{same_home}
 use Rattle.air_ir.specs.declared.operand.Home.{Home}
@@ -13,7 +12,7 @@ use Rattle.air_ir.specs.declared.operand.Arg.TheVariants.{At, Imm, Addr, Index, 
 use Rattle.air_ir.proofs.HomeLaws.{same_home-false, same_home-refl}
 use Rattle.air_shuffle.specs.Moves.{IsSource, Move, reads}
 use Rattle.air_shuffle.specs.Pending.{one_if, readers}
-use Rattle.air_shuffle.specs.Waiting.{AreCounts, AreWriters, HasFreeBut, IsCounted, IsSequenceable, IsWriterBelow, changed, count_at, freed, is_left_at, lowered, move_at, number_of, pending_in, raised, writer_of}
+use Rattle.air_shuffle.specs.Waiting.{AreCounts, AreWriters, IsCounted, IsSequenceable, IsWriterBelow, changed, count_at, lowered, move_at, number_of, pending_in, raised, writer_of}
 use Rattle.air_shuffle.specs.declared.pending.Pending.{Pending}
 
 -- ---- the move that writes a source
@@ -36,7 +35,7 @@ writer_is ms writers (FrameSlot number) are is = absurd is
 
 -- ---- counts
 
-set-count : (counts : List ℕ) (j k v : ℕ) → j < length counts → ((k ≡ j) × (count_at (slice_set counts j v) k ≡ v)) ⊎ ((k ≢ j) × (count_at (slice_set counts j v) k ≡ count_at counts k))
+pub set-count : (counts : List ℕ) (j k v : ℕ) → j < length counts → ((k ≡ j) × (count_at (slice_set counts j v) k ≡ v)) ⊎ ((k ≢ j) × (count_at (slice_set counts j v) k ≡ count_at counts k))
 set-count counts j k v lt = elim (cases_eq k j) [
   | inl e ↦ inl (e, ap (count_at (slice_set counts j v)) e ∙ get_or-set_same counts j v 0 lt)
   | inr ne ↦ inr (ne, get_or-set_other counts j k v 0 ne)
@@ -110,56 +109,6 @@ count-some from ms ns pend rest counts j is less are =
     let lt = is.0 in
     (omega arith, omega arith)
 
--- ---- free moves
-
-freed-yes : (j : ℕ) (counts free : List ℕ) → count_at counts j ≡ 0 → freed (Some j) counts free ≡ free ++ j ∷ []
-freed-yes j counts free e = ap (λ (b : Bool). if b then free ++ j ∷ [] else free) (eq-eqb (count_at counts j) 0 e)
-
-freed-cases : (j k : ℕ) (counts free : List ℕ) → Contains (freed (Some j) counts free) k → Contains free k ⊎ ((k ≡ j) × (count_at counts j ≡ 0))
-freed-cases j k counts free has = elim (cases_Bool (nat_eq (count_at counts j) 0)) [
-  | inl t ↦
-      let all : Contains (free ++ j ∷ []) k = subst (λ (b : Bool). Contains (if b then free ++ j ∷ [] else free) k) t has in
-      elim (Contains-push_cases free j k all) [ inl old ↦ inl old | inr e ↦ inr (sym e, eqb-true (count_at counts j) 0 t) ]
-  | inr f ↦ inl (subst (λ (b : Bool). Contains (if b then free ++ j ∷ [] else free) k) f has)
-]
-
-freed-old : (j k : ℕ) (counts free : List ℕ) → Contains free k → Contains (freed (Some j) counts free) k
-freed-old j k counts free has = by (nat_eq (count_at counts j) 0)
-  where
-    by : (b : Bool) → Contains (if b then free ++ j ∷ [] else free) k
-    by true = Contains-append_left free (j ∷ []) k has
-    by false = has
-
-pub sound-freed : (n : ℕ) (w : Option ℕ) (counts free : List ℕ) → ((j : ℕ) → w ≡ Some j → (j < length counts) × (j < n))
-    → ((k : ℕ) → Contains free k → (k < n) × (count_at counts k ≡ 0))
-    → (k : ℕ) → Contains (freed w (lowered w counts) free) k → (k < n) × (count_at (lowered w counts) k ≡ 0)
-sound-freed n None counts free within sound k has = sound k has
-sound-freed n (Some j) counts free within sound k has =
-    let lt = within j refl in
-    elim (freed-cases j k (lowered (Some j) counts) free has) [
-      | inr new ↦ ((let e = new.0 in let below = lt.1 in omega arith), ap (count_at (lowered (Some j) counts)) new.0 ∙ new.1)
-      | inl old ↦
-          let s = sound k old in (
-            s.0,
-            elim (set-count counts j k (count_at counts j - 1) lt.0) [
-              | inl here ↦
-                  let z : count_at counts j ≡ 0 = ap (count_at counts) (sym here.0) ∙ s.1 in
-                  here.1 ∙ omega arith
-              | inr there ↦ there.1 ∙ s.1
-            ],
-          )
-    ]
-
-pub complete-freed : (w : Option ℕ) (counts free : List ℕ) (k : ℕ) → ((j : ℕ) → w ≡ Some j → j < length counts) → (count_at counts k ≡ 0 → Contains free k)
-    → count_at (lowered w counts) k ≡ 0 → Contains (freed w (lowered w counts) free) k
-complete-freed None counts free k within old z = old z
-complete-freed (Some j) counts free k within old z = elim (set-count counts j k (count_at counts j - 1) (within j refl)) [
-  | inl here ↦
-      let e : count_at (lowered (Some j) counts) j ≡ 0 = ap (count_at (lowered (Some j) counts)) (sym here.0) ∙ z in
-      subst (λ (l : List ℕ). Contains l k) (sym (freed-yes j (lowered (Some j) counts) free e)) (subst (Contains (free ++ j ∷ [])) (sym here.0) (Contains-push free j))
-  | inr there ↦ freed-old j k (lowered (Some j) counts) free (old (sym there.1 ∙ z))
-]
-
 -- ---- both
 
 -- what is left after a move that is left no longer reads its source
@@ -195,28 +144,3 @@ released-counted from p q g r =
         → IsWriterBelow (length ms) ms h w → IsWriterBelow (length ns) ns h w
     turned ms ns h (Some k) same to is = ((let lt = is.0 in omega arith), to k ∙ is.1)
     turned ms ns h None same to is = λ k lt e. is k (omega arith) (sym (to k) ∙ e)
-
-written_within : (p : Pending) (from : Arg) → IsCounted p → IsSource from → (j : ℕ) → writer_of p.writers from ≡ Some j → (j < length p.counts.items) × (j < length p.moves.items)
-written_within p from g is j e =
-    let w : WriterIs p.moves.items from (Some j) = subst (WriterIs p.moves.items from) e (writer_is p.moves.items p.writers from g.writers is) in
-    let lt = w.0 in
-    let many = (g.counts).many in
-    (omega arith, omega arith)
-
-pub released-free : (from : Arg) (But : ℕ → Type 0) (p q : Pending) → IsCounted p → Releases from p q → HasFreeBut But p
-    → ((k : ℕ) → is_left_at q k ≡ true → is_left_at p k ≡ true) → ((k : ℕ) → But k → is_left_at q k ≡ true → ⊥)
-    → q.free.items ≡ freed (writer_of p.writers from) q.counts.items p.free.items → HasFreeBut (λ k. ⊥) q
-released-free from But p q g r f less done e =
-    let w : Option ℕ = writer_of p.writers from in
-    let same = (r.less).many in
-    let is : q.free.items ≡ freed w (lowered w p.counts.items) p.free.items = e ∙ ap (λ (l : List ℕ). freed w l p.free.items) r.counts in
-    record {
-      sound = λ k has.
-          let s = sound-freed (length p.moves.items) w p.counts.items p.free.items (written_within p from g r.is) f.sound k (subst (λ (l : List ℕ). Contains l k) is has) in
-          ((let lt = s.0 in omega arith), ap (λ (l : List ℕ). count_at l k) r.counts ∙ s.1);
-      complete = λ k lt left z but.
-          subst (λ (l : List ℕ). Contains l k) (sym is)
-          (complete-freed w p.counts.items p.free.items k (λ j h. (written_within p from g r.is j h).0)
-          (λ z'. f.complete k (omega arith) (less k left) z' (λ b. done k b left))
-          (ap (λ (l : List ℕ). count_at l k) (sym r.counts) ∙ z));
-    }

@@ -1,23 +1,22 @@
 -- What is left after a move was done, or its source saved.
-use Rattle.std.proofs.Common.{◌≡◌, ◌≢◌, ℕ, suc, ◌+◌, ◌<◌, ◌⊎◌, inl, inr, Bool, true, false, Some, List, [], ◌∷◌, ◌++◌, length, arith, refl, sym, ap, ◌∙◌, subst}
-use Rattle.std.specs.Prelude.{Contains, slice_index_or, slice_set}
-use Rattle.std.proofs.lemmas.Bool.{cases_eq, false≢true, false_from_ne_true}
+use Rattle.std.proofs.Common.{◌≡◌, ◌≢◌, ℕ, suc, ◌+◌, ◌<◌, ◌⊎◌, inl, inr, Bool, true, false, Some, List, ◌∷◌, ◌++◌, length, arith, refl, sym, ap, ◌∙◌, subst}
+use Rattle.std.specs.Prelude.{slice_index_or, slice_set}
+use Rattle.std.proofs.lemmas.Bool.{cases_eq, false≢true}
 use Rattle.std.proofs.lemmas.List.{get_or-set_other, get_or-set_same, length-set}
-use Rattle.std.proofs.lemmas.List.Elements.{Contains-append_left, Contains-push, Contains-push_cases}
 use Rattle.b3_ir.specs.declared.value.Reg.{Reg as Register}
 use Rattle.air_ir.specs.declared.operand.Home.{Home}
 use Rattle.air_ir.specs.declared.operand.Home.TheVariants.{Reg}
 use Rattle.air_ir.specs.declared.operand.Arg.{Arg}
 use Rattle.air_ir.specs.declared.operand.Arg.TheVariants.{At}
-use Rattle.air_ir.proofs.HomeLaws.{same_home-false, same_home-refl}
-use Rattle.air_shuffle.specs.Moves.{IsSource, Move, from_scratch, reads, saved}
-use Rattle.air_shuffle.specs.Pending.{Going, one_if, readers}
-use Rattle.air_shuffle.specs.Waiting.{HasFreeBut, IsCounted, IsKept, IsKeptBut, count_at, freed, is_left_at, left_of, lowered, move_at, pending_in, writer_of}
+use Rattle.air_ir.proofs.HomeLaws.{same_home-false}
+use Rattle.air_shuffle.specs.Moves.{IsSource, Move, from_scratch, reads}
+use Rattle.air_shuffle.specs.Pending.{one_if, readers}
+use Rattle.air_shuffle.specs.Waiting.{IsCounted, count_at, is_left_at, left_of, lowered, move_at, pending_in, writer_of}
 use Rattle.air_shuffle.specs.declared.pending.Pending.{Pending}
 use Rattle.air_shuffle.proofs.Lists.{length-one}
-use Rattle.air_shuffle.proofs.Left.{Splits, left_has, place_of, splits}
-use Rattle.air_shuffle.proofs.Releasing.{Releases, WriterIs, count-some, released-counted, released-free, writer_is}
-use Rattle.air_shuffle.proofs.Steps.{AreBlocked, blocked-unread, going-move, going-saved, readers-one}
+use Rattle.air_shuffle.proofs.Left.{Splits, splits}
+use Rattle.air_shuffle.proofs.Releasing.{Releases, WriterIs, count-some, writer_is}
+use Rattle.air_shuffle.proofs.Steps.{readers-one}
 
 abbrev pub from_at : Pending → ℕ → Arg
 from_at p k = (move_at p.moves.items k).from
@@ -27,7 +26,7 @@ pub record IsLeft (p : Pending) (k : ℕ) : Type 0 where
   pub within : k < length p.moves.items
   pub left : is_left_at p k ≡ true
 
-abbrev split_in : (p : Pending) (k : ℕ) → IsCounted p → IsLeft p k → Splits p.moves.items p.left.items k
+abbrev pub split_in : (p : Pending) (k : ℕ) → IsCounted p → IsLeft p k → Splits p.moves.items p.left.items k
 split_in p k g there = splits p.moves.items p.left.items k there.within g.many there.left
 
 -- ---- a move is done
@@ -42,7 +41,7 @@ pub record IsDone (p q : Pending) (k : ℕ) : Type 0 where
   pub writers : q.writers ≡ p.writers
   pub counts : q.counts.items ≡ lowered (writer_of p.writers (from_at p k)) p.counts.items
 
-done-pending : (p q : Pending) (k : ℕ) (g : IsCounted p) (there : IsLeft p k) → IsGone p q k → pending_in q ≡ (split_in p k g there).before ++ (split_in p k g there).after
+pub done-pending : (p q : Pending) (k : ℕ) (g : IsCounted p) (there : IsLeft p k) → IsGone p q k → pending_in q ≡ (split_in p k g there).before ++ (split_in p k g there).after
 done-pending p q k g there d =
     let r = split_in p k g there in
     ap (λ (ms : List Move). left_of ms q.left.items) d.moves ∙ ap (left_of p.moves.items) d.left ∙ r.gone
@@ -82,16 +81,6 @@ still_left p q k i g lt e left =
     let many = g.many in
     set-left p.left.items k i (omega arith) (ap (λ (ls : List Bool). slice_index_or ls i false) (sym e) ∙ left)
 
-pub done-kept : (p q : Pending) (k : ℕ) → IsKeptBut k p → IsLeft p k → IsDone p q k → q.free.items ≡ freed (writer_of p.writers (from_at p k)) q.counts.items p.free.items → IsKept q
-done-kept p q k kept there d e =
-    let g = kept.counted in
-    let r = done-releases p q k g there d in
-    let less = λ (i : ℕ) (left : is_left_at q i ≡ true). still_left p q k i g there.within d.gone.left left in
-    record {
-      counted = released-counted (from_at p k) p q g r;
-      free = released-free (from_at p k) (λ i. i ≡ k) p q g r kept.free (λ i left. (less i left).1) (λ i but left. (less i left).0 but) e;
-    }
-
 -- ---- a source is saved
 
 pub record IsMoved (p q : Pending) (k : ℕ) : Type 0 where
@@ -104,7 +93,7 @@ pub record IsSaved (p q : Pending) (k : ℕ) : Type 0 where
   pub writers : q.writers ≡ p.writers
   pub counts : q.counts.items ≡ lowered (writer_of p.writers (from_at p k)) p.counts.items
 
-saved-pending : (p q : Pending) (k : ℕ) (g : IsCounted p) (there : IsLeft p k) → IsMoved p q k
+pub saved-pending : (p q : Pending) (k : ℕ) (g : IsCounted p) (there : IsLeft p k) → IsMoved p q k
     → pending_in q ≡ (split_in p k g there).before ++ from_scratch p.scratch (move_at p.moves.items k) ∷ (split_in p k g there).after
 saved-pending p q k g there d =
     let r = split_in p k g there in
@@ -154,15 +143,6 @@ saved-releases p q k g there d =
       counts = d.counts;
     }
 
-pub saved-kept : (p q : Pending) (k : ℕ) → IsKept p → IsLeft p k → IsSaved p q k → q.free.items ≡ freed (writer_of p.writers (from_at p k)) q.counts.items p.free.items → IsKept q
-saved-kept p q k kept there d e =
-    let g = kept.counted in
-    let r = saved-releases p q k g there d in
-    record {
-      counted = released-counted (from_at p k) p q g r;
-      free = released-free (from_at p k) (λ i. ⊥) p q g r kept.free (λ i left. ap (λ (ls : List Bool). slice_index_or ls i false) (sym d.moved.left) ∙ left) (λ i but left. but) e;
-    }
-
 -- ---- what a release asks
 
 pub released-there : (p : Pending) (k j : ℕ) → IsCounted p → IsLeft p k → writer_of p.writers (from_at p k) ≡ Some j → (j < length p.counts.items) × (0 < count_at p.counts.items j)
@@ -175,71 +155,7 @@ released-there p k j g there e =
 
 -- ---- what is done and what is left
 
-pub done-going : (whole done : List Move) (p q : Pending) (k : ℕ) → IsCounted p → IsLeft p k → IsGone p q k → count_at p.counts.items k ≡ 0
-    → Going p.scratch whole done (pending_in p) → Going p.scratch whole (done ++ move_at p.moves.items k ∷ []) (pending_in q)
-done-going whole done p q k g there d free going =
-    let r = split_in p k g there in
-    let c : Move = move_at p.moves.items k in
-    let counted = (g.counts).are k there.within in
-    let less = readers-less c.to (pending_in p) r.before r.after c r.whole in
-    let none : readers c.to (r.before ++ r.after) ≡ 0 = omega arith in
-    subst (Going p.scratch whole (done ++ c ∷ [])) (sym (done-pending p q k g there d))
-    (going-move p.scratch whole done r.before r.after c none (subst (Going p.scratch whole done) r.whole going))
-
--- where no move is free each destination is read
-pub blocked : (p : Pending) → IsKept p → p.free.items ≡ [] → AreBlocked (pending_in p)
-blocked p kept none = λ c has.
-    let r = place_of p.moves.items p.left.items c has in
-    let counted = (kept.counted.counts).are r.at r.within in
-    let same : readers c.to (pending_in p) ≡ readers (move_at p.moves.items r.at).to (pending_in p) = ap (λ (m : Move). readers m.to (pending_in p)) r.is in
-    elim (cases_eq (count_at p.counts.items r.at) 0) [
-      | inl z ↦ absurd (nothing (subst (λ (l : List ℕ). Contains l r.at) none ((kept.free).complete r.at r.within r.left z (λ x. x))))
-      | inr some ↦ omega (arith, counted, same, some)
-    ]
-  where
-    nothing : {k : ℕ} → Contains [] k → ⊥
-    nothing has = let lt = has.1 in omega arith
-
-pub saved-going : (whole done : List Move) (p q : Pending) (k : ℕ) → IsKept p → p.free.items ≡ [] → IsLeft p k → IsMoved p q k → Going p.scratch whole done (pending_in p)
-    → Going p.scratch whole (done ++ saved p.scratch (move_at p.moves.items k) ∷ []) (pending_in q)
-saved-going whole done p q k kept none there d going =
-    let g = kept.counted in
-    let r = split_in p k g there in
-    let c : Move = move_at p.moves.items k in
-    subst (Going p.scratch whole (done ++ saved p.scratch c ∷ [])) (sym (saved-pending p q k g there d))
-    (going-saved p.scratch whole done r.before r.after c (subst AreBlocked r.whole (blocked p kept none)) (subst (Going p.scratch whole done) r.whole going))
-
--- once no move is free, none that is left reads the scratch
-pub scratch_unread : (whole done : List Move) (p : Pending) (k : ℕ) → IsKept p → p.free.items ≡ [] → Going p.scratch whole done (pending_in p) → k < length p.moves.items
-    → from_at p k ≡ At (Reg p.scratch) → is_left_at p k ≡ false
-scratch_unread whole done p k kept none going lt from = false_from_ne_true (is_left_at p k) (λ left.
-    let has = left_has p.moves.items p.left.items k lt (kept.counted).many left in
-    let f : reads (Reg p.scratch) (from_at p k) ≡ false = blocked-unread p.scratch (pending_in p) going.differ going.apart (blocked p kept none) (move_at p.moves.items k) has in
-    false≢true (sym f ∙ ap (reads (Reg p.scratch)) from ∙ same_home-refl (Reg p.scratch)))
-
 -- ---- a move is taken from those that are free
-
-pub popped-free : (p q : Pending) (k : ℕ) → HasFreeBut (λ i. ⊥) p → q.moves.items ≡ p.moves.items → q.left.items ≡ p.left.items → q.counts.items ≡ p.counts.items
-    → p.free.items ≡ q.free.items ++ k ∷ [] → HasFreeBut (λ i. i ≡ k) q
-popped-free p q k f moves left counts e = record {
-  sound = λ i has.
-      let s = f.sound i (subst (λ (l : List ℕ). Contains l i) (sym e) (Contains-append_left q.free.items (k ∷ []) i has)) in
-      (subst (λ (ms : List Move). i < length ms) (sym moves) s.0, ap (λ (l : List ℕ). count_at l i) counts ∙ s.1);
-  complete = λ i lt there z but.
-      let all = f.complete i (subst (λ (ms : List Move). i < length ms) moves lt) (ap (λ (ls : List Bool). slice_index_or ls i false) (sym left) ∙ there)
-      (ap (λ (l : List ℕ). count_at l i) (sym counts) ∙ z) (λ x. x) in
-      elim (Contains-push_cases q.free.items k i (subst (λ (l : List ℕ). Contains l i) e all)) [ inl old ↦ old | inr same ↦ absurd (but (sym same)) ];
-}
-
--- one that is done is dropped
-pub dropped-free : (q : Pending) (k : ℕ) → is_left_at q k ≡ false → HasFreeBut (λ i. i ≡ k) q → HasFreeBut (λ i. ⊥) q
-dropped-free q k gone f = record {
-  sound = f.sound;
-  complete = λ i lt there z but. f.complete i lt there z (λ e. false≢true (sym gone ∙ ap (is_left_at q) (sym e) ∙ there));
-}
-
-pub popped-there : (p : Pending) (items : List ℕ) (k : ℕ) → HasFreeBut (λ i. ⊥) p → p.free.items ≡ items ++ k ∷ [] → (k < length p.moves.items) × (count_at p.counts.items k ≡ 0)
-popped-there p items k f e = f.sound k (subst (λ (l : List ℕ). Contains l k) (sym e) (Contains-push items k))
 
 -- one fewer is left
 pub done-shorter : (p q : Pending) (k : ℕ) → IsCounted p → IsLeft p k → IsGone p q k → length (pending_in p) ≡ suc (length (pending_in q))

@@ -1,4 +1,5 @@
--- No public clause cites this module. What is left to do while moves are put in order.
+-- Public clauses cite this module by `sequenced` alone, which needs no belief. What is left to do while moves are put
+-- in order.
 use Rattle.std.specs.Prelude.{◌≡◌, ◌≢◌, ℕ, ◌+◌, ◌*◌, ◌<◌, ◌≤◌, ◌⊎◌, Bool, false, if◌then◌else◌, List, [], ◌∷◌, length, Option, Some, None}
 use Rattle.b3_base.specs.declared.word.Width.{Width}
 use Rattle.b3_ir.specs.declared.value.Reg.{Reg as Register}

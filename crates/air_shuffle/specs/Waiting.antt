@@ -1,5 +1,6 @@
--- No public clause cites this module. The moves that are left, by their places among all moves.
-use Rattle.std.specs.Prelude.{◌≡◌, ◌≢◌, ℕ, ◌+◌, ◌*◌, ◌-◌, ◌<◌, Bool, true, false, nat_eq, if◌then◌else◌, List, [], ◌∷◌, ◌++◌, length, Option, Some, None, Contains, slice_index_or, slice_set}
+-- Public clauses cite this module by `sequenced` alone, which needs no belief. The moves that are left, by their places
+-- among all moves.
+use Rattle.std.specs.Prelude.{◌≡◌, ◌≢◌, ℕ, ◌+◌, ◌*◌, ◌-◌, ◌<◌, Bool, false, ◌&&◌, nat_eq, if◌then◌else◌, List, [], ◌∷◌, length, Option, Some, None, slice_index_or, slice_set}
 use Rattle.b3_base.specs.declared.word.Width.TheVariants.{W32}
 use Rattle.indexmap.specs.IndexMap as map
 use Rattle.air_ir.specs.declared.operand.Home.{Home}
@@ -76,16 +77,11 @@ raised w counts = changed (λ n. n + 1) w counts
 abbrev pub lowered : Option ℕ → List ℕ → List ℕ
 lowered w counts = changed (λ n. n - 1) w counts
 
--- where counts are 0
-pub record AreFree (counts free : List ℕ) : Type 0 where
-  pub sound : (k : ℕ) → Contains free k → (k < length counts) × (count_at counts k ≡ 0)
-  pub complete : (k : ℕ) → k < length counts → count_at counts k ≡ 0 → Contains free k
-
-abbrev pub freed : Option ℕ → List ℕ → List ℕ → List ℕ
-freed (Some k) counts free = if nat_eq (count_at counts k) 0 then free ++ k ∷ [] else free
-freed None counts free = free
-
 -- ---- all of it
+
+-- a move is left, and the destination isn't read
+abbrev pub is_free_at : Pending → ℕ → Bool
+is_free_at p k = slice_index_or p.left.items k false && nat_eq (count_at p.counts.items k) 0
 
 abbrev pub pending_in : Pending → List Move
 pending_in p = left_of p.moves.items p.left.items
@@ -100,17 +96,3 @@ pub record IsCounted (p : Pending) : Type 0 where
   pub apart : (k : ℕ) → k < length p.moves.items → (move_at p.moves.items k).to ≢ Reg p.scratch
   pub writers : AreWriters p.moves.items p.writers
   pub counts : AreCounts p.moves.items (pending_in p) p.counts.items
-
--- the moves whose destination isn't read, but for one that is about to be done
-pub record HasFreeBut (But : ℕ → Type 0) (p : Pending) : Type 0 where
-  pub sound : (k : ℕ) → Contains p.free.items k → (k < length p.moves.items) × (count_at p.counts.items k ≡ 0)
-  pub complete : (k : ℕ) → k < length p.moves.items → is_left_at p k ≡ true → count_at p.counts.items k ≡ 0
-      → (But k → ⊥) → Contains p.free.items k
-
-pub record IsKept (p : Pending) : Type 0 where
-  pub counted : IsCounted p
-  pub free : HasFreeBut (λ k. ⊥) p
-
-pub record IsKeptBut (place : ℕ) (p : Pending) : Type 0 where
-  pub counted : IsCounted p
-  pub free : HasFreeBut (λ k. k ≡ place) p

@@ -4,9 +4,11 @@
 mod moves;
 mod order;
 mod pending;
+mod sequencing;
 #[cfg(test)]
 mod tests;
 mod writers;
 
 pub use moves::{Move, Moves};
 pub use order::sequence;
+pub use sequencing::sequences_are_right;

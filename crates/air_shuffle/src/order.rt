@@ -1,10 +1,13 @@
 //! Moves in order that do what moves do at once.
 
-ghost use Rattle.std.specs.Prelude.{◌≡◌, ◌≢◌, ℕ, ◌+◌, ◌*◌, ◌≤◌, All, AllPairs, IfOk, length};
+ghost use Rattle.std.specs.Prelude.{◌≡◌, ◌≢◌, ℕ, ◌+◌, ◌*◌, ◌≤◌, List, None, All, AllPairs, IfOk, OnOk, length};
 ghost use Rattle.std.specs.List.{count_by};
 ghost use Rattle.air_ir.specs.declared.operand.Home.{Home};
 ghost use Rattle.air_ir.specs.declared.operand.Home.TheVariants as home;
-ghost use Rattle.air_shuffle.specs.Moves.{DoAtOnce, GoUp, IsMadeOf, IsSource, is_self, writes};
+ghost use Rattle.air_shuffle.specs.Following.{IsAt};
+ghost use Rattle.air_shuffle.specs.Moves.{DoAtOnce, GoUp, IsMadeOf, IsSource, Move, is_self, writes};
+ghost use Rattle.air_shuffle.specs.Sequenced.{sequenced};
+ghost use Rattle.air_shuffle.specs.Waiting.{IsCounted};
 
 use crate::moves::{Move, Moves};
 use crate::pending::Pending;
@@ -17,6 +20,7 @@ pub fn sequence(alloc: Global, moves: &[Move], scratch: Reg) -> Result<Moves, No
     requires sources { All (λ one. IsSource one.from) moves.now }
     requires differ { AllPairs (λ one other. one.to ≢ other.to) moves.now }
     requires apart { All (λ one. one.to ≢ home.Reg scratch) moves.now }
+    ensures is { IfOk result (λ done. done ≡ sequenced scratch moves.now) }
     ensures at_once { IfOk result (DoAtOnce scratch moves.now) }
     ensures made { IfOk result (All (IsMadeOf scratch moves.now)) }
     ensures no_self { IfOk result (λ done. count_by is_self done ≡ 0) }
@@ -28,13 +32,25 @@ pub fn sequence(alloc: Global, moves: &[Move], scratch: Reg) -> Result<Moves, No
 {
     let mut pending = Pending::new(alloc, moves, scratch)?;
     let mut done = Moves::new(alloc);
-    pending.drain(&mut done)?;
     for place in 0..moves.len() {
+        pending.follow(Some(place), &mut done)?;
+    }
+    cut_cycles(&mut pending, moves.len(), &mut done)?;
+    Ok(done)
+}
+
+/// Does the moves that are left once none of them is free: all of them are cycles, and one source of each is saved.
+fn cut_cycles(pending: &mut Pending, count: usize, done: &mut Moves) -> Result<(), NoMemory>
+    requires counted { IsCounted pending.old }
+    requires count { count ≡ length pending.old.moves.items }
+    ensures { OnOk result ((whole : List Move) → IsAt whole count None done.old pending.old → done.new ≡ whole) }
+{
+    for place in 0..count {
         if pending.is_left(place) {
-            let saving = pending.save(place)?;
+            let (saving, next) = pending.save(place);
             done.push(saving)?;
-            pending.drain(&mut done)?;
+            pending.follow(next, done)?;
         }
     }
-    Ok(done)
+    Ok(())
 }

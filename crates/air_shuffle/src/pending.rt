@@ -1,10 +1,10 @@
 //! The moves that are left while they are put in order.
 
-ghost use Rattle.std.specs.Prelude.{◌≡◌, ◌≢◌, ◌<◌, ◌≤◌, ◌+◌, ◌^◌, ℕ, [], List, IfOk, IfSome, OnOk, length, map, not, slice_index_or, slice_set, true, false};
+ghost use Rattle.std.specs.Prelude.{◌≡◌, ◌≢◌, ◌<◌, ◌^◌, ℕ, List, None, IfOk, IfSome, OnOk, length, map, not, slice_index_or, slice_set, true, false};
 ghost use Rattle.air_ir.specs.declared.operand.Home.TheVariants as home;
+ghost use Rattle.air_shuffle.specs.Following.{IsAt};
 ghost use Rattle.air_shuffle.specs.Moves.{Move, from_scratch, is_self, saved};
-ghost use Rattle.air_shuffle.specs.Pending.{Going};
-ghost use Rattle.air_shuffle.specs.Waiting.{AreCounts, AreFree, AreWriters, IsKept, IsKeptBut, IsSequenceable, freed, left_of, lowered, move_at, pending_in, raised, writer_of};
+ghost use Rattle.air_shuffle.specs.Waiting.{AreCounts, AreWriters, IsCounted, IsSequenceable, is_free_at, left_of, lowered, move_at, raised, writer_of};
 
 use crate::moves::{Move, Moves, is_self};
 use crate::writers::{Writers, writer_of, writers_of};
@@ -23,8 +23,6 @@ pub(crate) struct Pending {
     left: Vec<bool>,
     /// How many of those that are left read the destination of each move.
     counts: Vec<usize>,
-    /// Where the moves stand whose destination isn't read; some of them may be done.
-    free: Vec<usize>,
     /// Which move writes a home.
     writers: Writers,
 }
@@ -75,25 +73,12 @@ fn first_counts(
     Ok(counts)
 }
 
-/// Where counts are 0.
-fn first_free(alloc: Global, counts: &[usize]) -> Result<Vec<usize>, NoMemory>
-    ensures { IfOk result (λ free. AreFree counts.now free.items) }
-{
-    let mut free = Vec::new(alloc);
-    for place in 0..counts.len() {
-        if counts[place] == 0 {
-            free.push(place)?;
-        }
-    }
-    Ok(free)
-}
-
 impl Pending {
     /// All moves but those from a home to itself. It is refused for want of memory alone.
     pub(crate) fn new(alloc: Global, moves: &[Move], scratch: Reg) -> Result<Pending, NoMemory>
         requires sound { IsSequenceable moves.now }
         requires apart { (k : ℕ) → k < length moves.now → (move_at moves.now k).to ≢ home.Reg scratch }
-        ensures kept { IfOk result IsKept }
+        ensures counted { IfOk result IsCounted }
         ensures scratch { IfOk result (λ p. p.scratch ≡ scratch) }
         ensures moves { IfOk result (λ p. p.moves.items ≡ moves.now) }
         ensures left { IfOk result (λ p. p.left.items ≡ map (λ one. not (is_self one)) moves.now) }
@@ -101,13 +86,11 @@ impl Pending {
         let writers = writers_of(alloc, moves)?;
         let left = first_left(alloc, moves)?;
         let counts = first_counts(alloc, moves, left.as_slice(), &writers)?;
-        let free = first_free(alloc, counts.as_slice())?;
         Ok(Pending {
             scratch,
             moves: Vec::from_slice(alloc, moves)?,
             left,
             counts,
-            free,
             writers,
         })
     }
@@ -120,8 +103,17 @@ impl Pending {
         self.left[place]
     }
 
-    /// A source is read by one move less.
-    fn release(&mut self, from: Arg) -> Result<(), NoMemory>
+    /// Whether a move is left, and its destination isn't read.
+    fn is_free(&self, place: usize) -> bool
+        requires left { place < length self.now.left.items }
+        requires counts { place < length self.now.counts.items }
+        ensures { result ≡ is_free_at self.now place }
+    {
+        self.left[place] && self.counts[place] == 0
+    }
+
+    /// A source is read by one move less. The place of the move to the home that it is.
+    fn release(&mut self, from: Arg) -> Option<usize>
         requires counted { IfSome (writer_of self.old.writers from) (λ j. j < length self.old.counts.items) }
         requires some { IfSome (writer_of self.old.writers from) (λ j. 0 < slice_index_or self.old.counts.items j 0) }
         ensures scratch { self.new.scratch ≡ self.old.scratch }
@@ -129,75 +121,81 @@ impl Pending {
         ensures left { self.new.left ≡ self.old.left }
         ensures writers { self.new.writers ≡ self.old.writers }
         ensures counts { self.new.counts.items ≡ lowered (writer_of self.old.writers from) self.old.counts.items }
-        ensures free { OnOk result (self.new.free.items
-            ≡ freed (writer_of self.old.writers from) self.new.counts.items self.old.free.items) }
-        ensures few { length self.new.free.items ≤ length self.old.free.items + 1 }
+        ensures next { result ≡ writer_of self.old.writers from }
     {
-        if let Some(writer) = writer_of(&self.writers, from) {
-            self.counts[writer] -= 1;
-            if self.counts[writer] == 0 {
-                self.free.push(writer)?;
-            }
+        let writer = writer_of(&self.writers, from);
+        if let Some(place) = writer {
+            self.counts[place] -= 1;
         }
-        Ok(())
+        writer
     }
 
-    /// A move is no longer left.
-    fn finish(&mut self, place: usize) -> Result<(), NoMemory>
-        requires kept { IsKeptBut place self.old }
-        requires within { place < length self.old.left.items }
+    /// A move is no longer left. The place of the move to the home that it read.
+    fn finish(&mut self, place: usize) -> Option<usize>
+        requires counted { IsCounted self.old }
+        requires within { place < length self.old.moves.items }
         requires left { slice_index_or self.old.left.items place false ≡ true }
         ensures scratch { self.new.scratch ≡ self.old.scratch }
         ensures moves { self.new.moves ≡ self.old.moves }
         ensures left { self.new.left.items ≡ slice_set self.old.left.items place false }
-        ensures few { length self.new.free.items ≤ length self.old.free.items + 1 }
-        ensures kept { OnOk result (IsKept self.new) }
+        ensures writers { self.new.writers ≡ self.old.writers }
+        ensures counts { self.new.counts.items
+            ≡ lowered (writer_of self.old.writers (move_at self.old.moves.items place).from) self.old.counts.items }
+        ensures next { result ≡ writer_of self.old.writers (move_at self.old.moves.items place).from }
     {
         let from = self.moves[place].from;
         self.left[place] = false;
         self.release(from)
     }
 
-    /// Saves the source of a move that is left, and gives the move that does it.
-    pub(crate) fn save(&mut self, place: usize) -> Result<Move, NoMemory>
-        requires kept { IsKept self.old }
+    /// Saves the source of a move that is left, and gives the move that does it, and the place of the move to the home
+    /// that it read.
+    pub(crate) fn save(&mut self, place: usize) -> (Move, Option<usize>)
+        requires counted { IsCounted self.old }
         requires within { place < length self.old.moves.items }
         requires left { slice_index_or self.old.left.items place false ≡ true }
         ensures scratch { self.new.scratch ≡ self.old.scratch }
-        ensures moves { self.new.moves.items
-            ≡ slice_set self.old.moves.items place (from_scratch self.old.scratch (move_at self.old.moves.items place)) }
+        ensures moves { self.new.moves.items ≡ slice_set self.old.moves.items place
+            (from_scratch self.old.scratch (move_at self.old.moves.items place)) }
         ensures left { self.new.left ≡ self.old.left }
-        ensures kept { OnOk result (IsKept self.new) }
-        ensures saved { IfOk result (λ one. one ≡ saved self.old.scratch (move_at self.old.moves.items place)) }
+        ensures writers { self.new.writers ≡ self.old.writers }
+        ensures counts { self.new.counts.items
+            ≡ lowered (writer_of self.old.writers (move_at self.old.moves.items place).from) self.old.counts.items }
+        ensures saved { result.0 ≡ saved self.old.scratch (move_at self.old.moves.items place) }
+        ensures next { result.1 ≡ writer_of self.old.writers (move_at self.old.moves.items place).from }
     {
         let one = self.moves[place];
         let scratch = Home::Reg(self.scratch);
         self.moves[place].from = Arg::At(scratch);
-        self.release(one.from)?;
-        Ok(Move {
+        let next = self.release(one.from);
+        let saving = Move {
             from: one.from,
             to: scratch,
             width: one.width,
-        })
+        };
+        (saving, next)
     }
 
-    /// Carries out moves whose destination isn't read, as long as there are some.
-    pub(crate) fn drain(&mut self, done: &mut Moves) -> Result<(), NoMemory>
-        requires { IsKept self.old }
+    /// Does the move at a place if it is free, and then, as long as that is free, the move to the home that was read
+    /// last.
+    pub(crate) fn follow(&mut self, first: Option<usize>, done: &mut Moves) -> Result<(), NoMemory>
+        requires counted { IsCounted self.old }
+        requires there { IfSome first (λ k. k < length self.old.moves.items) }
         ensures scratch { self.new.scratch ≡ self.old.scratch }
         ensures moves { self.new.moves ≡ self.old.moves }
-        ensures kept { OnOk result (IsKept self.new) }
-        ensures free { OnOk result (self.new.free.items ≡ []) }
+        ensures counted { OnOk result (IsCounted self.new) }
         ensures left { OnOk result ((k : ℕ) → slice_index_or self.new.left.items k false ≡ true
             → slice_index_or self.old.left.items k false ≡ true) }
-        ensures going { OnOk result ((whole : List Move) → Going self.old.scratch whole done.old (pending_in self.old)
-            → Going self.old.scratch whole done.new (pending_in self.new)) }
+        ensures rests { OnOk result ((whole : List Move) (bound : ℕ) → IsAt whole bound first done.old self.old
+            → IsAt whole bound None done.new self.new) }
     {
-        while let Some(place) = self.free.pop() {
-            if self.left[place] {
-                done.push(self.moves[place])?;
-                self.finish(place)?;
+        let mut next = first;
+        while let Some(place) = next {
+            if !self.is_free(place) {
+                return Ok(());
             }
+            done.push(self.moves[place])?;
+            next = self.finish(place);
         }
         Ok(())
     }

@@ -164,8 +164,8 @@ fn a_source_goes_to_three_destinations(rt: HostRuntime) -> Result<(), Fail> {
     ];
     let done = ordered(rt.alloc(), &moves)?;
     let expected = [
-        moves[3],
         moves[1],
+        moves[3],
         move_to(reg(17), reg(3)),
         moves[2],
         move_to(reg(0), reg(17)),

@@ -1,36 +1,29 @@
-use Rattle.std.proofs.Common.{◌≡◌, ◌<◌, arith, sym, ap, ◌∙◌}
+use Rattle.std.proofs.Common.{◌≡◌, ◌<◌, sym, ap, ◌∙◌}
 use Rattle.std.specs.Prelude.{slice_index_or}
-use Rattle.std.proofs.lemmas.Result.{on_ok_weaker}
-use Rattle.air_ir.specs.declared.operand.Arg.{Arg}
 use Rattle.air_shuffle.specs.Moves.{Move}
-use Rattle.air_shuffle.specs.Waiting.{freed, lowered, move_at, writer_of}
+use Rattle.air_shuffle.specs.Waiting.{lowered, move_at, writer_of}
 use Rattle.air_shuffle.proofs.Left.{if_some, read_move}
-use Rattle.air_shuffle.proofs.Taking.{IsDone, IsLeft, done-kept, from_at, released-there}
+use Rattle.air_shuffle.proofs.Taking.{IsLeft, released-there}
 use Rattle.air_shuffle.proofs.pending.Pending.finish.Goals as goal
 
 pub release-requires-clause-some : goal.release-requires-clause-some
 release-requires-clause-some c =
     let p = c.args.self.now in
-    let many = c.requires.kept.counted.many in
-    let there : IsLeft p c.args.place = record { within = (let lt = c.requires.within in omega arith); left = c.requires.left } in
+    let there : IsLeft p c.args.place = record { within = c.requires.within; left = c.requires.left } in
     let from : c.index.result.now ≡ move_at p.moves.items c.args.place = read_move p.moves.items c.args.place c.index.result.now there.within c.index.ensures in
     if_some (writer_of p.writers c.index.result.now.from) (λ j. 0 < slice_index_or p.counts.items j 0)
-    (λ j e. (released-there p c.args.place j c.requires.kept.counted there (ap (λ (m : Move). writer_of p.writers m.from) (sym from) ∙ e)).1)
+    (λ j e. (released-there p c.args.place j c.requires.counted there (ap (λ (m : Move). writer_of p.writers m.from) (sym from) ∙ e)).1)
 
-pub returns-clause-kept : goal.returns-clause-kept
-returns-clause-kept c =
+pub returns-clause-counts : goal.returns-clause-counts
+returns-clause-counts c =
     let p = c.args.self.now in
-    let q = c.release.new.self in
-    let many = c.requires.kept.counted.many in
-    let there : IsLeft p c.args.place = record { within = (let lt = c.requires.within in omega arith); left = c.requires.left } in
-    let from : c.index.result.now ≡ move_at p.moves.items c.args.place = read_move p.moves.items c.args.place c.index.result.now there.within c.index.ensures in
-    let same : c.index.result.now.from ≡ from_at p c.args.place = ap (λ (m : Move). m.from) from in
-    let done : IsDone p q c.args.place = record {
-      gone = record { moves = ap (λ v. v.items) c.release.ensures.moves; left = ap (λ v. v.items) c.release.ensures.left };
-      scratch = c.release.ensures.scratch;
-      writers = c.release.ensures.writers;
-      counts = c.release.ensures.counts ∙ ap (λ (a : Arg). lowered (writer_of p.writers a) p.counts.items) same;
-    } in
-    on_ok_weaker c.release.result
-    (λ free. done-kept p q c.args.place c.requires.kept there done (free ∙ ap (λ (a : Arg). freed (writer_of p.writers a) q.counts.items p.free.items) same))
-    c.release.ensures.free
+    let from : c.index.result.now ≡ move_at p.moves.items c.args.place =
+    read_move p.moves.items c.args.place c.index.result.now c.requires.within c.index.ensures in
+    c.release.ensures.counts ∙ ap (λ (m : Move). lowered (writer_of p.writers m.from) p.counts.items) from
+
+pub returns-clause-next : goal.returns-clause-next
+returns-clause-next c =
+    let p = c.args.self.now in
+    let from : c.index.result.now ≡ move_at p.moves.items c.args.place =
+    read_move p.moves.items c.args.place c.index.result.now c.requires.within c.index.ensures in
+    c.release.ensures.next ∙ ap (λ (m : Move). writer_of p.writers m.from) from
