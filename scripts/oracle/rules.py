@@ -226,15 +226,15 @@ def first_breach(module):
 
 
 # ---- what is not compiled today
-UNCOMPILED = ["CCall", "Patchpoint", *CHECKS]
-# What is compiled and touches no memory and no frame.
+UNCOMPILED = [*CHECKS]
+# What is compiled and touches no memory, no frame, and nothing outside.
 ARITHMETIC = [
-    opcode for opcode in FORMS if opcode not in ["SlotBase", "FramePointer", *ACCESSES, *UNCOMPILED]
+    opcode for opcode in FORMS if opcode not in ["SlotBase", "FramePointer", "CCall", "Patchpoint", *ACCESSES, *UNCOMPILED]
 ]
 
 
 def has_code(v):
-    return v["opcode"] not in UNCOMPILED and v["flag"] != "<Traps>"
+    return v["opcode"] not in UNCOMPILED
 
 
 def unbuilt(module):

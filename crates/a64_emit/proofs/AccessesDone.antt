@@ -1,14 +1,15 @@
 -- A load and a store of the machine do what those of the run of Air do.
-use Rattle.std.proofs.Common.{◌≡◌, ℕ, zero, suc, ◌+◌, ◌-◌, ◌^◌, ◌<◌, ◌≤◌, min, Bool, true, false, List, [], ◌∷◌, Some, length, get_or, refl, sym, ap, ◌∙◌, subst, arith}
+use Rattle.std.proofs.Common.{◌≡◌, ℕ, zero, suc, ◌+◌, ◌-◌, ◌^◌, ◌<◌, ◌≤◌, min, Bool, true, false, not, ◌&&◌, ◌||◌, ⊎_elim, List, [], ◌∷◌, Some, None, length, get_or, refl, sym, ap, ◌∙◌, subst, arith}
 use Rattle.std.specs.Prelude.{is_some, if◌then◌else◌, Contains, map, slice_get}
+use Rattle.std.proofs.lemmas.Bool.{cases_lt}
 use Rattle.std.proofs.lemmas.Bool.Decides.{nat_tests}
 use Rattle.std.proofs.lemmas.List.{length-map}
 use Rattle.b3_base.specs.Memory.{byte_address, is_mapped, read_word, write_word}
 use Rattle.b3_base.specs.Observed.{Memory, Start}
 use Rattle.b3_base.specs.declared.word.Width.TheVariants.{W64}
-use Rattle.b3_base.proofs.MemoryLaws.{write_word-AreBytes, write_word_keeps}
-use Rattle.b3_base.proofs.WordLaws.{read-write_apart}
-use Rattle.b3_meaning.specs.Access.{Accessed, Done, Refused, access, touches_private}
+use Rattle.b3_base.proofs.MemoryLaws.{is_mapped_all, is_mapped_at, write_word-AreBytes, write_word_keeps}
+use Rattle.b3_base.proofs.WordLaws.{read-write_apart, write_word_mapped}
+use Rattle.b3_meaning.specs.Access.{Accessed, Done, Refused, Trap, access, is_private, touches_private}
 use Rattle.b3_meaning.specs.Opcodes.{Undefined, PrivateByte, UnmappedByte}
 use Rattle.stackmap.specs.declared.site.SavedRow.{SavedRow}
 use Rattle.exit_table.specs.Good.{AreDisjoint, saved_span, slot_span, word_span}
@@ -18,35 +19,71 @@ use Rattle.air_ir.specs.Steps.{State}
 use Rattle.air_frame.specs.Frames.{IsFrameOf}
 use Rattle.air_frame.specs.Needs.{names}
 use Rattle.a64_layout.specs.Machine.{Machine, moved_to}
-use Rattle.a64_run.specs.Placement.{frame_pointer_of, in_slot, is_within, visible}
-use Rattle.a64_emit.specs.Places.{spill_offset}
+use Rattle.a64_run.specs.Placement.{frame_pointer_of, in_frame, in_slot, is_within, visible}
+use Rattle.a64_emit.specs.Emitted.{IsSafe}
+use Rattle.a64_code.specs.Places.{spill_offset}
 use Rattle.a64_emit.specs.Related.{HasFrame, IsRelated}
 use Rattle.a64_emit.specs.Setting.{IsSet, Setting, row}
 use Rattle.a64_emit.proofs.AccessesSeen.{bytes_seen, hidden_apart, is_seen, mapped_seen, write_seen}
 use Rattle.a64_emit.proofs.Entering.{good_row}
 use Rattle.a64_emit.proofs.FrameWords.{IsHiddenWord, all_front, apart_from_slots, hidden_word, not_in_slot, not_some, or_false}
-use Rattle.a64_emit.proofs.Keeping.{some_is, spill_stands}
+use Rattle.a64_emit.proofs.Keeping.{none_still, some_is, spill_stands}
 use Rattle.a64_emit.proofs.Straight.{DoesOne, IsWhole}
 use Rattle.a64_emit.proofs.Words.{with_memory}
 
 -- ---- the access of a start
 
--- an access that doesn't trap is done, and its bytes are mapped, or it is undefined
-pub data Comes (start : Start) (memory : Memory) (address n : ℕ) : Type 0 where
-  Touches : (done : access start memory address n false ≡ Done) (mapped : is_mapped memory address n ≡ true) → Comes start memory address n
-  Fails : (undefined : Undefined) (refused : access start memory address n false ≡ Refused undefined) → Comes start memory address n
+-- an access is done, and its bytes are mapped; or it is undefined; or it traps, and none of its bytes is private but one isn't
+-- mapped
+pub data Comes (start : Start) (memory : Memory) (address n : ℕ) (traps : Bool) : Type 0 where
+  Touches : (done : access start memory address n traps ≡ Done) (mapped : is_mapped memory address n ≡ true) → Comes start memory address n traps
+  Fails : (undefined : Undefined) (refused : access start memory address n traps ≡ Refused undefined) → Comes start memory address n traps
+  Traps : (trap : access start memory address n traps ≡ Trap address) (may : traps ≡ true) (free : touches_private start address n ≡ false)
+      (gap : is_mapped memory address n ≡ false) → Comes start memory address n traps
 
-pub comes_to : (start : Start) (memory : Memory) (address n : ℕ) → Comes start memory address n
-comes_to start memory address n =
-    let A : Bool → Bool → Accessed = λ refuses mapped. if refuses then Refused PrivateByte else if mapped then Done else Refused UnmappedByte in
-    elim (touches_private start address n) as (λ p. touches_private start address n ≡ p → Comes start memory address n) [
-      | true ↦ λ p. Fails PrivateByte (ap (λ b. A b (is_mapped memory address n)) p)
+pub comes_to : (start : Start) (memory : Memory) (address n : ℕ) (traps : Bool) → Comes start memory address n traps
+comes_to start memory address n traps =
+    let A : Bool → Bool → Bool → Accessed = λ refuses mapped traps. if refuses then Refused PrivateByte else if mapped then Done else
+    if traps then Trap address else Refused UnmappedByte in
+    let M : Bool = is_mapped memory address n in
+    elim (touches_private start address n) as (λ p. touches_private start address n ≡ p → Comes start memory address n traps) [
+      | true ↦ λ p. Fails PrivateByte (ap (λ b. A b M traps) p)
       | false ↦ λ p.
-          elim (is_mapped memory address n) as (λ b. is_mapped memory address n ≡ b → Comes start memory address n) [
-            | true ↦ λ m. Touches (ap (λ b. A b (is_mapped memory address n)) p ∙ ap (A false) m) m
-            | false ↦ λ m. Fails UnmappedByte (ap (λ b. A b (is_mapped memory address n)) p ∙ ap (A false) m)
+          elim (is_mapped memory address n) as (λ b. is_mapped memory address n ≡ b → Comes start memory address n traps) [
+            | true ↦ λ m. Touches (ap (λ b. A b M traps) p ∙ ap (λ b. A false b traps) m) m
+            | false ↦ λ m.
+                elim traps as (λ t. traps ≡ t → Comes start memory address n traps) [
+                  | true ↦ λ t. Traps (ap (λ b. A b M traps) p ∙ ap (λ b. A false b traps) m ∙ ap (A false false) t) t p m
+                  | false ↦ λ t. Fails UnmappedByte (ap (λ b. A b M traps) p ∙ ap (λ b. A false b traps) m ∙ ap (A false false) t)
+                ] refl
           ] refl
     ] refl
+
+or_none_left : (a b : Bool) → (a || b) ≡ false → a ≡ false
+or_none_left true b e = cc
+or_none_left false b e = refl
+
+or_none_right : (a b : Bool) → (a || b) ≡ false → b ≡ false
+or_none_right true b e = cc
+or_none_right false b e = e
+
+not_left : (a b : Bool) → (a && not b) ≡ false → b ≡ false → a ≡ false
+not_left false b e none = refl
+not_left true false e none = cc
+not_left true true e none = cc
+
+-- no byte of an access that touches no private byte is hidden
+not_hidden : (start : Start) (address n i : ℕ) → touches_private start address n ≡ false → i < n → start.is_hidden (byte_address address i) ≡ false
+not_hidden start address zero i none lt = absurd (omega arith)
+not_hidden start address (suc n) i none lt =
+    ⊎_elim
+    (λ (less : i < n). not_hidden start address n i (or_none_left (touches_private start address n) (is_private start (byte_address address n)) none) less)
+    (λ (le : n ≤ i).
+    let same : n ≡ i = omega arith in
+    let last = or_none_right (touches_private start address n) (is_private start (byte_address address n)) none in
+    subst (λ j. start.is_hidden (byte_address address j) ≡ false) same
+    (or_none_left (start.is_hidden (byte_address address n)) (start.is_code (byte_address address n)) last))
+    (cases_lt i n)
 
 -- ---- safety
 
@@ -57,17 +94,21 @@ below_min : (a b q : ℕ) → a ≤ q → min a b ≤ q
 below_min a b q le = omega arith
 
 -- with SP at the frame's bottom each byte of the frame is at SP or above
+pub safe_there : (z : Setting) (c : Machine) (inst : Inst) (pc : ℕ) → c.registers.sp ≡ z.entry.sp - z.frame.bytes
+    → (step_of inst (moved_to pc c).registers c.memory).registers.x 18 ≡ c.registers.x 18 → IsSafe z (moved_to pc c) inst
+safe_there z c inst pc sp platform = record {
+  there = λ at n i some lt inside.
+      below_min c.registers.sp (step_of inst (moved_to pc c).registers c.memory).registers.sp (byte_address at i)
+      (subst (λ s. s ≤ byte_address at i) (sym sp) (within_above (z.entry.sp - z.frame.bytes) z.frame.bytes (byte_address at i) inside));
+  platform = platform;
+}
+
 pub does_there : (z : Setting) (c d : Machine) (inst : Inst) → IsWhole z c → c.registers.sp ≡ z.entry.sp - z.frame.bytes
     → d.registers.x 18 ≡ c.registers.x 18
     → ((pc : ℕ) → step_of inst (moved_to pc c).registers c.memory ≡ goes_on (moved_to pc d).registers d.memory) → DoesOne z c inst d
 does_there z c d inst whole sp platform does = record {
   does = does;
-  safe = λ pc. record {
-    there = λ at n i some lt inside.
-        below_min c.registers.sp (step_of inst (moved_to pc c).registers c.memory).registers.sp (byte_address at i)
-        (subst (λ s. s ≤ byte_address at i) (sym sp) (within_above (z.entry.sp - z.frame.bytes) z.frame.bytes (byte_address at i) inside));
-    platform = ap (λ (t : Stepped). t.registers.x 18) (does pc) ∙ platform;
-  };
+  safe = λ pc. safe_there z c inst pc sp (ap (λ (t : Stepped). t.registers.x 18) (does pc) ∙ platform);
   whole = whole;
 }
 
@@ -97,12 +138,12 @@ saved_among rows s there =
     (there.0, omega (arith, there.1), among_mapped rows there.0 s there.1 there.2)
 
 module _ (z : Setting) (set : IsSet z) (serves : IsFrameOf z.procedure z.frame) where
-  unseen : (at : ℕ) → IsHiddenWord z at → (i : ℕ) → i < 8 → is_seen (row z) z.entry (byte_address at i) ≡ false
+  pub unseen : (at : ℕ) → IsHiddenWord z at → (i : ℕ) → i < 8 → is_seen (row z) z.entry (byte_address at i) ≡ false
   unseen at hidden i lt =
       or_false (is_some (z.entry.memory (byte_address at i))) (in_slot (row z) z.entry (byte_address at i))
       (not_some z set (byte_address at i) (hidden i lt).0) (hidden i lt).1
 
-  link_hidden : IsHiddenWord z (frame_pointer_of z.entry + 8)
+  pub link_hidden : IsHiddenWord z (frame_pointer_of z.entry + 8)
   link_hidden i lt =
       let least = serves.good.least in
       let room = set.room in (
@@ -110,7 +151,7 @@ module _ (z : Setting) (set : IsSet z) (serves : IsFrameOf z.procedure z.frame) 
         not_in_slot z set serves.good (byte_address (frame_pointer_of z.entry + 8) i) (link_above z.entry.sp i set.ranged.sp (omega arith) lt),
       )
 
-  caller_hidden : IsHiddenWord z (frame_pointer_of z.entry - 0)
+  pub caller_hidden : IsHiddenWord z (frame_pointer_of z.entry - 0)
   caller_hidden i lt =
       let least = serves.good.least in
       let room = set.room in (
@@ -118,12 +159,12 @@ module _ (z : Setting) (set : IsSet z) (serves : IsFrameOf z.procedure z.frame) 
         not_in_slot z set serves.good (byte_address (frame_pointer_of z.entry - 0) i) (caller_above z.entry.sp i set.ranged.sp (omega arith) lt),
       )
 
-  saved_hidden : (s : SavedRow) → Contains z.frame.saved s → IsHiddenWord z (frame_pointer_of z.entry - s.offset)
+  pub saved_hidden : (s : SavedRow) → Contains z.frame.saved s → IsHiddenWord z (frame_pointer_of z.entry - s.offset)
   saved_hidden s there =
       hidden_word z set serves.good s.offset (good_row z.frame.bytes z.frame.saved serves.good.saved s there).place
       (apart_from_slots (row z).slots (map saved_span z.frame.saved) (saved_span s) serves.good.disjoint (saved_among z.frame.saved s there))
 
-  spill_hidden : (n offset : ℕ) → names z.procedure n ≡ true → slice_get z.frame.spills n ≡ Some offset → IsHiddenWord z (frame_pointer_of z.entry - offset)
+  pub spill_hidden : (n offset : ℕ) → names z.procedure n ≡ true → slice_get z.frame.spills n ≡ Some offset → IsHiddenWord z (frame_pointer_of z.entry - offset)
   spill_hidden n offset named there =
       let stands = spill_stands z set serves n named in
       let same : spill_offset z.frame n ≡ offset = some_is (spill_offset z.frame n) offset (sym stands.0 ∙ there) in
@@ -148,6 +189,9 @@ module _ (z : Setting) (set : IsSet z) (serves : IsFrameOf z.procedure z.frame) 
       bytes = write_word-AreBytes c.memory at n word rel.frame.bytes;
       whole = λ address inside. write_word_keeps c.memory at n word address (rel.frame.whole address inside);
       mapped = λ address there. write_word_keeps c.memory at n word address (rel.frame.mapped address there);
+      unmapped = λ address none out. none_still (c.memory address) (write_word c.memory at n word address)
+          (write_word_mapped c.memory at n word address (mapped_seen (row z) z.entry c.memory at n its_mapped))
+          (rel.frame.unmapped address none out);
       caller = still (frame_pointer_of z.entry - 0) caller_hidden ∙ rel.frame.caller;
       link = still (frame_pointer_of z.entry + 8) link_hidden ∙ rel.frame.link;
       saved = λ s there. still (frame_pointer_of z.entry - s.offset) (saved_hidden s there) ∙ rel.frame.saved s there;
@@ -169,3 +213,33 @@ module _ (z : Setting) (set : IsSet z) (serves : IsFrameOf z.procedure z.frame) 
 
     pub stored_mapped : is_mapped c.memory at n ≡ true
     stored_mapped = mapped_seen (row z) z.entry c.memory at n its_mapped
+
+  -- ---- a trap
+
+  -- a byte that is there and isn't hidden is seen
+  there_seen : (c : Machine) (q : ℕ) → HasFrame z c → is_some (c.memory q) ≡ true → z.start.is_hidden q ≡ false
+      → is_some (visible (row z) z.entry c.memory q) ≡ true
+  there_seen c q f there free =
+      elim (is_seen (row z) z.entry q) as (λ b. is_seen (row z) z.entry q ≡ b → is_some (if b then c.memory q else None) ≡ true) [
+        | true ↦ λ seen. there
+        | false ↦ λ unseen.
+            let apart = or_none_right (is_some (z.entry.memory q)) (in_slot (row z) z.entry q) unseen in
+            let out : in_frame (row z) z.entry q ≡ false =
+            not_left (in_frame (row z) z.entry q) (in_slot (row z) z.entry q) (ap (λ (h : ℕ → Bool). h q) (sym set.hidden) ∙ free) apart in
+            let none = f.unmapped q (or_none_left (is_some (z.entry.memory q)) (in_slot (row z) z.entry q) unseen) out in
+            cc
+      ] refl
+
+  -- where the run of Air lacks a byte so does the machine
+  pub gap_there : (s : State) (c : Machine) → IsRelated z s c → (at n : ℕ) → touches_private z.start at n ≡ false → is_mapped s.world.memory at n ≡ false
+      → is_mapped c.memory at n ≡ false
+  gap_there s c rel at n free gap =
+      elim (is_mapped c.memory at n) as (λ b. is_mapped c.memory at n ≡ b → b ≡ false) [
+        | true ↦ λ mapped.
+            let seen : is_mapped (visible (row z) z.entry c.memory) at n ≡ true =
+            is_mapped_all (visible (row z) z.entry c.memory) at n
+            (λ i lt. there_seen c (byte_address at i) rel.frame (is_mapped_at c.memory at n i mapped lt) (not_hidden z.start at n i free lt)) in
+            let no = ap (λ (m : Memory). is_mapped m at n) (sym rel.memory) ∙ gap in
+            cc
+        | false ↦ λ e. refl
+      ] refl

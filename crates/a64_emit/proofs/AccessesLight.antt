@@ -11,9 +11,9 @@ use Rattle.air_ir.specs.declared.op.AirOp.{AirOp}
 use Rattle.air_ir.specs.declared.operand.Arg.{Arg}
 use Rattle.air_ir.specs.declared.operand.Arg.TheVariants.{At, Imm, Addr, Index, FrameSlot}
 use Rattle.air_ir.specs.declared.operand.Operand.{Operand}
-use Rattle.a64_emit.specs.Accesses.{access_kind, below_x29, upper}
+use Rattle.a64_code.specs.Accesses.{access_kind, below_x29, upper}
 use Rattle.a64_emit.specs.Code.{access_inst, arg_at, fetch, fetch_address, frame_address, load_code, put_result, result_reg, slot_offset, source_of, store_code}
-use Rattle.a64_emit.specs.Computing.{reg_of}
+use Rattle.a64_code.specs.Computing.{reg_of}
 use Rattle.a64_emit.proofs.Sizes.{fetch_most, operand_words, place_least, put_most}
 use Rattle.a64_emit.proofs.Weights.{of_one, of_two}
 

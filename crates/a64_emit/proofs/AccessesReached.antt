@@ -23,15 +23,15 @@ use Rattle.air_ir.specs.declared.operand.Home.TheVariants.{Reg, Spill, Tmp}
 use Rattle.air_frame.specs.Frames.{IsFrameOf}
 use Rattle.a64_layout.specs.Machine.{Machine}
 use Rattle.a64_run.specs.Machine.{touched}
-use Rattle.a64_emit.specs.Accesses.{offset_access}
+use Rattle.a64_code.specs.Accesses.{offset_access}
 use Rattle.a64_emit.specs.Code.{access_inst, fetch, fetch_address, source_of}
-use Rattle.a64_emit.specs.Computing.{reg_of}
+use Rattle.a64_code.specs.Computing.{reg_of}
 use Rattle.a64_emit.specs.Related.{IsRelated}
 use Rattle.a64_emit.specs.Setting.{IsSet, Setting}
 use Rattle.a64_emit.proofs.Computes.{fetch_two, scratch_15}
 use Rattle.a64_emit.proofs.Fetching.{IsUsable, allocatable_other, fetch_word, fetched_keeps}
 use Rattle.a64_emit.proofs.Keeping.{keeps_related, some_is}
-use Rattle.a64_emit.proofs.Ops.{Gives}
+use Rattle.a64_code.proofs.Ops.{Gives}
 use Rattle.a64_emit.proofs.Straight.{Does, does_both}
 
 -- ---- the instruction of an access
@@ -139,7 +139,7 @@ pub record IsBase (c : Machine) (reg word : ℕ) : Type 0 where
 low_whole : (x w : ℕ) → x < 2 ^ 64 → x % 2 ^ 64 ≡ w → x ≡ w
 low_whole x w small e = omega arith
 
-base_is : (z : Setting) (c : Machine) (scratch : ℕ) (home : Home) (word : ℕ) → scratch ≢ 17 → IsUsable z (At home) → AreWords c.registers
+pub base_is : (z : Setting) (c : Machine) (scratch : ℕ) (home : Home) (word : ℕ) → scratch ≢ 17 → IsUsable z (At home) → AreWords c.registers
     → Gives c.registers (source_of scratch (At home)) W64 word → IsBase c (reg_of (source_of scratch (At home))) word
 base_is z c scratch (Reg r) word other usable words gives = record {
   most = gives.0;

@@ -1,5 +1,5 @@
 -- Loads and stores do what their code does.
-use Rattle.std.proofs.Common.{◌≡◌, ℕ, ◌+◌, ◌-◌, ◌*◌, ◌%◌, ◌^◌, ◌<◌, ◌≤◌, inl, inr, Bool, true, false, List, [], ◌∷◌, ◌++◌, Option, Some, None, refl, sym, ap, ◌∙◌, subst, arith}
+use Rattle.std.proofs.Common.{◌≡◌, ℕ, ◌+◌, ◌-◌, ◌*◌, ◌%◌, ◌^◌, ◌<◌, ◌≤◌, ◌⊎◌, inl, inr, Bool, true, false, List, [], ◌∷◌, ◌++◌, Option, Some, None, refl, sym, ap, ◌∙◌, subst, arith}
 use Rattle.std.specs.Prelude.{is_some, nat_lt, if◌then◌else◌}
 use Rattle.std.proofs.lemmas.Bool.{ne_eqb}
 use Rattle.b3_base.specs.Arithmetic.{low}
@@ -7,14 +7,16 @@ use Rattle.b3_base.specs.Memory.{is_mapped, read_word, write_word}
 use Rattle.b3_base.specs.Observed.{Memory, Start}
 use Rattle.b3_base.specs.declared.word.Width.{Width}
 use Rattle.b3_base.specs.declared.word.Width.TheVariants.{W32, W64}
-use Rattle.b3_base.proofs.MemoryLaws.{is_some-read_word}
+use Rattle.b3_base.specs.declared.observation.Status.TheVariants.{Trapped}
+use Rattle.b3_base.proofs.MemoryLaws.{is_some-read_word, none_of}
 use Rattle.b3_base.proofs.WordLaws.{write_word_low}
-use Rattle.b3_meaning.specs.Access.{Done, Refused, access}
+use Rattle.b3_meaning.specs.Access.{Done, Refused, Trap, access, touches_private}
 use Rattle.b3_meaning.specs.Opcodes.{Undefined}
 use Rattle.b3_meaning.specs.Run.{extended}
 use Rattle.b3_meaning.specs.declared.role.Extent.{Extent}
 use Rattle.b3_meaning.specs.declared.role.Extent.TheVariants.{Byte, Half, Whole}
-use Rattle.a64_inst.specs.Step.{Bytes, Registers, goes_on, put, read}
+use Rattle.a64_inst.specs.Registers.{faults}
+use Rattle.a64_inst.specs.Step.{Bytes, Registers, goes_on, put, read, step_of}
 use Rattle.a64_inst.specs.StepMemory as machine
 use Rattle.a64_inst.specs.declared.inst.AccessKind.{AccessKind}
 use Rattle.a64_inst.specs.declared.inst.AccessKind.TheVariants.{Strb, Ldrb, Ldrsb, Strh, Ldrh, Ldrsh, StrW, LdrW, StrX, LdrX}
@@ -22,7 +24,7 @@ use Rattle.a64_inst.specs.declared.inst.Inst.{Inst}
 use Rattle.a64_inst.proofs.MemoryWords.{read_small}
 use Rattle.air_ir.specs.Forms.{IsAddress, IsWord, OnlyZero}
 use Rattle.air_ir.specs.Kinds.{Loads, Stores, extent_bytes, kind_of}
-use Rattle.air_ir.specs.Meaning.{World, meaning, operation}
+use Rattle.air_ir.specs.Meaning.{Over, World, meaning, operation}
 use Rattle.air_ir.specs.Operands.{Holds, Read, and_word, put_all, targets, word_of, words}
 use Rattle.air_ir.specs.Steps.{Goes, State, junk_words, step}
 use Rattle.air_ir.specs.declared.operand.Arg.{Arg}
@@ -34,21 +36,21 @@ use Rattle.air_ir.specs.declared.operand.Role.TheVariants.{Use}
 use Rattle.air_ir.specs.declared.procedure.AirInst.{AirInst}
 use Rattle.air_frame.specs.Frames.{IsFrameOf}
 use Rattle.a64_layout.specs.Machine.{Machine, moved_to}
-use Rattle.a64_emit.specs.Accesses.{access_kind}
-use Rattle.a64_emit.specs.Code.{access_inst, fetch, fetch_address, inst_code, load_code, put_result, result_reg, source_of, store_code}
-use Rattle.a64_emit.specs.Computing.{reg_of}
+use Rattle.a64_code.specs.Accesses.{access_kind}
+use Rattle.a64_emit.specs.Code.{access_inst, arg_at, fetch, fetch_address, fetch_stored, inst_code, load_code, load_inst, put_result, result_reg, source_of, store_code, store_inst}
+use Rattle.a64_code.specs.Computing.{reg_of}
 use Rattle.a64_emit.specs.Related.{IsRelated}
 use Rattle.a64_emit.specs.Setting.{IsSet, Setting, row}
-use Rattle.a64_emit.specs.declared.source.Source.{Source}
-use Rattle.a64_emit.specs.declared.source.Source.TheVariants.{InReg, Constant}
-use Rattle.a64_emit.proofs.AccessesDone.{Fails, Touches, comes_to, does_there, stored_mapped, stored_related}
+use Rattle.a64_code.specs.declared.source.Source.{Source}
+use Rattle.a64_code.specs.declared.source.Source.TheVariants.{InReg, Constant}
+use Rattle.a64_emit.proofs.AccessesDone.{Fails, Touches, Traps, comes_to, does_there, gap_there, stored_mapped, stored_related}
 use Rattle.a64_emit.proofs.AccessesReached.{IsReachable, not_zero, reaches}
 use Rattle.a64_emit.proofs.AccessesSeen.{read_seen}
 use Rattle.a64_emit.proofs.AirSteps.{IsWritten, step_gives, step_lost, step_without, targets_none, targets_result, targets_use, words_none, words_result, words_use}
 use Rattle.a64_emit.proofs.Computes.{Carried, InstRuns, scratch_17}
 use Rattle.a64_emit.proofs.Fetching.{IsPlaceFor, IsUsable, fetch_word, fetched_keeps, finish, result_most}
 use Rattle.a64_emit.proofs.Keeping.{keeps_related, whole_of}
-use Rattle.a64_emit.proofs.Ops.{Gives, read_is}
+use Rattle.a64_code.proofs.Ops.{Gives, read_is}
 use Rattle.a64_emit.proofs.Storing.{with_home}
 use Rattle.a64_emit.proofs.Straight.{Does, DoesOne, does_both, does_one}
 use Rattle.a64_emit.proofs.Words.{put_other, with_memory, with_reg}
@@ -170,37 +172,92 @@ some_there (Some v) e = (v, refl)
 
 -- ---- steps of the run of Air
 
-module _ (start : Start) (i : AirInst) (s : State) (traps : i.traps ≡ false) where
+module _ (start : Start) (i : AirInst) (s : State) where
   load_means : (extent : Extent) (extends : Bool) (width : Width) (at n v : ℕ) → kind_of i.op ≡ Loads extent extends → extent_bytes extent width ≡ n
-      → access start s.world.memory at n false ≡ Done → read_word s.world.memory at n ≡ Some v
+      → access start s.world.memory at n i.traps ≡ Done → read_word s.world.memory at n ≡ Some v
       → meaning start (operation i) ((width, at) ∷ []) s.world ≡ Some (record { results = extended extends n v ∷ []; world = s.world; exit = None })
   unfolding meaning
-  load_means extent extends width at n v kind bytes done there = rw (kind, traps, bytes, done, there) refl
+  load_means extent extends width at n v kind bytes done there = rw (kind, bytes, done, there) refl
 
   load_refused : (extent : Extent) (extends : Bool) (width : Width) (at n : ℕ) (u : Undefined) → kind_of i.op ≡ Loads extent extends
-      → extent_bytes extent width ≡ n → access start s.world.memory at n false ≡ Refused u
+      → extent_bytes extent width ≡ n → access start s.world.memory at n i.traps ≡ Refused u
       → meaning start (operation i) ((width, at) ∷ []) s.world ≡ None
   unfolding meaning
-  load_refused extent extends width at n u kind bytes refused = rw (kind, traps, bytes, refused) refl
+  load_refused extent extends width at n u kind bytes refused = rw (kind, bytes, refused) refl
 
   store_means : (extent : Extent) (width other : Width) (word at n : ℕ) → kind_of i.op ≡ Stores extent → extent_bytes extent width ≡ n
-      → access start s.world.memory at n false ≡ Done
+      → access start s.world.memory at n i.traps ≡ Done
       → meaning start (operation i) ((width, word) ∷ (other, at) ∷ []) s.world
       ≡ Some (record { results = []; world = record s.world { memory = write_word s.world.memory at n word }; exit = None })
   unfolding meaning
-  store_means extent width other word at n kind bytes done = rw (kind, traps, bytes, done) refl
+  store_means extent width other word at n kind bytes done = rw (kind, bytes, done) refl
 
   store_refused : (extent : Extent) (width other : Width) (word at n : ℕ) (u : Undefined) → kind_of i.op ≡ Stores extent
-      → extent_bytes extent width ≡ n → access start s.world.memory at n false ≡ Refused u
+      → extent_bytes extent width ≡ n → access start s.world.memory at n i.traps ≡ Refused u
       → meaning start (operation i) ((width, word) ∷ (other, at) ∷ []) s.world ≡ None
   unfolding meaning
-  store_refused extent width other word at n u kind bytes refused = rw (kind, traps, bytes, refused) refl
+  store_refused extent width other word at n u kind bytes refused = rw (kind, bytes, refused) refl
+
+  load_traps : (extent : Extent) (extends : Bool) (width : Width) (at n : ℕ) → kind_of i.op ≡ Loads extent extends
+      → extent_bytes extent width ≡ n → access start s.world.memory at n i.traps ≡ Trap at
+      → meaning start (operation i) ((width, at) ∷ []) s.world
+      ≡ Some (record { results = []; world = s.world; exit = Some (Over (Trapped i.value at)) })
+  unfolding meaning
+  load_traps extent extends width at n kind bytes trap = rw (kind, bytes, trap) refl
+
+  store_traps : (extent : Extent) (width other : Width) (word at n : ℕ) → kind_of i.op ≡ Stores extent
+      → extent_bytes extent width ≡ n → access start s.world.memory at n i.traps ≡ Trap at
+      → meaning start (operation i) ((width, word) ∷ (other, at) ∷ []) s.world
+      ≡ Some (record { results = []; world = s.world; exit = Some (Over (Trapped i.value at)) })
+  unfolding meaning
+  store_traps extent width other word at n kind bytes trap = rw (kind, bytes, trap) refl
+
+  -- the home that a load writes takes a word of junk
+  step_trapped : (rs : List Read) (home : Home) (width : Width) (at : ℕ) → words s.homes i.operands ≡ Some rs
+      → targets i.operands ≡ record { home = home; width = width } ∷ []
+      → meaning start (operation i) rs s.world ≡ Some (record { results = []; world = s.world; exit = Some (Over (Trapped i.value at)) })
+      → (rest : List ℕ) → step (meaning start) i s (0 ∷ rest) ≡ (Goes (Some (Over (Trapped i.value at))) (with_home s home (Holds width 0)), rest)
+  unfolding step junk_words put_all
+  step_trapped rs home width at reads writes means rest = rw (reads, means, writes) refl
+
+  step_stopped : (rs : List Read) (at : ℕ) → words s.homes i.operands ≡ Some rs → targets i.operands ≡ []
+      → meaning start (operation i) rs s.world ≡ Some (record { results = []; world = s.world; exit = Some (Over (Trapped i.value at)) })
+      → (rest : List ℕ) → step (meaning start) i s rest ≡ (Goes (Some (Over (Trapped i.value at))) s, rest)
+  unfolding step junk_words put_all
+  step_stopped rs at reads writes means rest = rw (reads, means, writes) refl
 
   step_stores : (rs : List Read) (w : World) → words s.homes i.operands ≡ Some rs → targets i.operands ≡ []
       → meaning start (operation i) rs s.world ≡ Some (record { results = []; world = w; exit = None })
       → (junk : List ℕ) → step (meaning start) i s junk ≡ (Goes None (record { homes = s.homes; world = w }), junk)
   unfolding step junk_words put_all
   step_stores rs w reads writes means junk = rw (reads, means, writes) refl
+
+-- an access of bytes one of which isn't there faults
+access_faults : (kind : AccessKind) (rt at : ℕ) (r : Registers) (m : Bytes) → is_mapped m at (machine.access_bytes kind) ≡ false
+    → machine.access_at kind rt at r m ≡ faults at r m
+access_faults kind rt at r m gap =
+    let none = none_of (read_word m at (machine.access_bytes kind)) (is_some-read_word m at (machine.access_bytes kind) ∙ gap) in
+    elim (machine.is_store kind) as (λ b. (if b then machine.store at (machine.access_bytes kind) (read r rt) r m else
+    machine.load kind rt at (read_word m at (machine.access_bytes kind)) r m) ≡ faults at r m) [
+      | true ↦ rw gap refl
+      | false ↦ rw none refl
+    ]
+
+-- an instruction of Air traps: behind some instructions its access faults
+pub record Faulted (z : Setting) (i : AirInst) (s : State) (c : Machine) (front : List Inst) (inst : Inst) : Type 0 where
+  pub traps : i.traps ≡ true
+  pub address : ℕ
+  pub before : Machine
+  pub does : Does z c front before
+  pub related : IsRelated z s before
+  pub junk : List ℕ
+  pub state : State
+  pub world : state.world ≡ s.world
+  pub steps : (rest : List ℕ) → step (meaning z.start) i s (junk ++ rest) ≡ (Goes (Some (Over (Trapped i.value address))) state, rest)
+  pub fault : (pc : ℕ) → step_of inst (moved_to pc before).registers before.memory ≡ faults address (moved_to pc before).registers before.memory
+
+abbrev pub AccessRuns : Setting → AirInst → State → Machine → List Inst → Inst → Type 0
+AccessRuns z i s c front inst = InstRuns z i s c ⊎ Faulted z i s c front inst
 
 module _ (z : Setting) (set : IsSet z) (serves : IsFrameOf z.procedure z.frame) where
   -- the machine reads the word that the run of Air reads
@@ -247,33 +304,64 @@ module _ (z : Setting) (set : IsSet z) (serves : IsFrameOf z.procedure z.frame) 
         world = (refl, refl);
       }
 
+  load_faults : (i : AirInst) (s : State) (c : Machine) (a d : Operand) (home : Home) (kind : AccessKind) (at : ℕ) → i.operands ≡ a ∷ d ∷ []
+      → access_kind i.op a.width ≡ kind → IsWritten d home → IsRelated z s c → IsReachable z a.arg → IsAddress (machine.access_bytes kind) a.arg
+      → word_of s.homes a.width a.arg ≡ Some at → i.traps ≡ true → touches_private z.start at (machine.access_bytes kind) ≡ false
+      → is_mapped s.world.memory at (machine.access_bytes kind) ≡ false
+      → ((rest : List ℕ) → step (meaning z.start) i s (0 ∷ rest) ≡ (Goes (Some (Over (Trapped i.value at))) (with_home s home (Holds d.width 0)), rest))
+      → Faulted z i s c (fetch_address z.frame (arg_at i.operands 0)) (load_inst i.op i.operands)
+  load_faults i s c a d home kind at operands same is rel reachable fits reads traps free gap steps =
+      let r = reaches z set serves s c a.arg a.width at rel reachable reads in
+      let m : Machine = r.after in
+      let n : ℕ = machine.access_bytes kind in
+      subst (λ os. Faulted z i s c (fetch_address z.frame (arg_at os 0)) (load_inst i.op os)) (sym operands)
+      (subst (λ k. Faulted z i s c (fetch_address z.frame a.arg) (access_inst k (result_reg d.arg) a.arg)) (sym same) (record {
+        traps = traps;
+        address = at;
+        before = m;
+        does = r.does;
+        related = r.related;
+        junk = 0 ∷ [];
+        state = with_home s home (Holds d.width 0);
+        world = refl;
+        steps = steps;
+        fault = λ pc. (r.accesses (moved_to pc m).registers (λ q other. refl) kind (result_reg d.arg) fits).does m.memory
+            ∙ access_faults kind (result_reg d.arg) at (moved_to pc m).registers m.memory (gap_there z set serves s m r.related at n free gap);
+      }))
+
   pub load_runs : (i : AirInst) (s : State) (c : Machine) (a d : Operand) (home : Home) (kind : AccessKind) (extent : Extent) (extends : Bool)
       → i.operands ≡ a ∷ d ∷ []
-      → inst_code z.frame i.op (a ∷ d ∷ []) ≡ load_code z.frame i.op (a ∷ d ∷ []) → access_kind i.op a.width ≡ kind → i.traps ≡ false
+      → inst_code z.frame i.op (a ∷ d ∷ []) ≡ load_code z.frame i.op (a ∷ d ∷ []) → access_kind i.op a.width ≡ kind
       → kind_of i.op ≡ Loads extent extends → IsLoad kind extent extends a.width → a.role ≡ Use
-      → IsWritten d home → IsRelated z s c → IsReachable z a.arg → IsAddress (machine.access_bytes kind) a.arg → IsPlaceFor z home → InstRuns z i s c
-  load_runs i s c a d home kind extent extends operands code same traps loads load role is rel reachable fits may =
+      → IsWritten d home → IsRelated z s c → IsReachable z a.arg → IsAddress (machine.access_bytes kind) a.arg → IsPlaceFor z home
+      → AccessRuns z i s c (fetch_address z.frame (arg_at i.operands 0)) (load_inst i.op i.operands)
+  load_runs i s c a d home kind extent extends operands code same loads load role is rel reachable fits may =
       let n : ℕ = machine.access_bytes kind in
+      let Runs : Type 0 = AccessRuns z i s c (fetch_address z.frame (arg_at i.operands 0)) (load_inst i.op i.operands) in
       let reads : words s.homes i.operands ≡ and_word a.width (word_of s.homes a.width a.arg) (Some []) =
       ap (words s.homes) operands ∙ words_use s.homes a (d ∷ []) role
       ∙ ap (and_word a.width (word_of s.homes a.width a.arg)) (words_result s.homes d home is) in
       let writes = ap targets operands ∙ targets_use a (d ∷ []) role ∙ targets_result d home is in
-      elim (word_of s.homes a.width a.arg) as (λ o. word_of s.homes a.width a.arg ≡ o → InstRuns z i s c) [
-        | None ↦ λ e. inl (step_lost z.start i s (reads ∙ ap (λ o. and_word a.width o (Some [])) e))
+      elim (word_of s.homes a.width a.arg) as (λ o. word_of s.homes a.width a.arg ≡ o → Runs) [
+        | None ↦ λ e. inl (inl (step_lost z.start i s (reads ∙ ap (λ o. and_word a.width o (Some [])) e)))
         | Some at ↦ λ e.
             let read = reads ∙ ap (λ o. and_word a.width o (Some [])) e in
-            elim (comes_to z.start s.world.memory at n) as (λ x. InstRuns z i s c) [
-              | Fails u refused ↦ inl (step_without z.start i s ((a.width, at) ∷ []) read
-                  (load_refused z.start i s traps extent extends a.width at n u loads load.bytes refused))
+            elim (comes_to z.start s.world.memory at n i.traps) as (λ x. Runs) [
+              | Fails u refused ↦ inl (inl (step_without z.start i s ((a.width, at) ∷ []) read
+                  (load_refused z.start i s extent extends a.width at n u loads load.bytes refused)))
               | Touches done mapped ↦
                   let v = some_there (read_word s.world.memory at n) (is_some-read_word s.world.memory at n ∙ mapped) in
                   let w : ℕ = extended extends n v.0 in
                   let small : v.0 < 2 ^ (8 * n) = read_small c.memory at n v.0 rel.frame.bytes (same_word s c at n v.0 rel mapped v.1) in
                   let loaded = load.loaded v.0 small in
-                  inr (load_ends i s c a d home kind at v.0 w operands code same is rel reachable fits may e load.load mapped v.1 loaded
+                  inl (inr (load_ends i s c a d home kind at v.0 w operands code same is rel reachable fits may e load.load mapped v.1 loaded
                   (subst (λ x. x < 2 ^ 64) loaded (load.small v.0 small))
                   (step_gives z.start i s ((a.width, at) ∷ []) home d.width w read writes
-                  (load_means z.start i s traps extent extends a.width at n v.0 loads load.bytes done v.1)))
+                  (load_means z.start i s extent extends a.width at n v.0 loads load.bytes done v.1))))
+              | Traps trap traps free gap ↦
+                  inr (load_faults i s c a d home kind at operands same is rel reachable fits e traps free gap
+                  (step_trapped z.start i s ((a.width, at) ∷ []) home d.width at read writes
+                  (load_traps z.start i s extent extends a.width at n loads load.bytes trap)))
             ]
       ] refl
 
@@ -316,13 +404,43 @@ module _ (z : Setting) (set : IsSet z) (serves : IsFrameOf z.procedure z.frame) 
         world = (refl, refl);
       }
 
+  store_faults : (i : AirInst) (s : State) (c : Machine) (a b : Operand) (kind : AccessKind) (word at : ℕ) → i.operands ≡ a ∷ b ∷ []
+      → access_kind i.op a.width ≡ kind → IsRelated z s c → IsUsable z a.arg → IsReachable z b.arg → IsAddress (machine.access_bytes kind) b.arg
+      → word_of s.homes a.width a.arg ≡ Some word → word_of s.homes b.width b.arg ≡ Some at
+      → i.traps ≡ true → touches_private z.start at (machine.access_bytes kind) ≡ false
+      → is_mapped s.world.memory at (machine.access_bytes kind) ≡ false
+      → ((rest : List ℕ) → step (meaning z.start) i s rest ≡ (Goes (Some (Over (Trapped i.value at))) s, rest))
+      → Faulted z i s c (fetch_stored z.frame i.operands) (store_inst i.op i.operands)
+  store_faults i s c a b kind word at operands same rel usable reachable fits reads_a reads_b traps free gap steps =
+      let n : ℕ = machine.access_bytes kind in
+      let r = reaches z set serves s c b.arg b.width at rel reachable reads_b in
+      let second = fetch_word z set serves s r.after 17 a.arg a.width word r.related usable scratch_17 reads_a in
+      let m : Machine = second.0.after in
+      let rel_m = keeps_related z s r.after m (fetched_keeps z r.after (fetch z.frame 17 a.arg) 17 scratch_17 second.0) r.related in
+      let reg : ℕ = reg_of (source_of 17 a.arg) in
+      subst (λ os. Faulted z i s c (fetch_stored z.frame os) (store_inst i.op os)) (sym operands)
+      (subst (λ k. Faulted z i s c (fetch_address z.frame b.arg ++ fetch z.frame 17 a.arg) (access_inst k reg b.arg)) (sym same) (record {
+        traps = traps;
+        address = at;
+        before = m;
+        does = does_both z c r.after m (fetch_address z.frame b.arg) (fetch z.frame 17 a.arg) r.does second.0.does;
+        related = rel_m;
+        junk = [];
+        state = s;
+        world = refl;
+        steps = steps;
+        fault = λ pc. (r.accesses (moved_to pc m).registers (λ q other. second.0.others q other) kind reg fits).does m.memory
+            ∙ access_faults kind reg at (moved_to pc m).registers m.memory (gap_there z set serves s m rel_m at n free gap);
+      }))
+
   pub store_runs : (i : AirInst) (s : State) (c : Machine) (a b : Operand) (kind : AccessKind) (extent : Extent) → i.operands ≡ a ∷ b ∷ []
-      → inst_code z.frame i.op (a ∷ b ∷ []) ≡ store_code z.frame i.op (a ∷ b ∷ []) → access_kind i.op a.width ≡ kind → i.traps ≡ false
+      → inst_code z.frame i.op (a ∷ b ∷ []) ≡ store_code z.frame i.op (a ∷ b ∷ []) → access_kind i.op a.width ≡ kind
       → kind_of i.op ≡ Stores extent → IsStore kind extent a.width → a.role ≡ Use → b.role ≡ Use
       → IsRelated z s c → IsUsable z a.arg → IsWord OnlyZero a.width a.arg → IsReachable z b.arg → IsAddress (machine.access_bytes kind) b.arg
-      → InstRuns z i s c
-  store_runs i s c a b kind extent operands code same traps stores store role_a role_b rel usable is reachable fits =
+      → AccessRuns z i s c (fetch_stored z.frame i.operands) (store_inst i.op i.operands)
+  store_runs i s c a b kind extent operands code same stores store role_a role_b rel usable is reachable fits =
       let n : ℕ = machine.access_bytes kind in
+      let Runs : Type 0 = AccessRuns z i s c (fetch_stored z.frame i.operands) (store_inst i.op i.operands) in
       let All : Option ℕ → Option ℕ → Option (List Read) = λ A B. and_word a.width A (and_word b.width B (Some [])) in
       let A : Option ℕ = word_of s.homes a.width a.arg in
       let B : Option ℕ = word_of s.homes b.width b.arg in
@@ -330,20 +448,22 @@ module _ (z : Setting) (set : IsSet z) (serves : IsFrameOf z.procedure z.frame) 
       ap (words s.homes) operands ∙ words_use s.homes a (b ∷ []) role_a
       ∙ ap (and_word a.width A) (words_use s.homes b [] role_b ∙ ap (and_word b.width B) (words_none s.homes)) in
       let writes = ap targets operands ∙ targets_use a (b ∷ []) role_a ∙ targets_use b [] role_b ∙ targets_none in
-      elim (word_of s.homes a.width a.arg) as (λ o. word_of s.homes a.width a.arg ≡ o → InstRuns z i s c) [
-        | None ↦ λ e. inl (step_lost z.start i s (reads ∙ ap (λ o. All o B) e))
+      elim (word_of s.homes a.width a.arg) as (λ o. word_of s.homes a.width a.arg ≡ o → Runs) [
+        | None ↦ λ e. inl (inl (step_lost z.start i s (reads ∙ ap (λ o. All o B) e)))
         | Some word ↦ λ e.
-            elim (word_of s.homes b.width b.arg) as (λ o. word_of s.homes b.width b.arg ≡ o → InstRuns z i s c) [
-              | None ↦ λ f. inl (step_lost z.start i s (reads ∙ ap (λ o. All o B) e ∙ ap (λ o. All (Some word) o) f))
+            elim (word_of s.homes b.width b.arg) as (λ o. word_of s.homes b.width b.arg ≡ o → Runs) [
+              | None ↦ λ f. inl (inl (step_lost z.start i s (reads ∙ ap (λ o. All o B) e ∙ ap (λ o. All (Some word) o) f)))
               | Some at ↦ λ f.
                   let read = reads ∙ ap (λ o. All o B) e ∙ ap (λ o. All (Some word) o) f in
                   let rs : List Read = (a.width, word) ∷ (b.width, at) ∷ [] in
-                  elim (comes_to z.start s.world.memory at n) as (λ x. InstRuns z i s c) [
-                    | Fails u refused ↦ inl (step_without z.start i s rs read
-                        (store_refused z.start i s traps extent a.width b.width word at n u stores store.bytes refused))
-                    | Touches done mapped ↦ inr (store_ends i s c a b kind extent word at operands code same store rel usable is reachable fits e f mapped
-                        (step_stores z.start i s traps rs (record s.world { memory = write_word s.world.memory at n word }) read writes
-                        (store_means z.start i s traps extent a.width b.width word at n stores store.bytes done)))
+                  elim (comes_to z.start s.world.memory at n i.traps) as (λ x. Runs) [
+                    | Fails u refused ↦ inl (inl (step_without z.start i s rs read
+                        (store_refused z.start i s extent a.width b.width word at n u stores store.bytes refused)))
+                    | Touches done mapped ↦ inl (inr (store_ends i s c a b kind extent word at operands code same store rel usable is reachable fits e f mapped
+                        (step_stores z.start i s rs (record s.world { memory = write_word s.world.memory at n word }) read writes
+                        (store_means z.start i s extent a.width b.width word at n stores store.bytes done))))
+                    | Traps trap traps free gap ↦ inr (store_faults i s c a b kind word at operands same rel usable reachable fits e f traps free gap
+                        (step_stopped z.start i s rs at read writes (store_traps z.start i s extent a.width b.width word at n stores store.bytes trap)))
                   ]
             ] refl
       ] refl

@@ -15,9 +15,9 @@ use Rattle.air_ir.specs.declared.operand.Arg.{Arg}
 use Rattle.air_ir.specs.declared.operand.Arg.TheVariants.{At, Imm, Addr, Index, FrameSlot}
 use Rattle.air_ir.specs.declared.operand.Home.{Home}
 use Rattle.air_ir.specs.declared.operand.Home.TheVariants.{Reg, Spill, Tmp}
-use Rattle.a64_emit.specs.Accesses.{offset_access}
+use Rattle.a64_code.specs.Accesses.{offset_access}
 use Rattle.a64_emit.specs.Code.{access_inst, source_of}
-use Rattle.a64_emit.specs.Computing.{reg_of}
+use Rattle.a64_code.specs.Computing.{reg_of}
 use Rattle.a64_emit.specs.Fitting.{IsReached}
 
 le_of : (a b : ℕ) → nat_le a b ≡ true → a ≤ b

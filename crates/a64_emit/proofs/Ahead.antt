@@ -20,8 +20,8 @@ use Rattle.a64_layout.specs.Branch.{size_in}
 use Rattle.a64_layout.specs.Layout.{Set, place}
 use Rattle.a64_layout.proofs.Least.{place-next, place_mono}
 use Rattle.a64_emit.specs.Code.{arg_at, branch_item, branches, compared, fetch, fetch_tested, inst_items, source_at, width_at}
-use Rattle.a64_emit.specs.Computing.{reg_of}
-use Rattle.a64_emit.specs.Places.{epilogue, leave, plains, restores}
+use Rattle.a64_code.specs.Computing.{reg_of}
+use Rattle.a64_code.specs.Places.{epilogue, leave, plains, restores}
 use Rattle.a64_emit.specs.Switched.{case_items, cases_in_order, compare_word, jump_to, search_items, switch_items}
 use Rattle.a64_emit.specs.Trees.{Leaf, Node, Tree, node_count, tree}
 use Rattle.a64_emit.specs.declared.case.Case.{Case}
@@ -125,20 +125,20 @@ unfolding epilogue
 epilogue_some f = let total = length-append (restores f f.saved) leave in omega arith
 
 -- what ends the last block has words: its targets are blocks before the next one
-pub terminal_words : (f : Frame) (next label : ℕ) (targets : List ℕ) (o : AirOp) (os : List Operand) → target_count o ≡ Some (length targets)
-    → ((j : ℕ) → j < length targets → get_or targets j 0 < next) → HasWords (inst_items f next label targets o os)
+pub terminal_words : (f : Frame) (next label mark : ℕ) (targets : List ℕ) (traps : Bool) (o : AirOp) (os : List Operand) → target_count o ≡ Some (length targets)
+    → ((j : ℕ) → j < length targets → get_or targets j 0 < next) → HasWords (inst_items f next label mark targets traps o os)
 unfolding inst_items
-terminal_words f next label targets (op.BranchIf test) os ends below =
+terminal_words f next label mark targets traps (op.BranchIf test) os ends below =
     words_right (plains (fetch_tested f test os ++ compared test os))
     (branches test (width_at os 0) (reg_of (source_at os 0 15)) next (get_or targets 0 0) (get_or targets 1 0))
     (branches_words test (width_at os 0) (reg_of (source_at os 0 15)) next (get_or targets 0 0) (get_or targets 1 0))
-terminal_words f next label targets op.Jump os ends below =
+terminal_words f next label mark targets traps op.Jump os ends below =
     let one : 1 ≡ length targets = some_same 1 (length targets) ends in
     jump_words next (get_or targets 0 0) (below 0 (omega arith))
-terminal_words f next label targets (op.Switch cases) os ends below =
+terminal_words f next label mark targets traps (op.Switch cases) os ends below =
     let count : suc (length cases) ≡ length targets = some_same (suc (length cases)) (length targets) ends in
     words_right (plains (fetch f 15 (arg_at os 0))) (switch_items (width_at os 0) (reg_of (source_at os 0 15)) next label cases targets)
     (switch_words (width_at os 0) (reg_of (source_at os 0 15)) next label cases targets (sym count) below)
-terminal_words f next label targets op.Return os ends below = plain_words (epilogue f) (epilogue_some f)
-terminal_words f next label targets op.Oops os ends below = words_first _ [] (λ long. omega arith)
-terminal_words f next label targets o os ends below = absurd (none_some (length targets) ends)
+terminal_words f next label mark targets traps op.Return os ends below = plain_words (epilogue f) (epilogue_some f)
+terminal_words f next label mark targets traps op.Oops os ends below = words_first _ [] (λ long. omega arith)
+terminal_words f next label mark targets traps o os ends below = absurd (none_some (length targets) ends)

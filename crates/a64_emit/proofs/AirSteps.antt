@@ -48,7 +48,7 @@ pub targets_none : targets [] ≡ []
 unfolding targets
 targets_none = refl
 
-home_there : (arg : Arg) → IsHome arg → (home : Home) × (arg ≡ At home)
+pub home_there : (arg : Arg) → IsHome arg → (home : Home) × (arg ≡ At home)
 home_there (At home) h = (home, refl)
 home_there (Imm word) h = absurd h
 home_there (Addr base offset) h = absurd h

@@ -7,7 +7,7 @@ use Rattle.a64_inst.specs.declared.item.Item.TheVariants.{Label}
 use Rattle.air_ir.specs.declared.frame.Frame.{Frame}
 use Rattle.air_ir.specs.declared.procedure.AirBlock.{AirBlock}
 use Rattle.air_ir.specs.declared.procedure.AirInst.{AirInst}
-use Rattle.a64_emit.specs.Code.{block_labels, blocks_items, inst_items, insts_items, own_labels}
+use Rattle.a64_emit.specs.Code.{block_labels, block_marks, blocks_items, inst_items, insts_items, labels_of, marks_of}
 
 dropped : {X : Type 0} (xs : List X) (k : ℕ) (x : X) → slice_get xs k ≡ Some x → drop k xs ≡ x ∷ drop (suc k) xs
 dropped [] k x there = absurd cc
@@ -23,59 +23,46 @@ none_left (a ∷ xs) (suc k) le = none_left xs k (omega arith)
 one_more : (k : ℕ) → suc k ≡ k + 1
 one_more k = omega arith
 
-pub insts_next : (f : Frame) (next label : ℕ) (targets : List ℕ) (insts : List AirInst) (k : ℕ) (i : AirInst) (code after whole : List Item)
-    → code ++ insts_items f next label targets (drop k insts) ≡ whole → slice_get insts k ≡ Some i
-    → after ≡ code ++ inst_items f next label targets i.op i.operands
-    → after ++ insts_items f next label targets (drop (k + 1) insts) ≡ whole
+pub insts_next : (f : Frame) (next label mark : ℕ) (targets : List ℕ) (insts : List AirInst) (k : ℕ) (i : AirInst) (code after whole : List Item)
+    → code ++ insts_items f next label mark targets (drop k insts) ≡ whole → slice_get insts k ≡ Some i
+    → after ≡ code ++ inst_items f next label mark targets i.traps i.op i.operands
+    → after ++ insts_items f next (label + labels_of i) (mark + marks_of i) targets (drop (k + 1) insts) ≡ whole
 unfolding insts_items
-insts_next f next label targets insts k i code after whole left there pushed =
-    let rest : List Item = insts_items f next label targets (drop (suc k) insts) in
-    ap (λ n. after ++ insts_items f next label targets (drop n insts)) (sym (one_more k)) ∙ ap (λ (xs : List Item). xs ++ rest) pushed
-    ∙ append_assoc code (inst_items f next label targets i.op i.operands) rest
-    ∙ ap (λ (xs : List AirInst). code ++ insts_items f next label targets xs) (sym (dropped insts k i there)) ∙ left
+insts_next f next label mark targets insts k i code after whole left there pushed =
+    let rest : List Item = insts_items f next (label + labels_of i) (mark + marks_of i) targets (drop (suc k) insts) in
+    ap (λ n. after ++ insts_items f next (label + labels_of i) (mark + marks_of i) targets (drop n insts)) (sym (one_more k))
+    ∙ ap (λ (xs : List Item). xs ++ rest) pushed
+    ∙ append_assoc code (inst_items f next label mark targets i.traps i.op i.operands) rest
+    ∙ ap (λ (xs : List AirInst). code ++ insts_items f next label mark targets xs) (sym (dropped insts k i there)) ∙ left
 
-pub insts_done : (f : Frame) (next label : ℕ) (targets : List ℕ) (insts : List AirInst) (k : ℕ) (code whole : List Item)
-    → code ++ insts_items f next label targets (drop k insts) ≡ whole → length insts ≤ k → code ≡ whole
+pub insts_done : (f : Frame) (next label mark : ℕ) (targets : List ℕ) (insts : List AirInst) (k : ℕ) (code whole : List Item)
+    → code ++ insts_items f next label mark targets (drop k insts) ≡ whole → length insts ≤ k → code ≡ whole
 unfolding insts_items
-insts_done f next label targets insts k code whole left le =
-    sym (append-nil code) ∙ ap (λ (xs : List AirInst). code ++ insts_items f next label targets xs) (sym (none_left insts k le)) ∙ left
+insts_done f next label mark targets insts k code whole left le =
+    sym (append-nil code) ∙ ap (λ (xs : List AirInst). code ++ insts_items f next label mark targets xs) (sym (none_left insts k le)) ∙ left
 
-pub blocks_next : (f : Frame) (blocks : List AirBlock) (b label : ℕ) (block : AirBlock) (code between after whole : List Item)
-    → code ++ blocks_items f b label (drop b blocks) ≡ whole → slice_get blocks b ≡ Some block → between ≡ code ++ Label b ∷ []
-    → after ≡ between ++ insts_items f (b + 1) label block.targets block.insts
-    → after ++ blocks_items f (b + 1) (label + block_labels block) (drop (b + 1) blocks) ≡ whole
+pub blocks_next : (f : Frame) (blocks : List AirBlock) (b label mark : ℕ) (block : AirBlock) (code between after whole : List Item)
+    → code ++ blocks_items f b label mark (drop b blocks) ≡ whole → slice_get blocks b ≡ Some block → between ≡ code ++ Label b ∷ []
+    → after ≡ between ++ insts_items f (b + 1) label mark block.targets block.insts
+    → after ++ blocks_items f (b + 1) (label + block_labels block) (mark + block_marks block) (drop (b + 1) blocks) ≡ whole
 unfolding blocks_items
-blocks_next f blocks b label block code between after whole left there labelled pushed =
-    let insts : List Item = insts_items f (b + 1) label block.targets block.insts in
-    let rest : List Item = blocks_items f (b + 1) (label + block_labels block) (drop (suc b) blocks) in
-    ap (λ n. after ++ blocks_items f (b + 1) (label + block_labels block) (drop n blocks)) (sym (one_more b))
+blocks_next f blocks b label mark block code between after whole left there labelled pushed =
+    let insts : List Item = insts_items f (b + 1) label mark block.targets block.insts in
+    let rest : List Item = blocks_items f (b + 1) (label + block_labels block) (mark + block_marks block) (drop (suc b) blocks) in
+    ap (λ n. after ++ blocks_items f (b + 1) (label + block_labels block) (mark + block_marks block) (drop n blocks)) (sym (one_more b))
     ∙ ap (λ (xs : List Item). xs ++ rest) (pushed ∙ ap (λ (xs : List Item). xs ++ insts) labelled)
     ∙ append_assoc (code ++ Label b ∷ []) insts rest ∙ append_assoc code (Label b ∷ []) (insts ++ rest)
-    ∙ ap (λ (xs : List AirBlock). code ++ blocks_items f b label xs) (sym (dropped blocks b block there)) ∙ left
+    ∙ ap (λ (xs : List AirBlock). code ++ blocks_items f b label mark xs) (sym (dropped blocks b block there)) ∙ left
 
-pub blocks_done : (f : Frame) (blocks : List AirBlock) (b label : ℕ) (code whole : List Item)
-    → code ++ blocks_items f b label (drop b blocks) ≡ whole → length blocks ≤ b → code ≡ whole
+pub blocks_done : (f : Frame) (blocks : List AirBlock) (b label mark : ℕ) (code whole : List Item)
+    → code ++ blocks_items f b label mark (drop b blocks) ≡ whole → length blocks ≤ b → code ≡ whole
 unfolding blocks_items
-blocks_done f blocks b label code whole left le =
-    sym (append-nil code) ∙ ap (λ (xs : List AirBlock). code ++ blocks_items f b label xs) (sym (none_left blocks b le)) ∙ left
+blocks_done f blocks b label mark code whole left le =
+    sym (append-nil code) ∙ ap (λ (xs : List AirBlock). code ++ blocks_items f b label mark xs) (sym (none_left blocks b le)) ∙ left
 
--- the labels of the blocks that are left
-pub labels_left : (blocks : List AirBlock) (b : ℕ) (block : AirBlock) → slice_get blocks b ≡ Some block
-    → sum_by block_labels (drop b blocks) ≡ block_labels block + sum_by block_labels (drop (b + 1) blocks)
-labels_left blocks b block there =
-    ap (sum_by block_labels) (dropped blocks b block there) ∙ sum_by-cons block_labels block (drop (suc b) blocks)
-    ∙ ap (λ n. block_labels block + sum_by block_labels (drop n blocks)) (one_more b)
-
--- the labels of an instruction of a block
-pub labels_within : (insts : List AirInst) (k : ℕ) (i : AirInst) → slice_get insts k ≡ Some i
-    → own_labels i.op ≤ sum_by (λ (i : AirInst). own_labels i.op) insts
-labels_within [] k i there = absurd cc
-labels_within (a ∷ insts) zero i there =
-    let same : a ≡ i = cc in
-    let here : own_labels a.op ≡ own_labels i.op = ap (λ (j : AirInst). own_labels j.op) same in
-    let sum = sum_by-cons (λ (i : AirInst). own_labels i.op) a insts in
-    omega arith
-labels_within (a ∷ insts) (suc k) i there =
-    let sum = sum_by-cons (λ (i : AirInst). own_labels i.op) a insts in
-    let more = labels_within insts k i there in
-    omega arith
+-- what is counted of those that are left
+pub sum_left : {X : Type 0} (count : X → ℕ) (xs : List X) (b : ℕ) (x : X) → slice_get xs b ≡ Some x
+    → sum_by count (drop b xs) ≡ count x + sum_by count (drop (b + 1) xs)
+sum_left count xs b x there =
+    ap (sum_by count) (dropped xs b x there) ∙ sum_by-cons count x (drop (suc b) xs)
+    ∙ ap (λ n. count x + sum_by count (drop n xs)) (one_more b)

@@ -36,26 +36,26 @@ use Rattle.air_frame.specs.Frames.{IsFrameOf}
 use Rattle.a64_layout.specs.Branch.{opposite_cond, size_in}
 use Rattle.a64_layout.specs.Layout.{place}
 use Rattle.a64_layout.specs.Machine.{Machine, moved_to}
-use Rattle.a64_layout.specs.Run as run
 use Rattle.a64_emit.specs.Switched.{jump_to}
 use Rattle.a64_emit.specs.Code.{branch_code, branch_item, branches, compared, fetch, fetch_tested, source_at, source_of, width_at}
-use Rattle.a64_emit.specs.Computing.{reg_of, testing}
-use Rattle.a64_emit.specs.Fitting.{IsSummed}
-use Rattle.a64_emit.specs.Places.{plains}
+use Rattle.a64_code.specs.Computing.{reg_of, testing}
+use Rattle.a64_code.specs.Fitting.{IsSummed}
+use Rattle.a64_emit.specs.Emitted.{log_of}
+use Rattle.a64_code.specs.Places.{plains}
 use Rattle.a64_emit.specs.Related.{IsRelated}
 use Rattle.a64_emit.specs.Setting.{IsSet, Setting}
-use Rattle.a64_emit.specs.declared.source.Source.{Source}
+use Rattle.a64_code.specs.declared.source.Source.{Source}
 use Rattle.a64_emit.proofs.AirSteps.{step_lost, targets_use, words_use}
 use Rattle.a64_emit.proofs.Branching.{Goes, NextAt, alike_goes, alike_related, branches_reach, words_there}
 use Rattle.a64_emit.proofs.Computes.{does_more, scratch_15, scratch_16, source_most}
 use Rattle.a64_emit.proofs.Endings.{Ends, among_plains, leaves_to}
 use Rattle.a64_emit.proofs.Fetching.{IsUsable, fetch_word, fetched_keeps, gives_same, source_differs}
 use Rattle.a64_emit.proofs.Keeping.{keeps_related, whole_of}
-use Rattle.a64_emit.proofs.Ops.{Gives, IsRegister, low_is}
+use Rattle.a64_code.proofs.Ops.{Gives, IsRegister, low_is}
 use Rattle.a64_emit.proofs.Positions.{Among, among_first, among_rest, length_plains}
 use Rattle.a64_emit.proofs.Shapes.{testing_plain}
 use Rattle.a64_emit.proofs.Straight.{Does, DoesOne, Runs, does_both, does_one, leads_on, straight_runs}
-use Rattle.a64_emit.proofs.Tests.{passes, test_flags, testing_is, with_flags}
+use Rattle.a64_code.proofs.Tests.{passes, test_flags, testing_is, with_flags}
 use Rattle.a64_emit.proofs.Words.{does_safely, touches_nothing}
 
 -- ---- where branches go
@@ -400,7 +400,7 @@ chosen_target : (targets_of : List ℕ) (p : Bool) → length targets_of ≡ 2
 chosen_target targets_of true two = slice_get-get_or targets_of 0 0 (omega arith)
 chosen_target targets_of false two = slice_get-get_or targets_of 1 0 (omega arith)
 
-module _ (z : Setting) (set : IsSet z) (serves : IsFrameOf z.procedure z.frame) (unmarked : (k : ℕ) → run.mark_before z.code k ≡ None) where
+module _ (z : Setting) (set : IsSet z) (serves : IsFrameOf z.procedure z.frame) where
   pub branch_ends : (i : AirInst) (s : State) (targets_of : List ℕ) (next k : ℕ) (c : Machine) (t : Test) (width : Width) → i.op ≡ op.BranchIf t
       → AllFit (test_takes t width) i.operands → AllUsable z i.operands → length targets_of ≡ 2
       → get_or targets_of 0 0 < length z.procedure.blocks → get_or targets_of 1 0 < length z.procedure.blocks
@@ -421,18 +421,18 @@ module _ (z : Setting) (set : IsSet z) (serves : IsFrameOf z.procedure z.frame) 
       ⊎_elim
       (λ lost. record { next = air.Lost; is = λ junk. ap (air.left targets_of) (step_lost z.start i s lost junk); reaches = tt })
       (λ (q : Asked z i s c t).
-      let runs : Runs z k c (length insts) q.readied.after = straight_runs z set unmarked k c q.readied.after insts q.readied.does
+      let runs : Runs z k c (length insts) q.readied.after = straight_runs z set k c q.readied.after insts q.readied.does
       (among_plains z.code k insts (among_first z.code k (plains insts) items among))
       (branches_words z t (width_at i.operands 0) reg (k + length insts) next first second behind) in
       let small = runs.small rel.frame.words.pc in
       record {
         next = air.At (if q.passes then first else second) s;
-        is = leaves_to z set serves unmarked i s targets_of q.rs (if q.passes then 0 else 1) (if q.passes then first else second) q.reads q.writes
+        is = leaves_to z set serves i s targets_of q.rs (if q.passes then 0 else 1) (if q.passes then first else second) q.reads q.writes
             q.leaves (chosen_target targets_of q.passes two);
-        reaches = leads_on z s.world (air.At (if q.passes then first else second) s) k (length insts) c q.readied.after runs
-            (branches_reach z set serves s.world s t (width_at i.operands 0) reg (k + length insts) next first second runs.last q.passes within_then
+        reaches = leads_on z (log_of s.world) (air.At (if q.passes then first else second) s) k (length insts) c q.readied.after runs
+            (branches_reach z set serves (log_of s.world) s t (width_at i.operands 0) reg (k + length insts) next first second runs.last q.passes within_then
             within_else behind next_at
-            (alike_goes q.readied.after runs.last t (width_at i.operands 0) reg q.passes runs.alike q.readied.goes) (refl, refl)
+            (alike_goes q.readied.after runs.last t (width_at i.operands 0) reg q.passes runs.alike q.readied.goes) refl
             (alike_related z s q.readied.after runs.last runs.alike small q.readied.related));
       })
       (asked z set serves i s c t width is fits usable rel)

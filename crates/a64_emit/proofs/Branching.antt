@@ -8,7 +8,6 @@ use Rattle.a64_inst.specs.Values.{holds}
 use Rattle.a64_inst.specs.declared.item.Item.{Item}
 use Rattle.a64_inst.specs.declared.item.Item.TheVariants.{Jump, Label}
 use Rattle.air_ir.specs.Blocks as air
-use Rattle.air_ir.specs.Meaning.{World}
 use Rattle.air_ir.specs.Steps.{State}
 use Rattle.air_ir.specs.declared.op.Test.{Test}
 use Rattle.air_ir.specs.declared.op.Test.TheVariants.{Compare, NonZero, Bit}
@@ -22,7 +21,7 @@ use Rattle.a64_layout.specs.declared.branch.Test.TheVariants as on
 use Rattle.a64_layout.proofs.Least.{place-next, place_mono}
 use Rattle.a64_emit.specs.Code.{branch_item, branches}
 use Rattle.a64_emit.specs.Switched.{jump_to}
-use Rattle.a64_emit.specs.Emitted.{IsProperAt, IsSafeItem}
+use Rattle.a64_emit.specs.Emitted.{IsProperAt, IsSafeItem, Log, log_of}
 use Rattle.a64_emit.specs.Related.{IsRelated}
 use Rattle.a64_emit.specs.Setting.{IsSet, Setting, address_of, meaning_of}
 use Rattle.a64_emit.proofs.Keeping.{keeps_related, whole_of}
@@ -85,8 +84,8 @@ abbrev pub NextAt : Setting → ℕ → ℕ → Type 0
 NextAt z next k = next < length z.procedure.blocks → (position_of z.code next ≡ k) × (slice_get z.code k ≡ Some (Label next))
 
 -- a state to which a terminal leads: nothing was seen and answered in it
-abbrev pub Since : World → State → Type 0
-Since from s = (s.world.events ≡ from.events) × (s.world.answers ≡ from.answers)
+abbrev pub Since : Log → State → Type 0
+Since log s = log_of s.world ≡ log
 
 module _ (z : Setting) (set : IsSet z) (serves : IsFrameOf z.procedure z.frame) where
   pub item_proper : (s : State) (k : ℕ) (c : Machine) (item : Item) → slice_get z.code k ≡ Some item → IsSafeItem z (moved_to (address_of z k) c) (Some item)
@@ -100,37 +99,37 @@ module _ (z : Setting) (set : IsSet z) (serves : IsFrameOf z.procedure z.frame) 
       }
 
   -- one item leads to the label of a block
-  pub reaches_step : (from : World) (s : State) (k label : ℕ) (c : Machine) → IsProperAt z k c
-      → item_step (meaning_of z) z.code (At k c) ≡ At (position_of z.code label) c → Since from s → IsRelated z s c → Reaches z from (air.At label s) k c
-  reaches_step from s k label c proper step since rel =
-      reaches_here z from (air.At label s) k c proper
-      (1, omega arith, c, iterate-one (item_step (meaning_of z) z.code) (At k c) ∙ step, since.0, since.1, rel)
+  pub reaches_step : (log : Log) (s : State) (k label : ℕ) (c : Machine) → IsProperAt z k c
+      → item_step (meaning_of z) z.code (At k c) ≡ At (position_of z.code label) c → Since log s → IsRelated z s c → Reaches z log (air.At label s) k c
+  reaches_step log s k label c proper step since rel =
+      reaches_here z log (air.At label s) k c proper
+      (1, omega arith, c, iterate-one (item_step (meaning_of z) z.code) (At k c) ∙ step, since, rel)
 
   -- the label stands there
-  pub reaches_label : (from : World) (s : State) (k label : ℕ) (c : Machine) → NextAt z label k → label < length z.procedure.blocks → Since from s
+  pub reaches_label : (log : Log) (s : State) (k label : ℕ) (c : Machine) → NextAt z label k → label < length z.procedure.blocks → Since log s
       → IsRelated z s c
-      → Reaches z from (air.At label s) k c
-  reaches_label from s k label c next within since rel =
+      → Reaches z log (air.At label s) k c
+  reaches_label log s k label c next within since rel =
       let there = next within in
-      reaches_here z from (air.At label s) k c (item_proper s k c (Label label) there.1 tt rel)
-      (0, omega arith, c, iterate-zero (item_step (meaning_of z) z.code) (At k c) ∙ ap (λ j. At j c) (sym there.0), since.0, since.1, rel)
+      reaches_here z log (air.At label s) k c (item_proper s k c (Label label) there.1 tt rel)
+      (0, omega arith, c, iterate-zero (item_step (meaning_of z) z.code) (At k c) ∙ ap (λ j. At j c) (sym there.0), since, rel)
 
   jump_step : (k label : ℕ) (c : Machine) → slice_get z.code k ≡ Some (Jump label) → item_step (meaning_of z) z.code (At k c) ≡ At (position_of z.code label) c
   unfolding item_step
   jump_step k label c there = rw there refl
 
-  pub jump_reaches : (from : World) (s : State) (k next label : ℕ) (c : Machine) → label < length z.procedure.blocks → Among z.code k (jump_to next label)
-      → NextAt z next (k + length (jump_to next label)) → Since from s → IsRelated z s c → Reaches z from (air.At label s) k c
-  jump_reaches from s k next label c within among there since rel =
+  pub jump_reaches : (log : Log) (s : State) (k next label : ℕ) (c : Machine) → label < length z.procedure.blocks → Among z.code k (jump_to next label)
+      → NextAt z next (k + length (jump_to next label)) → Since log s → IsRelated z s c → Reaches z log (air.At label s) k c
+  jump_reaches log s k next label c within among there since rel =
       elim (nat_eq label next) as (λ b. nat_eq label next ≡ b → Among z.code k (if b then [] else Jump label ∷ [])
-      → NextAt z next (k + length (if b then [] else Jump label ∷ [])) → Reaches z from (air.At label s) k c) [
+      → NextAt z next (k + length (if b then [] else Jump label ∷ [])) → Reaches z log (air.At label s) k c) [
         | true ↦ λ e there at.
             let same : label ≡ next = grind (arith, nat_tests) in
             let here : k + 0 ≡ k = omega arith in
-            reaches_label from s k label c (subst (λ j. NextAt z label j) here (subst (λ n. NextAt z n (k + 0)) (sym same) at)) within since rel
+            reaches_label log s k label c (subst (λ j. NextAt z label j) here (subst (λ n. NextAt z n (k + 0)) (sym same) at)) within since rel
         | false ↦ λ e there at.
             let here : slice_get z.code k ≡ Some (Jump label) = ap (slice_get z.code) (omega arith) ∙ there 0 (Jump label) refl in
-            reaches_step from s k label c (item_proper s k c (Jump label) here tt rel) (jump_step k label c here) since rel
+            reaches_step log s k label c (item_proper s k c (Jump label) here tt rel) (jump_step k label c here) since rel
       ] refl among there
 
   branch_step : (test : Test) (passes : Bool) (width : Width) (reg k label : ℕ) (c : Machine)
@@ -163,16 +162,16 @@ module _ (z : Setting) (set : IsSet z) (serves : IsFrameOf z.procedure z.frame) 
   label_runs s k b c there rel = one_runs s k c (Label b) there tt (label_step k b c there) rel
 
   -- the branches of a test lead to the one target or to the other
-  pub branches_reach : (from : World) (s : State) (test : Test) (width : Width) (reg k next then_label else_label : ℕ) (c : Machine) (passes : Bool)
+  pub branches_reach : (log : Log) (s : State) (test : Test) (width : Width) (reg k next then_label else_label : ℕ) (c : Machine) (passes : Bool)
       → then_label < length z.procedure.blocks → else_label < length z.procedure.blocks → Among z.code k (branches test width reg next then_label else_label)
-      → NextAt z next (k + length (branches test width reg next then_label else_label)) → Goes c test width reg passes → Since from s → IsRelated z s c
-      → Reaches z from (air.At (if passes then then_label else else_label) s) k c
-  branches_reach from s test width reg k next then_label else_label c passes within_then within_else among there goes since rel =
+      → NextAt z next (k + length (branches test width reg next then_label else_label)) → Goes c test width reg passes → Since log s → IsRelated z s c
+      → Reaches z log (air.At (if passes then then_label else else_label) s) k c
+  branches_reach log s test width reg k next then_label else_label c passes within_then within_else among there goes since rel =
       elim (nat_eq then_label next) as (λ b. nat_eq then_label next ≡ b
       → Among z.code k (if b then branch_item test false width reg else_label ∷ [] else branch_item test true width reg then_label ∷ jump_to next else_label)
       → NextAt z next (k + length (if b then branch_item test false width reg else_label ∷ [] else branch_item test true width reg then_label ∷ jump_to
       next else_label))
-      → Reaches z from (air.At (if passes then then_label else else_label) s) k c) [
+      → Reaches z log (air.At (if passes then then_label else else_label) s) k c) [
         | true ↦ λ e items at.
             let same : then_label ≡ next = grind (arith, nat_tests) in
             let here : slice_get z.code k ≡ Some (branch_item test false width reg else_label) =
@@ -193,21 +192,21 @@ module _ (z : Setting) (set : IsSet z) (serves : IsFrameOf z.procedure z.frame) 
     where
       fall : (p : Bool) (to other : ℕ) → NextAt z to (k + 1) → test_holds (branch_test test false width reg) c ≡ not p
           → slice_get z.code k ≡ Some (branch_item test false width reg other) → IsProperAt z k c → to < length z.procedure.blocks
-          → Reaches z from (air.At (if p then to else other) s) k c
+          → Reaches z log (air.At (if p then to else other) s) k c
       fall true to other at holds here proper within =
-          reaches_step from s k to c proper (branch_goes test false width reg k other c false holds here ∙ ap (λ j. At j c) (sym (at within).0)) since rel
+          reaches_step log s k to c proper (branch_goes test false width reg k other c false holds here ∙ ap (λ j. At j c) (sym (at within).0)) since rel
       fall false to other at holds here proper within =
-          reaches_step from s k other c proper (branch_goes test false width reg k other c true holds here) since rel
+          reaches_step log s k other c proper (branch_goes test false width reg k other c true holds here) since rel
 
       jumps : (p : Bool) → test_holds (branch_test test true width reg) c ≡ p → slice_get z.code k ≡ Some (branch_item test true width reg then_label)
           → IsProperAt z k c → Among z.code (k + 1) (jump_to next else_label) → NextAt z next (k + 1 + length (jump_to next else_label))
-          → Reaches z from (air.At (if p then then_label else else_label) s) k c
-      jumps true holds here proper items at = reaches_step from s k then_label c proper (branch_goes test true width reg k then_label c true holds here)
+          → Reaches z log (air.At (if p then then_label else else_label) s) k c
+      jumps true holds here proper items at = reaches_step log s k then_label c proper (branch_goes test true width reg k then_label c true holds here)
           since rel
       jumps false holds here proper items at =
           let runs = one_runs s k c (branch_item test true width reg then_label) here
           (branch_safe z (moved_to (address_of z k) c) test true width reg then_label)
           (branch_goes test true width reg k then_label c false holds here) rel in
-          leads_on z from (air.At else_label s) k 1 c c runs
-          (jump_reaches from s (k + 1) next else_label runs.last within_else items at since
+          leads_on z log (air.At else_label s) k 1 c c runs
+          (jump_reaches log s (k + 1) next else_label runs.last within_else items at since
           (alike_related z s c runs.last runs.alike (runs.small rel.frame.words.pc) rel))

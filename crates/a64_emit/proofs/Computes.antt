@@ -19,16 +19,16 @@ use Rattle.air_ir.specs.declared.procedure.AirInst.{AirInst}
 use Rattle.air_frame.specs.Frames.{IsFrameOf}
 use Rattle.a64_layout.specs.Machine.{Machine, moved_to}
 use Rattle.a64_emit.specs.Code.{compute_code, fetch, inst_code, put_result, result_reg, source_of}
-use Rattle.a64_emit.specs.Computing.{computing, reg_of}
-use Rattle.a64_emit.specs.Fitting.{IsComputed}
+use Rattle.a64_code.specs.Computing.{computing, reg_of}
+use Rattle.a64_code.specs.Fitting.{IsComputed}
 use Rattle.a64_emit.specs.Related.{HasFrame, IsRelated}
 use Rattle.a64_emit.specs.Setting.{IsSet, Setting}
-use Rattle.a64_emit.specs.declared.source.Source.{Source}
-use Rattle.a64_emit.specs.declared.source.Source.TheVariants.{Constant}
+use Rattle.a64_code.specs.declared.source.Source.{Source}
+use Rattle.a64_code.specs.declared.source.Source.TheVariants.{Constant}
 use Rattle.a64_emit.proofs.AirSteps.{IsWritten, computes_none, computes_word, step_gives, step_lost, step_without, targets_result, targets_use, words_result, words_use}
 use Rattle.a64_emit.proofs.Fetching.{Finished, IsPlaceFor, IsScratch, IsUsable, fetch_word, fetched_keeps, finish, gives_same, result_most, source_differs}
 use Rattle.a64_emit.proofs.Keeping.{keeps_related, whole_of}
-use Rattle.a64_emit.proofs.Ops.{Gives, IsRegister, IsWidthOf, one_computed, second_width, takes_constant, three_computed, two_computed}
+use Rattle.a64_code.proofs.Ops.{Gives, IsRegister, IsWidthOf, one_computed, second_width, takes_constant, three_computed, two_computed}
 use Rattle.a64_emit.proofs.Shapes.{IsPlain, computing_plain}
 use Rattle.a64_emit.proofs.Storing.{with_home}
 use Rattle.a64_emit.proofs.Straight.{Does, does_both, does_none}

@@ -20,17 +20,17 @@ use Rattle.air_ir.specs.declared.operand.Role.TheVariants.{Use}
 use Rattle.air_ir.specs.declared.procedure.AirInst.{AirInst}
 use Rattle.air_frame.specs.Frames.{IsFrameOf}
 use Rattle.a64_emit.specs.Code.{bring, copy_code, inst_code, put_result}
-use Rattle.a64_emit.specs.Computing.{move_reg}
-use Rattle.a64_emit.specs.Places.{above_sp, spill_offset, store_at}
+use Rattle.a64_code.specs.Computing.{move_reg}
+use Rattle.a64_code.specs.Places.{above_sp, spill_offset, store_at}
 use Rattle.a64_emit.specs.Related.{IsRelated}
 use Rattle.a64_emit.specs.Setting.{IsSet, Setting}
-use Rattle.a64_emit.specs.declared.source.Source.TheVariants.{InReg}
+use Rattle.a64_code.specs.declared.source.Source.TheVariants.{InReg}
 use Rattle.a64_emit.proofs.AirSteps.{IsWritten, copies_word, step_gives, step_lost, targets_result, targets_use, words_result, words_use}
 use Rattle.a64_emit.proofs.Computes.{InstRuns, le_more, result_small, scratch_17}
 use Rattle.a64_emit.proofs.Fetching.{Finished, IsPlaceFor, IsUsable, allocatable_most, allocatable_other, kept_differs, result_most, spill_loads, spill_stores}
 use Rattle.a64_emit.proofs.Keeping.{reads_carried, some_is, whole_of}
 use Rattle.a64_emit.proofs.Moves.{constant_puts}
-use Rattle.a64_emit.proofs.Ops.{move_is}
+use Rattle.a64_code.proofs.Ops.{move_is}
 use Rattle.a64_emit.proofs.Shapes.{move_plain}
 use Rattle.a64_emit.proofs.Storing.{reg_related, with_home}
 use Rattle.a64_emit.proofs.Straight.{Does, does_both, does_none}

@@ -3,7 +3,8 @@ use Rattle.std.proofs.Common.{◌≡◌, ℕ, pos, zero, suc, ◌+◌, ◌%◌, 
 use Rattle.std.specs.Prelude.{slice_get}
 use Rattle.std.proofs.lemmas.Option.{slice_get-get_or, slice_get_within}
 use Rattle.b3_base.specs.Arithmetic.{low}
-use Rattle.b3_base.specs.Observed.{Start}
+use Rattle.b3_base.specs.Observed.{Memory, Start}
+use Rattle.b3_base.specs.declared.observation.Status.{Status}
 use Rattle.b3_base.specs.declared.observation.Status.TheVariants.{Returned}
 use Rattle.b3_base.specs.declared.word.Width.{Width}
 use Rattle.b3_base.specs.declared.word.Width.TheVariants.{W32, W64}
@@ -19,9 +20,8 @@ use Rattle.air_ir.specs.Blocks as air
 use Rattle.air_ir.specs.Forms.{operand_in, returned}
 use Rattle.air_ir.specs.Kinds.{Returns, kind_of}
 use Rattle.air_ir.specs.Meaning.{Exit, Over, To, World, meaning, operation}
-use Rattle.air_ir.specs.Operands.{Read, targets, word_of, words}
+use Rattle.air_ir.specs.Operands.{Read, targets, word_of, words, put_all}
 use Rattle.air_ir.specs.Steps.{Goes, State, junk_words, step}
-use Rattle.air_ir.specs.Operands.{put_all}
 use Rattle.air_ir.specs.declared.op.AirOp.TheVariants as op
 use Rattle.air_ir.specs.declared.operand.Arg.TheVariants.{At}
 use Rattle.air_ir.specs.declared.operand.Home.TheVariants.{Reg}
@@ -30,12 +30,11 @@ use Rattle.air_ir.specs.declared.operand.Role.TheVariants.{Use}
 use Rattle.air_ir.specs.declared.procedure.AirInst.{AirInst}
 use Rattle.air_frame.specs.Frames.{IsFrameOf}
 use Rattle.a64_layout.specs.Machine.{Machine, moved_to}
-use Rattle.a64_layout.specs.Run as run
 use Rattle.a64_run.specs.Machine.{returned_word}
 use Rattle.a64_run.specs.Placement.{visible}
 use Rattle.a64_emit.specs.Switched.{jump_to}
-use Rattle.a64_emit.specs.Emitted.{IsProperAt, IsSafeItem, Returns as HasReturned}
-use Rattle.a64_emit.specs.Places.{epilogue, plains, restores}
+use Rattle.a64_emit.specs.Emitted.{HasReturned, IsProperAt, IsSafeItem, log_of, seen_at}
+use Rattle.a64_code.specs.Places.{epilogue, plains, restores}
 use Rattle.a64_emit.specs.Related.{Carries, IsRelated}
 use Rattle.a64_emit.specs.Setting.{IsSet, Setting, address_of, row}
 use Rattle.a64_emit.proofs.AirSteps.{step_lost, step_without}
@@ -43,17 +42,13 @@ use Rattle.a64_emit.proofs.Branching.{NextAt, jump_reaches, words_there}
 use Rattle.a64_emit.proofs.Keeping.{reads_carried}
 use Rattle.a64_emit.proofs.Leaving.{Leaves, leaving}
 use Rattle.a64_emit.proofs.Positions.{Among, among_first, among_rest, length_plains}
-use Rattle.a64_emit.proofs.Straight.{AreAlike, IsWhole, Reaches, Runs, leads_on, reaches_here, straight_runs, whole_alike}
-
-abbrev pub ReachesUnlessLost : Setting → World → air.Config → ℕ → Machine → Type 0
-ReachesUnlessLost z from air.Lost k c = Unit {0}
-ReachesUnlessLost z from next k c = Reaches z from next k c
+use Rattle.a64_emit.proofs.Straight.{AreAlike, IsWhole, Reaches, ReachesUnlessLost, Runs, leads_on, reaches_here, straight_runs, whole_alike}
 
 -- the items from one on lead where what ends a block with these targets does
 pub record Ends (z : Setting) (targets : List ℕ) (i : AirInst) (s : State) (k : ℕ) (c : Machine) : Type 0 where
   pub next : air.Config
   pub is : (junk : List ℕ) → air.left targets (step (meaning z.start) i s junk) ≡ (next, junk)
-  pub reaches : ReachesUnlessLost z s.world next k c
+  pub reaches : ReachesUnlessLost z (log_of s.world) next k c
 
 -- plain items among others
 pub among_plains : (code : List Item) (k : ℕ) (insts : List Inst) → Among code k (plains insts)
@@ -68,6 +63,11 @@ among_plains code k insts among j inst there = among j (Plain inst) (plain_at in
 pub plains_append : (xs ys : List Inst) → plains (xs ++ ys) ≡ plains xs ++ plains ys
 plains_append [] ys = refl
 plains_append (x ∷ xs) ys = ap (λ (items : List Item). Plain x ∷ items) (plains_append xs ys)
+
+-- what is seen of a world is what is seen of a machine whose bytes are its memory
+pub stops_seen : (z : Setting) (w : World) (c : Machine) (status : Status) → w.memory ≡ visible (row z) z.entry c.memory
+    → air.seen_as w status ≡ seen_at z (log_of w) c status
+stops_seen z w c status e = ap (λ (m : Memory). record { status = status; events = w.events; memory = m }) e
 
 -- ---- steps
 
@@ -153,7 +153,7 @@ returns_safely : (r : Registers) (m : ℕ → Option ℕ) → (step_of (BranchRe
 unfolding step_of branch_reg
 returns_safely r m = refl
 
-module _ (z : Setting) (set : IsSet z) (serves : IsFrameOf z.procedure z.frame) (unmarked : (k : ℕ) → run.mark_before z.code k ≡ None) where
+module _ (z : Setting) (set : IsSet z) (serves : IsFrameOf z.procedure z.frame) where
   -- what stands before the RET
   before_ret : List Inst
   before_ret = restores z.frame z.frame.saved ++ AddSubImm W64 false false 31 29 0 false ∷ PairSp true 29 30 (pos 2) ∷ []
@@ -176,8 +176,12 @@ module _ (z : Setting) (set : IsSet z) (serves : IsFrameOf z.procedure z.frame) 
 
   has_returned : (w : World) (word : Option ℕ) (k : ℕ) (c d last : Machine) → (l : Leaves z c) → AreAlike last l.after → last.registers.pc < 2 ^ 64
       → slice_get z.code k ≡ Some (Plain (BranchReg Ret 30)) → w.memory ≡ visible (row z) z.entry c.memory
-      → ((registers : Registers) → registers.x 0 ≡ c.registers.x 0 → returned_word z.procedure.returns registers ≡ word) → HasReturned z w word k last
+      → ((registers : Registers) → registers.x 0 ≡ c.registers.x 0 → returned_word z.procedure.returns registers ≡ word)
+      → HasReturned z (log_of w) (air.seen_as w (Returned word)) k last
   has_returned w word k c d last l same small there memory is = record {
+    word = word;
+    shows = stops_seen z w last (Returned word)
+        (memory ∙ sym (ap (λ (m : Machine). visible (row z) z.entry m.memory) same ∙ ap (visible (row z) z.entry) l.memory));
     ret = there;
     words = record {
       x = λ r. subst (λ n. n < 2 ^ 64) (sym (ap (λ (m : Machine). m.registers.x r) same)) (l.words.x r);
@@ -187,7 +191,6 @@ module _ (z : Setting) (set : IsSet z) (serves : IsFrameOf z.procedure z.frame) 
     sp = ap (λ (m : Machine). m.registers.sp) same ∙ l.sp;
     kept = λ r least most. ap (λ (m : Machine). m.registers.x r) same ∙ l.kept r least most;
     returned = is last.registers (ap (λ (m : Machine). m.registers.x 0) same ∙ l.x0);
-    memory = memory ∙ sym (ap (λ (m : Machine). visible (row z) z.entry m.memory) same ∙ ap (visible (row z) z.entry) l.memory);
   }
 
   ret_proper : (k : ℕ) (c : Machine) → slice_get z.code k ≡ Some (Plain (BranchReg Ret 30)) → IsWhole z c → IsProperAt z k c
@@ -202,7 +205,7 @@ module _ (z : Setting) (set : IsSet z) (serves : IsFrameOf z.procedure z.frame) 
 
   return_reaches : (s : State) (k : ℕ) (c : Machine) (word : Option ℕ) → IsRelated z s c → Among z.code k (plains (epilogue z.frame))
       → ((registers : Registers) → registers.x 0 ≡ c.registers.x 0 → returned_word z.procedure.returns registers ≡ word)
-      → Reaches z s.world (air.Stopped (air.seen_as s.world (Returned word))) k c
+      → Reaches z (log_of s.world) (air.Stopped (air.seen_as s.world (Returned word))) k c
   unfolding before_ret
   return_reaches s k c word rel among is =
       let l = leaving z set serves c rel.frame in
@@ -210,17 +213,12 @@ module _ (z : Setting) (set : IsSet z) (serves : IsFrameOf z.procedure z.frame) 
       let room = words_there z (k + length before_ret) (Plain (BranchReg Ret 30)) ret
       (slice_get_within z.code (k + length before_ret) (Plain (BranchReg Ret 30)) ret) (omega arith) in
       let runs : Runs z k c (length before_ret) l.after =
-      straight_runs z set unmarked k c l.after before_ret l.does (among_plains z.code k before_ret (stands_before k among)) room in
-      leads_on z s.world (air.Stopped (air.seen_as s.world (Returned word))) k (length before_ret) c l.after runs
-      (reaches_here z s.world (air.Stopped (air.seen_as s.world (Returned word))) (k + length before_ret) runs.last
-      (ret_proper (k + length before_ret) runs.last ret (whole_alike z runs.last l.after runs.alike l.whole)) (
-        s.world,
-        word,
-        refl,
-        refl,
-        has_returned s.world word (k + length before_ret) c l.after runs.last l runs.alike
-            (runs.small rel.frame.words.pc) ret rel.memory is,
-      ))
+      straight_runs z set k c l.after before_ret l.does (among_plains z.code k before_ret (stands_before k among)) room in
+      leads_on z (log_of s.world) (air.Stopped (air.seen_as s.world (Returned word))) k (length before_ret) c l.after runs
+      (reaches_here z (log_of s.world) (air.Stopped (air.seen_as s.world (Returned word))) (k + length before_ret) runs.last
+      (ret_proper (k + length before_ret) runs.last ret (whole_alike z runs.last l.after runs.alike l.whole))
+      (inl (has_returned s.world word (k + length before_ret) c l.after runs.last l runs.alike
+      (runs.small rel.frame.words.pc) ret rel.memory is)))
 
   pub return_ends : (i : AirInst) (s : State) (targets : List ℕ) (k : ℕ) (c : Machine) → i.op ≡ op.Return → i.operands ≡ returned z.procedure.returns
       → Among z.code k (plains (epilogue z.frame)) → IsRelated z s c → Ends z targets i s k c
@@ -274,5 +272,5 @@ module _ (z : Setting) (set : IsSet z) (serves : IsFrameOf z.procedure z.frame) 
     next = air.At (get_or targets_of 0 0) s;
     is = leaves_to i s targets_of [] 0 (get_or targets_of 0 0) (reads_none i s os) (writes_nothing i os) (jumps_to i s is)
         (slice_get-get_or targets_of 0 0 some);
-    reaches = jump_reaches z set serves s.world s k next (get_or targets_of 0 0) c within among at (refl, refl) rel;
+    reaches = jump_reaches z set serves (log_of s.world) s k next (get_or targets_of 0 0) c within among at refl rel;
   }

@@ -13,19 +13,20 @@ use Rattle.stackmap.specs.declared.site.Rep.TheVariants.{Slot}
 use Rattle.air_ir.specs.Operands.{Empty, Holds}
 use Rattle.air_frame.specs.Frames.{IsFrameOf}
 use Rattle.b3_base.specs.declared.word.Width.TheVariants.{W64}
-use Rattle.b3_base.proofs.MemoryLaws.{is_mapped_all, is_some-read_word, write_word-AreBytes, write_word_keeps}
-use Rattle.b3_base.proofs.WordLaws.{read-write_apart, read-write_same}
+use Rattle.b3_base.proofs.MemoryLaws.{is_mapped_all, is_some-read_word, write_word-AreBytes}
+use Rattle.b3_base.proofs.WordLaws.{is_mapped_after_write, read-write_apart, read-write_same, write_word_mapped}
 use Rattle.exit_table.specs.Good.{AreDisjoint, IsGoodFrame, IsGoodRep, IsGoodSaved, IsWordOffset, saved_span, slot_span}
 use Rattle.stackmap.specs.declared.site.SavedRow.{SavedRow}
 use Rattle.a64_inst.specs.Step.{AreWords, Registers, Stepped, step_of, goes_on, put, moved_sp, add_sub_imm, store_pair}
 use Rattle.a64_inst.specs.declared.inst.Inst.TheVariants.{AddSubImm, PairSp}
 use Rattle.a64_layout.specs.Machine.{Machine, moved_to}
 use Rattle.a64_run.specs.Placement.{argument_words, entry_memory, frame_pointer_of, in_frame, visible}
-use Rattle.a64_emit.specs.Places.{above_sp, lower_sp, prologue, saves, store_at, unless_zero}
+use Rattle.a64_code.specs.Places.{above_sp, lower_sp, prologue, saves, store_at, unless_zero}
 use Rattle.a64_emit.specs.Related.{Carries, HasFrame, IsRelated, word_below}
 use Rattle.a64_emit.specs.Setting.{IsSet, Setting, row}
 use Rattle.a64_emit.specs.Emitted.{Begins, first_state}
 use Rattle.a64_emit.proofs.FrameWords.{IsHiddenWord, apart_from_slots, hidden_store, hidden_word, not_in_slot, pairs_behind, pairs_head, pairs_without, word_mapped, words_apart}
+use Rattle.a64_emit.proofs.Keeping.{none_byte}
 use Rattle.a64_emit.proofs.Straight.{Does, DoesOne, IsWhole, does_both, does_first, does_none, does_one}
 use Rattle.a64_emit.proofs.Words.{IsPlaced, does_safely, put_other, put_same, put_words, puts_one, store_puts, touches_nothing, whole_same, with_memory, with_reg}
 
@@ -108,7 +109,7 @@ pub record Saves (z : Setting) (c : Machine) (rows : List SavedRow) : Type 0 whe
   pub others : (r : ℕ) → r ≢ 15 → after.registers.x r ≡ c.registers.x r
   pub words : AreWords after.registers
   pub bytes : AreBytes after.memory
-  pub keeps : (q : ℕ) → is_some (c.memory q) ≡ true → is_some (after.memory q) ≡ true
+  pub keeps : (q : ℕ) → is_some (after.memory q) ≡ is_some (c.memory q)
   pub seen : visible (row z) z.entry after.memory ≡ visible (row z) z.entry c.memory
   pub other : (at : ℕ) → OtherThan z at rows → read_word after.memory at 8 ≡ read_word c.memory at 8
   pub saved : AreSaved z after c.registers.x rows
@@ -156,7 +157,7 @@ module _ (z : Setting) (set : IsSet z) (good : IsGoodFrame (row z)) where
     others = λ r differ. refl;
     words = low.words;
     bytes = low.bytes;
-    keeps = λ q there. there;
+    keeps = λ q. refl;
     seen = refl;
     other = λ at differ. refl;
     saved = tt;
@@ -168,13 +169,14 @@ module _ (z : Setting) (set : IsSet z) (good : IsGoodFrame (row z)) where
       let most = from.high in
       let first = store_puts z c s.reg.0 s.offset (low_whole c low) low.words (omega arith) (λ e. omega arith) (low_placed c s.offset low from.place)
       (word_mapped z set good c s.offset from.place low.whole) in
-      let keeps : (q : ℕ) → is_some (c.memory q) ≡ true → is_some (first.after.memory q) ≡ true =
-      λ q there. subst (λ (m : Memory). is_some (m q) ≡ true) (sym first.memory) (write_word_keeps c.memory at 8 (c.registers.x s.reg.0) q there) in
+      let keeps : (q : ℕ) → is_some (first.after.memory q) ≡ is_some (c.memory q) =
+      λ q. ap (λ (m : Memory). is_some (m q)) first.memory
+      ∙ write_word_mapped c.memory at 8 (c.registers.x s.reg.0) q (word_mapped z set good c s.offset from.place low.whole) in
       let next : IsLow first.after = record {
         sp = first.sp ∙ low.sp;
         words = first.words;
         bytes = subst AreBytes (sym first.memory) (write_word-AreBytes c.memory at 8 (c.registers.x s.reg.0) low.bytes);
-        whole = λ address inside. keeps address (low.whole address inside);
+        whole = λ address inside. keeps address ∙ low.whole address inside;
       } in
       let more = saves_does first.after rows next are.3 in
       record {
@@ -184,7 +186,7 @@ module _ (z : Setting) (set : IsSet z) (good : IsGoodFrame (row z)) where
         others = λ r differ. more.others r differ ∙ first.others r differ;
         words = more.words;
         bytes = more.bytes;
-        keeps = λ q there. more.keeps q (keeps q there);
+        keeps = λ q. more.keeps q ∙ keeps q;
         seen = more.seen ∙ ap (visible (row z) z.entry) first.memory ∙ hidden_store z set c.memory at (c.registers.x s.reg.0) are.1;
         other = λ other differ. more.other other differ.1 ∙ ap (λ (m : Memory). read_word m other 8) first.memory
             ∙ read-write_apart c.memory other 8 at 8 (c.registers.x s.reg.0) differ.0;
@@ -396,10 +398,19 @@ module _ (z : Setting) (set : IsSet z) (good : IsGoodFrame (row z)) (c : Machine
     whole = start_whole;
   }
 
-  first_keeps : (q : ℕ) → is_some (c.memory q) ≡ true → is_some (pushed z c.memory q) ≡ true
-  first_keeps q there =
-      write_word_keeps (write_word c.memory (frame_pointer_of z.entry) 8 (z.entry.registers 29)) (frame_pointer_of z.entry + 8) 8 (z.entry.registers 30) q
-      (write_word_keeps c.memory (frame_pointer_of z.entry) 8 (z.entry.registers 29) q there)
+  caller_mapped : is_mapped c.memory (frame_pointer_of z.entry) 8 ≡ true
+  caller_mapped = is_mapped_all c.memory (frame_pointer_of z.entry) 8
+      (λ i lt. start_inside (byte_address (frame_pointer_of z.entry) i) (pair_inside i (omega arith)))
+
+  link_mapped : is_mapped c.memory (frame_pointer_of z.entry + 8) 8 ≡ true
+  link_mapped = is_mapped_all c.memory (frame_pointer_of z.entry + 8) 8
+      (λ i lt. start_inside (byte_address (frame_pointer_of z.entry + 8) i) (top_inside i lt))
+
+  first_keeps : (q : ℕ) → is_some (pushed z c.memory q) ≡ is_some (c.memory q)
+  first_keeps q =
+      write_word_mapped (write_word c.memory (frame_pointer_of z.entry) 8 (z.entry.registers 29)) (frame_pointer_of z.entry + 8) 8 (z.entry.registers 30) q
+      (is_mapped_after_write c.memory (frame_pointer_of z.entry) 8 (z.entry.registers 29) (frame_pointer_of z.entry + 8) 8 caller_mapped ∙ link_mapped)
+      ∙ write_word_mapped c.memory (frame_pointer_of z.entry) 8 (z.entry.registers 29) q caller_mapped
 
   first_aligned : frame_pointer_of z.entry % 16 ≡ 0
   first_aligned = let room = some_room in let top = set.aligned in omega arith
@@ -408,7 +419,7 @@ module _ (z : Setting) (set : IsSet z) (good : IsGoodFrame (row z)) (c : Machine
   unfolding first
   first_whole = record {
     aligned = first_aligned;
-    whole = λ address is. some_byte z set good (pushed z c.memory) address (first_keeps address (start_inside address is));
+    whole = λ address is. some_byte z set good (pushed z c.memory) address (first_keeps address ∙ start_inside address is);
   }
 
   first_words : AreWords first.registers
@@ -469,7 +480,7 @@ module _ (z : Setting) (set : IsSet z) (good : IsGoodFrame (row z)) (c : Machine
     sp = omega arith;
     words = let words = put_words first 29 (frame_pointer_of z.entry) first_words first_words.sp in record { x = words.x; sp = omega arith; pc = words.pc };
     bytes = first_bytes bytes;
-    whole = λ address is. first_keeps address (start_inside address is);
+    whole = λ address is. first_keeps address ∙ start_inside address is;
   }
 
   third_others : (r : ℕ) → r ≢ 29 → third.registers.x r ≡ z.entry.registers r
@@ -495,8 +506,10 @@ module _ (z : Setting) (set : IsSet z) (good : IsGoodFrame (row z)) (c : Machine
           x29 = last.others 29 (λ e. omega arith) ∙ put_same first 29 (frame_pointer_of z.entry);
           words = last.words;
           bytes = last.bytes;
-          whole = λ address is. last.keeps address (low.whole address is);
-          mapped = λ address is. last.keeps address (first_keeps address (rw begins.memory (mapped_too address is)));
+          whole = λ address is. last.keeps address ∙ low.whole address is;
+          mapped = λ address is. last.keeps address ∙ first_keeps address ∙ rw begins.memory (mapped_too address is);
+          unmapped = λ address none out. none_byte (last.after.memory address)
+              (last.keeps address ∙ first_keeps address ∙ rw begins.memory (rw out none));
           caller = last.other (frame_pointer_of z.entry - 0) (caller_other z set good z.frame.saved good.saved) ∙ first_caller;
           link = last.other (frame_pointer_of z.entry + 8) (link_other z set good z.frame.saved good.saved) ∙ first_link;
           saved = λ s there. saved_word z last.after third.registers.x z.frame.saved last.saved s there

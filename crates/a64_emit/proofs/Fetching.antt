@@ -16,14 +16,14 @@ use Rattle.air_frame.specs.Frames.{IsFrameOf}
 use Rattle.air_frame.specs.Needs.{names, writes}
 use Rattle.a64_layout.specs.Machine.{Machine}
 use Rattle.a64_emit.specs.Code.{fetch, put_result, result_reg, source_of}
-use Rattle.a64_emit.specs.Places.{above_sp, load_at, spill_offset, store_at}
+use Rattle.a64_code.specs.Places.{above_sp, load_at, spill_offset, store_at}
 use Rattle.a64_emit.specs.Related.{IsRelated}
 use Rattle.a64_emit.specs.Setting.{IsSet, Setting}
-use Rattle.a64_emit.specs.declared.source.Source.{Source}
-use Rattle.a64_emit.specs.declared.source.Source.TheVariants.{InReg, Constant}
+use Rattle.a64_code.specs.declared.source.Source.{Source}
+use Rattle.a64_code.specs.declared.source.Source.TheVariants.{InReg, Constant}
 use Rattle.a64_emit.proofs.FrameWords.{word_mapped}
 use Rattle.a64_emit.proofs.Keeping.{IsKept, KeepsAll, keeps_related, placed, reads_carried, some_is, spill_stands, whole_of, word-small}
-use Rattle.a64_emit.proofs.Ops.{Gives}
+use Rattle.a64_code.proofs.Ops.{Gives}
 use Rattle.a64_emit.proofs.Storing.{reg_related, spill_related, with_home}
 use Rattle.a64_emit.proofs.Straight.{Does, DoesOne, does_first, does_none, does_one}
 use Rattle.a64_emit.proofs.Words.{Puts, load_puts, put_other, put_same, put_words, store_puts, with_reg}

@@ -20,10 +20,11 @@ use Rattle.air_ir.specs.declared.operand.Operand.{Operand}
 use Rattle.air_ir.specs.declared.procedure.AirInst.{AirInst}
 use Rattle.air_ir.specs.declared.procedure.AirProc.{AirProc}
 use Rattle.air_ir.specs.WellFormed.{IsGoodInst, IsWellFormed}
-use Rattle.a64_emit.specs.Accesses.{access_kind}
+use Rattle.a64_code.specs.Accesses.{access_kind}
 use Rattle.a64_emit.specs.Code.{source_at, source_of, width_at}
 use Rattle.a64_emit.specs.Switched.{AreDifferent}
-use Rattle.a64_emit.specs.Fitting.{FitsSource, IsFitting, IsFittingBlock, IsLoaded, IsReached, IsStored, IsTested}
+use Rattle.a64_code.specs.Fitting.{FitsSource, IsTested}
+use Rattle.a64_emit.specs.Fitting.{IsFitting, IsFittingBlock, IsLoaded, IsReached, IsStored}
 
 word_fits : (immediates : Immediates) (width : Width) (arg : Arg) (scratch : ℕ) → IsWord immediates width arg
     → FitsSource immediates width (source_of scratch arg)

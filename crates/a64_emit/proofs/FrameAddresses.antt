@@ -27,9 +27,9 @@ use Rattle.air_frame.specs.Frames.{IsFrameOf, slot_rows}
 use Rattle.a64_layout.specs.Machine.{Machine, moved_to}
 use Rattle.a64_run.specs.Placement as placement
 use Rattle.a64_run.specs.Placement.{frame_pointer_of}
-use Rattle.a64_emit.specs.Accesses.{below_x29, upper}
+use Rattle.a64_code.specs.Accesses.{below_x29, upper}
 use Rattle.a64_emit.specs.Code.{frame_address, inst_code, put_result, result_reg, slot_offset}
-use Rattle.a64_emit.specs.Places.{above_sp, spill_offset, store_at, unless_zero}
+use Rattle.a64_code.specs.Places.{above_sp, spill_offset, store_at, unless_zero}
 use Rattle.a64_emit.specs.Related.{IsRelated}
 use Rattle.a64_emit.specs.Setting.{IsSet, Setting}
 use Rattle.a64_emit.proofs.AirSteps.{IsWritten, step_gives, targets_result, targets_use, words_result, words_use}

@@ -1,6 +1,6 @@
 -- Each instruction that doesn't end its block does what its code does.
 use Rattle.std.proofs.Common.{◌≡◌, ℕ, ◌<◌, ◌≤◌, Bool, length, true, false, inl, inr, List, [], ◌∷◌, ◌++◌, Option, Some, None, refl, sym, ap, ◌∙◌, subst, arith}
-use Rattle.std.specs.Prelude.{if◌then◌else◌, not, slice_get}
+use Rattle.std.specs.Prelude.{if◌then◌else◌, slice_get}
 use Rattle.b3_base.specs.declared.word.Width.{Width}
 use Rattle.b3_base.specs.declared.word.Width.TheVariants.{W32, W64}
 use Rattle.b3_meaning.specs.Opcodes.{truth}
@@ -17,10 +17,9 @@ use Rattle.a64_inst.specs.declared.inst.Inst.TheVariants.{Select}
 use Rattle.a64_layout.specs.Branch.{opposite_cond}
 use Rattle.air_ir.specs.Words.{computed}
 use Rattle.air_ir.specs.declared.frame.Frame.{Frame}
-use Rattle.a64_emit.specs.declared.source.Source.{Source}
+use Rattle.a64_code.specs.declared.source.Source.{Source}
 use Rattle.air_ir.specs.Forms.{Address, AllFit, AnyWord, AreThese, BitOf, Fits, HasOperands, Immediates, IsAddress, IsHome, IsSlot, IsWord, NoImmediate, OfLogic, OfSum, OnlyZero, Result, Slot, Takes, Word, home, load, store, takes}
-use Rattle.air_ir.specs.Kinds.{Computes, Loads, Stores, kind_of, target_count}
-use Rattle.a64_emit.specs.Built.{is_built}
+use Rattle.air_ir.specs.Kinds.{Computes, Copies, FramePointers, Kind, Loads, SlotAddresses, Stores, kind_of}
 use Rattle.air_ir.specs.Operands.{Read, and_word, targets, word_of, words}
 use Rattle.air_ir.specs.Steps.{State}
 use Rattle.air_ir.specs.declared.op.AirOp.{AirOp}
@@ -35,21 +34,21 @@ use Rattle.air_ir.specs.declared.operand.Operand.{Operand}
 use Rattle.air_ir.specs.declared.operand.Role.TheVariants.{Use}
 use Rattle.air_ir.specs.declared.procedure.AirInst.{AirInst}
 use Rattle.air_frame.specs.Frames.{IsFrameOf}
-use Rattle.a64_emit.specs.Accesses.{access_kind}
-use Rattle.a64_emit.specs.Code.{compute_code, fetch, inst_code, load_code, put_result, result_reg, source_of, store_code}
-use Rattle.a64_emit.specs.Computing.{condition, reg_of, testing}
-use Rattle.a64_emit.specs.Fitting.{FitsSource, IsComputed, IsTested}
+use Rattle.a64_code.specs.Accesses.{access_kind}
+use Rattle.a64_emit.specs.Code.{arg_at, compute_code, fetch, fetch_address, fetch_stored, inst_code, load_code, load_inst, put_result, result_reg, source_of, store_code, store_inst}
+use Rattle.a64_code.specs.Computing.{condition, reg_of, testing}
+use Rattle.a64_code.specs.Fitting.{FitsSource, IsComputed, IsTested}
 use Rattle.a64_emit.specs.Related.{IsRelated}
 use Rattle.a64_emit.specs.Setting.{IsSet, Setting}
 use Rattle.a64_emit.proofs.AccessesReached.{IsReachable}
-use Rattle.a64_emit.proofs.AccessesRun.{IsLoad, IsStore, load_16s, load_16z, load_32, load_64, load_8s, load_8z, load_runs, store_16, store_32, store_64, store_8, store_runs}
+use Rattle.a64_emit.proofs.AccessesRun.{AccessRuns, IsLoad, IsStore, load_16s, load_16z, load_32, load_64, load_8s, load_8z, load_runs, store_16, store_32, store_64, store_8, store_runs}
 use Rattle.a64_emit.proofs.AirSteps.{IsWritten, computes_word, step_gives, step_lost, targets_result, targets_use, words_result, words_use, written_home}
 use Rattle.a64_emit.proofs.Computes.{InstRuns, one_runs, place_usable, source_most, three_runs, two_runs}
 use Rattle.a64_emit.proofs.Copies.{IsConstantOf, copy_runs}
 use Rattle.a64_emit.proofs.Fetching.{IsPlaceFor, IsUsable}
 use Rattle.a64_emit.proofs.FrameAddresses.{IsOwnSlot, pointer_runs, slot_runs}
-use Rattle.a64_emit.proofs.Ops.{IsRegister, IsWidthOf, second_width, takes_constant}
-use Rattle.a64_emit.proofs.Tests.{GivesSecond, passes}
+use Rattle.a64_code.proofs.Ops.{IsRegister, IsWidthOf, second_width, takes_constant}
+use Rattle.a64_code.proofs.Tests.{GivesSecond, passes}
 use Rattle.a64_emit.proofs.TestsRun.{ready_one, ready_two, select_end, set_end}
 
 -- ---- operands
@@ -108,10 +107,31 @@ slot_number z (Imm word) own = absurd own
 slot_number z (Addr base offset) own = absurd own
 slot_number z (Index base index shift) own = absurd own
 
--- what isn't true is false
-is_false : (b : Bool) → not b ≡ true → b ≡ false
-is_false false e = refl
-is_false true e = absurd cc
+-- loads, stores, and ops whose instructions do one thing after the other
+abbrev pub is_load_kind : Kind → Bool
+is_load_kind (Loads extent extends) = true
+is_load_kind _ = false
+
+abbrev pub is_store_kind : Kind → Bool
+is_store_kind (Stores extent) = true
+is_store_kind _ = false
+
+abbrev pub is_straight_kind : Kind → Bool
+is_straight_kind Copies = true
+is_straight_kind Computes = true
+is_straight_kind SlotAddresses = true
+is_straight_kind FramePointers = true
+is_straight_kind _ = false
+
+abbrev pub is_load : AirOp → Bool
+is_load o = is_load_kind (kind_of o)
+
+abbrev pub is_store_op : AirOp → Bool
+is_store_op o = is_store_kind (kind_of o)
+
+abbrev pub is_straight : AirOp → Bool
+is_straight op.Shuffle = false
+is_straight o = is_straight_kind (kind_of o)
 
 -- ---- ops of one instruction
 
@@ -275,10 +295,10 @@ module _ (z : Setting) (set : IsSet z) (serves : IsFrameOf z.procedure z.frame) 
   -- ---- memory
 
   load_form : (i : AirInst) (s : State) (c : Machine) (o : AirOp) (width : Width) (kind : AccessKind) (extent : Extent) (extends : Bool) → i.op ≡ o
-      → ((os : List Operand) → inst_code z.frame o os ≡ load_code z.frame o os) → access_kind o width ≡ kind → i.traps ≡ false
+      → ((os : List Operand) → inst_code z.frame o os ≡ load_code z.frame o os) → access_kind o width ≡ kind
       → kind_of o ≡ Loads extent extends → IsLoad kind extent extends width
-      → AllFit (load width (access_bytes kind)) i.operands → AreOpen z i.operands → IsRelated z s c → InstRuns z i s c
-  load_form i s c o width kind extent extends e code same traps loads is fits opened rel =
+      → AllFit (load width (access_bytes kind)) i.operands → AreOpen z i.operands → IsRelated z s c → AccessRuns z i s c (fetch_address z.frame (arg_at i.operands 0)) (load_inst i.op i.operands)
+  load_form i s c o width kind extent extends e code same loads is fits opened rel =
       let a = fit_cons (Address width (access_bytes kind)) (Result width ∷ []) i.operands fits in
       let d = fit_cons (Result width) [] a.1 a.4 in
       let operands : i.operands ≡ a.0 ∷ d.0 ∷ [] = a.2 ∙ ap (λ os. a.0 ∷ os) (d.2 ∙ ap (λ os. d.0 ∷ os) (fit_nil d.1 d.4)) in
@@ -286,23 +306,23 @@ module _ (z : Setting) (set : IsSet z) (serves : IsFrameOf z.procedure z.frame) 
       let reachable = (opened 0 a.0 (ap (λ os. slice_get os 0) operands)).reaches a.3.0 (access_bytes kind) a.3.2 in
       load_runs z set serves i s c a.0 d.0 written.0 kind extent extends operands
       (subst (λ o. inst_code z.frame o (a.0 ∷ d.0 ∷ []) ≡ load_code z.frame o (a.0 ∷ d.0 ∷ [])) (sym e) (code (a.0 ∷ d.0 ∷ [])))
-      (subst (λ o. access_kind o a.0.width ≡ kind) (sym e) (ap (access_kind o) a.3.1 ∙ same)) traps (ap kind_of e ∙ loads)
+      (subst (λ o. access_kind o a.0.width ≡ kind) (sym e) (ap (access_kind o) a.3.1 ∙ same)) (ap kind_of e ∙ loads)
       (subst (IsLoad kind extent extends) (sym a.3.1) is) a.3.0 written.1 rel reachable a.3.2
       ((opened 1 d.0 (ap (λ os. slice_get os 1) operands)).writes written.0 written.1)
 
-  word_load_form : (i : AirInst) (s : State) (c : Machine) (width other : Width) → i.op ≡ op.Load → i.traps ≡ false → AreThese (takes op.Load width other) i.operands
-      → AreOpen z i.operands → IsRelated z s c → InstRuns z i s c
+  word_load_form : (i : AirInst) (s : State) (c : Machine) (width other : Width) → i.op ≡ op.Load → AreThese (takes op.Load width other) i.operands
+      → AreOpen z i.operands → IsRelated z s c → AccessRuns z i s c (fetch_address z.frame (arg_at i.operands 0)) (load_inst i.op i.operands)
   unfolding inst_code
-  word_load_form i s c W32 other e traps fits opened rel =
-      load_form i s c op.Load W32 LdrW Whole false e (λ os. refl) refl traps refl load_32 fits opened rel
-  word_load_form i s c W64 other e traps fits opened rel =
-      load_form i s c op.Load W64 LdrX Whole false e (λ os. refl) refl traps refl load_64 fits opened rel
+  word_load_form i s c W32 other e fits opened rel =
+      load_form i s c op.Load W32 LdrW Whole false e (λ os. refl) refl refl load_32 fits opened rel
+  word_load_form i s c W64 other e fits opened rel =
+      load_form i s c op.Load W64 LdrX Whole false e (λ os. refl) refl refl load_64 fits opened rel
 
   store_form : (i : AirInst) (s : State) (c : Machine) (o : AirOp) (width : Width) (kind : AccessKind) (extent : Extent) → i.op ≡ o
-      → ((os : List Operand) → inst_code z.frame o os ≡ store_code z.frame o os) → access_kind o width ≡ kind → i.traps ≡ false
+      → ((os : List Operand) → inst_code z.frame o os ≡ store_code z.frame o os) → access_kind o width ≡ kind
       → kind_of o ≡ Stores extent → IsStore kind extent width
-      → AllFit (store width (access_bytes kind)) i.operands → AreOpen z i.operands → IsRelated z s c → InstRuns z i s c
-  store_form i s c o width kind extent e code same traps stores is fits opened rel =
+      → AllFit (store width (access_bytes kind)) i.operands → AreOpen z i.operands → IsRelated z s c → AccessRuns z i s c (fetch_stored z.frame i.operands) (store_inst i.op i.operands)
+  store_form i s c o width kind extent e code same stores is fits opened rel =
       let a = fit_cons (Word width OnlyZero) (Address width (access_bytes kind) ∷ []) i.operands fits in
       let b = fit_cons (Address width (access_bytes kind)) [] a.1 a.4 in
       let operands : i.operands ≡ a.0 ∷ b.0 ∷ [] = a.2 ∙ ap (λ os. a.0 ∷ os) (b.2 ∙ ap (λ os. b.0 ∷ os) (fit_nil b.1 b.4)) in
@@ -310,16 +330,16 @@ module _ (z : Setting) (set : IsSet z) (serves : IsFrameOf z.procedure z.frame) 
       let reachable = (opened 1 b.0 (ap (λ os. slice_get os 1) operands)).reaches b.3.0 (access_bytes kind) b.3.2 in
       store_runs z set serves i s c a.0 b.0 kind extent operands
       (subst (λ o. inst_code z.frame o (a.0 ∷ b.0 ∷ []) ≡ store_code z.frame o (a.0 ∷ b.0 ∷ [])) (sym e) (code (a.0 ∷ b.0 ∷ [])))
-      (subst (λ o. access_kind o a.0.width ≡ kind) (sym e) (ap (access_kind o) a.3.1 ∙ same)) traps (ap kind_of e ∙ stores)
+      (subst (λ o. access_kind o a.0.width ≡ kind) (sym e) (ap (access_kind o) a.3.1 ∙ same)) (ap kind_of e ∙ stores)
       (subst (IsStore kind extent) (sym a.3.1) is) a.3.0 b.3.0 rel usable (subst (λ w. IsWord OnlyZero w a.0.arg) (sym a.3.1) a.3.2) reachable b.3.2
 
-  word_store_form : (i : AirInst) (s : State) (c : Machine) (width other : Width) → i.op ≡ op.Store → i.traps ≡ false → AreThese (takes op.Store width other) i.operands
-      → AreOpen z i.operands → IsRelated z s c → InstRuns z i s c
+  word_store_form : (i : AirInst) (s : State) (c : Machine) (width other : Width) → i.op ≡ op.Store → AreThese (takes op.Store width other) i.operands
+      → AreOpen z i.operands → IsRelated z s c → AccessRuns z i s c (fetch_stored z.frame i.operands) (store_inst i.op i.operands)
   unfolding inst_code
-  word_store_form i s c W32 other e traps fits opened rel =
-      store_form i s c op.Store W32 StrW Whole e (λ os. refl) refl traps refl store_32 fits opened rel
-  word_store_form i s c W64 other e traps fits opened rel =
-      store_form i s c op.Store W64 StrX Whole e (λ os. refl) refl traps refl store_64 fits opened rel
+  word_store_form i s c W32 other e fits opened rel =
+      store_form i s c op.Store W32 StrW Whole e (λ os. refl) refl refl store_32 fits opened rel
+  word_store_form i s c W64 other e fits opened rel =
+      store_form i s c op.Store W64 StrX Whole e (λ os. refl) refl refl store_64 fits opened rel
 
   slot_form : (i : AirInst) (s : State) (c : Machine) → i.op ≡ op.SlotAddress → AllFit (Slot ∷ Result W64 ∷ []) i.operands
       → AreOpen z i.operands → IsRelated z s c → InstRuns z i s c
@@ -542,50 +562,77 @@ module _ (z : Setting) (set : IsSet z) (serves : IsFrameOf z.procedure z.frame) 
   select_form i s c NonZero width other e fits opened rel = select_one i s c NonZero width other (home width) e fits (nonzero_test width) opened rel
   select_form i s c (Bit k) width other e fits opened rel = select_one i s c (Bit k) width other (BitOf width k) e fits (bit_test width k) opened rel
 
-  by_op : (i : AirInst) (s : State) (c : Machine) (returns : Returns) (o : AirOp) → i.op ≡ o → is_built o i.traps ≡ true → target_count o ≡ None → HasOperands returns o i.operands
+  -- ---- accesses
+
+  -- an access runs or traps
+  abbrev pub LoadRuns : AirInst → State → Machine → Type 0
+  LoadRuns i s c = AccessRuns z i s c (fetch_address z.frame (arg_at i.operands 0)) (load_inst i.op i.operands)
+
+  abbrev pub StoreRuns : AirInst → State → Machine → Type 0
+  StoreRuns i s c = AccessRuns z i s c (fetch_stored z.frame i.operands) (store_inst i.op i.operands)
+
+  pub load_by : (i : AirInst) (s : State) (c : Machine) (returns : Returns) (o : AirOp) → i.op ≡ o → is_load o ≡ true → HasOperands returns o i.operands
+      → AreOpen z i.operands → IsRelated z s c → LoadRuns i s c
+  unfolding inst_code
+  load_by i s c returns op.Load8Z e is h opened rel = load_form i s c op.Load8Z W32 Ldrb Byte false e (λ os. refl) refl refl (load_8z W32) h.2 opened rel
+  load_by i s c returns op.Load8S e is h opened rel = load_form i s c op.Load8S W32 Ldrsb Byte true e (λ os. refl) refl refl (load_8s W32) h.2 opened rel
+  load_by i s c returns op.Load16Z e is h opened rel = load_form i s c op.Load16Z W32 Ldrh Half false e (λ os. refl) refl refl (load_16z W32) h.2 opened rel
+  load_by i s c returns op.Load16S e is h opened rel = load_form i s c op.Load16S W32 Ldrsh Half true e (λ os. refl) refl refl (load_16s W32) h.2 opened rel
+  load_by i s c returns op.Load e is h opened rel = word_load_form i s c h.0 h.1 e h.2 opened rel
+  load_by i s c returns o e is h opened rel = absurd cc
+
+  pub store_by : (i : AirInst) (s : State) (c : Machine) (returns : Returns) (o : AirOp) → i.op ≡ o → is_store_op o ≡ true → HasOperands returns o i.operands
+      → AreOpen z i.operands → IsRelated z s c → StoreRuns i s c
+  unfolding inst_code
+  store_by i s c returns op.Store8 e is h opened rel = store_form i s c op.Store8 W32 Strb Byte e (λ os. refl) refl refl store_8 h.2 opened rel
+  store_by i s c returns op.Store16 e is h opened rel = store_form i s c op.Store16 W32 Strh Half e (λ os. refl) refl refl store_16 h.2 opened rel
+  store_by i s c returns op.Store e is h opened rel = word_store_form i s c h.0 h.1 e h.2 opened rel
+  store_by i s c returns o e is h opened rel = absurd cc
+
+  by_op : (i : AirInst) (s : State) (c : Machine) (returns : Returns) (o : AirOp) → i.op ≡ o → is_straight o ≡ true → HasOperands returns o i.operands
       → AreOpen z i.operands → IsRelated z s c → InstRuns z i s c
   unfolding inst_code
-  by_op i s c returns op.Move e built inner h opened rel = move_form i s c h.0 e h.2 opened rel
-  by_op i s c returns op.Add e built inner h opened rel = two_form i s c op.Add h.0 h.0 h.0 OfSum e tt refl h.2 tt refl (λ n. absurd cc) (λ b usable is. fits_source z OfSum h.0 16 b usable is) opened rel
-  by_op i s c returns op.Sub e built inner h opened rel = two_form i s c op.Sub h.0 h.0 h.0 NoImmediate e tt refl h.2 tt refl (λ n. refl) (λ b usable is. tt) opened rel
-  by_op i s c returns op.Neg e built inner h opened rel = one_form i s c op.Neg h.0 h.0 e tt refl h.2 tt (λ b. tt) opened rel
-  by_op i s c returns op.Mul e built inner h opened rel = two_form i s c op.Mul h.0 h.0 h.0 NoImmediate e tt refl h.2 tt refl (λ n. refl) (λ b usable is. tt) opened rel
-  by_op i s c returns op.MulSub e built inner h opened rel = three_form i s c op.MulSub h.0 h.0 e tt refl h.2 tt (λ b. tt) opened rel
-  by_op i s c returns op.Div e built inner h opened rel = two_form i s c op.Div h.0 h.0 h.0 NoImmediate e tt refl h.2 tt refl (λ n. refl) (λ b usable is. tt) opened rel
-  by_op i s c returns op.UDiv e built inner h opened rel = two_form i s c op.UDiv h.0 h.0 h.0 NoImmediate e tt refl h.2 tt refl (λ n. refl) (λ b usable is. tt) opened rel
-  by_op i s c returns op.And e built inner h opened rel = two_form i s c op.And h.0 h.0 h.0 OfLogic e tt refl h.2 tt refl (λ n. absurd cc) (λ b usable is. fits_source z OfLogic h.0 16 b usable is) opened rel
-  by_op i s c returns op.Or e built inner h opened rel = two_form i s c op.Or h.0 h.0 h.0 OfLogic e tt refl h.2 tt refl (λ n. absurd cc) (λ b usable is. fits_source z OfLogic h.0 16 b usable is) opened rel
-  by_op i s c returns op.Xor e built inner h opened rel = two_form i s c op.Xor h.0 h.0 h.0 OfLogic e tt refl h.2 tt refl (λ n. absurd cc) (λ b usable is. fits_source z OfLogic h.0 16 b usable is) opened rel
-  by_op i s c returns op.Lsl e built inner h opened rel = two_form i s c op.Lsl h.0 W32 h.0 AnyWord e tt refl h.2 tt refl (λ n. absurd cc) (λ b usable is. tt) opened rel
-  by_op i s c returns op.Lsr e built inner h opened rel = two_form i s c op.Lsr h.0 W32 h.0 AnyWord e tt refl h.2 tt refl (λ n. absurd cc) (λ b usable is. tt) opened rel
-  by_op i s c returns op.Asr e built inner h opened rel = two_form i s c op.Asr h.0 W32 h.0 AnyWord e tt refl h.2 tt refl (λ n. absurd cc) (λ b usable is. tt) opened rel
-  by_op i s c returns op.Ror e built inner h opened rel = two_form i s c op.Ror h.0 W32 h.0 AnyWord e tt refl h.2 tt refl (λ n. absurd cc) (λ b usable is. tt) opened rel
-  by_op i s c returns op.Clz e built inner h opened rel = one_form i s c op.Clz h.0 h.0 e tt refl h.2 tt (λ b. tt) opened rel
-  by_op i s c returns op.SExt8 e built inner h opened rel = one_form i s c op.SExt8 W32 W32 e tt refl h.2 refl (λ b. tt) opened rel
-  by_op i s c returns op.SExt16 e built inner h opened rel = one_form i s c op.SExt16 W32 W32 e tt refl h.2 refl (λ b. tt) opened rel
-  by_op i s c returns op.SExt32 e built inner h opened rel = one_form i s c op.SExt32 W32 W64 e tt refl h.2 refl (λ b. tt) opened rel
-  by_op i s c returns op.ZExt32 e built inner h opened rel = one_form i s c op.ZExt32 W32 W64 e tt refl h.2 refl (λ b. tt) opened rel
-  by_op i s c returns op.MulHigh e built inner h opened rel = two_form i s c op.MulHigh W64 W64 W64 NoImmediate e tt refl h.2 refl refl (λ n. refl) (λ b usable is. tt) opened rel
-  by_op i s c returns op.UMulHigh e built inner h opened rel = two_form i s c op.UMulHigh W64 W64 W64 NoImmediate e tt refl h.2 refl refl (λ n. refl) (λ b usable is. tt) opened rel
-  by_op i s c returns (op.SetIf t) e built inner h opened rel = set_form i s c t h.0 h.1 e h.2 opened rel
-  by_op i s c returns (op.SelectIf t) e built inner h opened rel = select_form i s c t h.0 h.1 e h.2 opened rel
-  by_op i s c returns op.Load8Z e built inner h opened rel = load_form i s c op.Load8Z W32 Ldrb Byte false e (λ os. refl) refl (is_false i.traps built) refl (load_8z W32) h.2 opened rel
-  by_op i s c returns op.Load8S e built inner h opened rel = load_form i s c op.Load8S W32 Ldrsb Byte true e (λ os. refl) refl (is_false i.traps built) refl (load_8s W32) h.2 opened rel
-  by_op i s c returns op.Load16Z e built inner h opened rel = load_form i s c op.Load16Z W32 Ldrh Half false e (λ os. refl) refl (is_false i.traps built) refl (load_16z W32) h.2 opened rel
-  by_op i s c returns op.Load16S e built inner h opened rel = load_form i s c op.Load16S W32 Ldrsh Half true e (λ os. refl) refl (is_false i.traps built) refl (load_16s W32) h.2 opened rel
-  by_op i s c returns op.Load e built inner h opened rel = word_load_form i s c h.0 h.1 e (is_false i.traps built) h.2 opened rel
-  by_op i s c returns op.Store8 e built inner h opened rel = store_form i s c op.Store8 W32 Strb Byte e (λ os. refl) refl (is_false i.traps built) refl store_8 h.2 opened rel
-  by_op i s c returns op.Store16 e built inner h opened rel = store_form i s c op.Store16 W32 Strh Half e (λ os. refl) refl (is_false i.traps built) refl store_16 h.2 opened rel
-  by_op i s c returns op.Store e built inner h opened rel = word_store_form i s c h.0 h.1 e (is_false i.traps built) h.2 opened rel
-  by_op i s c returns op.SlotAddress e built inner h opened rel = slot_form i s c e h.2 opened rel
-  by_op i s c returns op.FramePointer e built inner h opened rel = pointer_form i s c e h.2 opened rel
-  by_op i s c returns (op.BranchIf t) e built inner h opened rel = absurd cc
-  by_op i s c returns op.Jump e built inner h opened rel = absurd cc
-  by_op i s c returns (op.Switch cases) e built inner h opened rel = absurd cc
-  by_op i s c returns op.Return e built inner h opened rel = absurd cc
-  by_op i s c returns op.Oops e built inner h opened rel = absurd cc
-  by_op i s c returns o e built inner h opened rel = absurd cc
+  by_op i s c returns op.Move e straight h opened rel = move_form i s c h.0 e h.2 opened rel
+  by_op i s c returns op.Add e straight h opened rel = two_form i s c op.Add h.0 h.0 h.0 OfSum e tt refl h.2 tt refl (λ n. absurd cc) (λ b usable is. fits_source z OfSum h.0 16 b usable is) opened rel
+  by_op i s c returns op.Sub e straight h opened rel = two_form i s c op.Sub h.0 h.0 h.0 NoImmediate e tt refl h.2 tt refl (λ n. refl) (λ b usable is. tt) opened rel
+  by_op i s c returns op.Neg e straight h opened rel = one_form i s c op.Neg h.0 h.0 e tt refl h.2 tt (λ b. tt) opened rel
+  by_op i s c returns op.Mul e straight h opened rel = two_form i s c op.Mul h.0 h.0 h.0 NoImmediate e tt refl h.2 tt refl (λ n. refl) (λ b usable is. tt) opened rel
+  by_op i s c returns op.MulSub e straight h opened rel = three_form i s c op.MulSub h.0 h.0 e tt refl h.2 tt (λ b. tt) opened rel
+  by_op i s c returns op.Div e straight h opened rel = two_form i s c op.Div h.0 h.0 h.0 NoImmediate e tt refl h.2 tt refl (λ n. refl) (λ b usable is. tt) opened rel
+  by_op i s c returns op.UDiv e straight h opened rel = two_form i s c op.UDiv h.0 h.0 h.0 NoImmediate e tt refl h.2 tt refl (λ n. refl) (λ b usable is. tt) opened rel
+  by_op i s c returns op.And e straight h opened rel = two_form i s c op.And h.0 h.0 h.0 OfLogic e tt refl h.2 tt refl (λ n. absurd cc) (λ b usable is. fits_source z OfLogic h.0 16 b usable is) opened rel
+  by_op i s c returns op.Or e straight h opened rel = two_form i s c op.Or h.0 h.0 h.0 OfLogic e tt refl h.2 tt refl (λ n. absurd cc) (λ b usable is. fits_source z OfLogic h.0 16 b usable is) opened rel
+  by_op i s c returns op.Xor e straight h opened rel = two_form i s c op.Xor h.0 h.0 h.0 OfLogic e tt refl h.2 tt refl (λ n. absurd cc) (λ b usable is. fits_source z OfLogic h.0 16 b usable is) opened rel
+  by_op i s c returns op.Lsl e straight h opened rel = two_form i s c op.Lsl h.0 W32 h.0 AnyWord e tt refl h.2 tt refl (λ n. absurd cc) (λ b usable is. tt) opened rel
+  by_op i s c returns op.Lsr e straight h opened rel = two_form i s c op.Lsr h.0 W32 h.0 AnyWord e tt refl h.2 tt refl (λ n. absurd cc) (λ b usable is. tt) opened rel
+  by_op i s c returns op.Asr e straight h opened rel = two_form i s c op.Asr h.0 W32 h.0 AnyWord e tt refl h.2 tt refl (λ n. absurd cc) (λ b usable is. tt) opened rel
+  by_op i s c returns op.Ror e straight h opened rel = two_form i s c op.Ror h.0 W32 h.0 AnyWord e tt refl h.2 tt refl (λ n. absurd cc) (λ b usable is. tt) opened rel
+  by_op i s c returns op.Clz e straight h opened rel = one_form i s c op.Clz h.0 h.0 e tt refl h.2 tt (λ b. tt) opened rel
+  by_op i s c returns op.SExt8 e straight h opened rel = one_form i s c op.SExt8 W32 W32 e tt refl h.2 refl (λ b. tt) opened rel
+  by_op i s c returns op.SExt16 e straight h opened rel = one_form i s c op.SExt16 W32 W32 e tt refl h.2 refl (λ b. tt) opened rel
+  by_op i s c returns op.SExt32 e straight h opened rel = one_form i s c op.SExt32 W32 W64 e tt refl h.2 refl (λ b. tt) opened rel
+  by_op i s c returns op.ZExt32 e straight h opened rel = one_form i s c op.ZExt32 W32 W64 e tt refl h.2 refl (λ b. tt) opened rel
+  by_op i s c returns op.MulHigh e straight h opened rel = two_form i s c op.MulHigh W64 W64 W64 NoImmediate e tt refl h.2 refl refl (λ n. refl) (λ b usable is. tt) opened rel
+  by_op i s c returns op.UMulHigh e straight h opened rel = two_form i s c op.UMulHigh W64 W64 W64 NoImmediate e tt refl h.2 refl refl (λ n. refl) (λ b usable is. tt) opened rel
+  by_op i s c returns (op.SetIf t) e straight h opened rel = set_form i s c t h.0 h.1 e h.2 opened rel
+  by_op i s c returns (op.SelectIf t) e straight h opened rel = select_form i s c t h.0 h.1 e h.2 opened rel
+  by_op i s c returns op.Load8Z e straight h opened rel = absurd cc
+  by_op i s c returns op.Load8S e straight h opened rel = absurd cc
+  by_op i s c returns op.Load16Z e straight h opened rel = absurd cc
+  by_op i s c returns op.Load16S e straight h opened rel = absurd cc
+  by_op i s c returns op.Load e straight h opened rel = absurd cc
+  by_op i s c returns op.Store8 e straight h opened rel = absurd cc
+  by_op i s c returns op.Store16 e straight h opened rel = absurd cc
+  by_op i s c returns op.Store e straight h opened rel = absurd cc
+  by_op i s c returns op.SlotAddress e straight h opened rel = slot_form i s c e h.2 opened rel
+  by_op i s c returns op.FramePointer e straight h opened rel = pointer_form i s c e h.2 opened rel
+  by_op i s c returns (op.BranchIf t) e straight h opened rel = absurd cc
+  by_op i s c returns op.Jump e straight h opened rel = absurd cc
+  by_op i s c returns (op.Switch cases) e straight h opened rel = absurd cc
+  by_op i s c returns op.Return e straight h opened rel = absurd cc
+  by_op i s c returns op.Oops e straight h opened rel = absurd cc
+  by_op i s c returns o e straight h opened rel = absurd cc
 
-  pub inst_runs : (i : AirInst) (s : State) (c : Machine) (returns : Returns) → is_built i.op i.traps ≡ true → target_count i.op ≡ None → HasOperands returns i.op i.operands
+  pub inst_runs : (i : AirInst) (s : State) (c : Machine) (returns : Returns) → is_straight i.op ≡ true → HasOperands returns i.op i.operands
       → AreOpen z i.operands → IsRelated z s c → InstRuns z i s c
-  inst_runs i s c returns built inner h opened rel = by_op i s c returns i.op refl built inner h opened rel
+  inst_runs i s c returns straight h opened rel = by_op i s c returns i.op refl straight h opened rel

@@ -1,5 +1,5 @@
 -- How the relation of a run of Air and the machine is kept.
-use Rattle.std.proofs.Common.{◌≡◌, ℕ, ◌+◌, ◌-◌, ◌*◌, ◌%◌, ◌^◌, ◌<◌, ◌≤◌, ◌⊎◌, true, inl, inr, ⊎_elim, Option, Some, None, refl, sym, ap, ◌∙◌, subst, arith}
+use Rattle.std.proofs.Common.{◌≡◌, ℕ, ◌+◌, ◌-◌, ◌*◌, ◌%◌, ◌^◌, ◌<◌, ◌≤◌, ◌⊎◌, false, true, inl, inr, ⊎_elim, Option, Some, None, refl, sym, ap, ◌∙◌, subst, arith}
 use Rattle.std.specs.Prelude.{is_some, IfSome, IsSomeAnd, slice_get}
 use Rattle.std.proofs.lemmas.Option.{get_or_from_slice_get}
 use Rattle.b3_base.specs.Arithmetic.{low}
@@ -20,7 +20,7 @@ use Rattle.air_frame.specs.Frames.{IsFrameOf}
 use Rattle.air_frame.specs.Needs.{names}
 use Rattle.a64_layout.specs.Machine.{Machine}
 use Rattle.a64_run.specs.Placement.{frame_pointer_of, visible}
-use Rattle.a64_emit.specs.Places.{spill_offset}
+use Rattle.a64_code.specs.Places.{spill_offset}
 use Rattle.a64_emit.specs.Related.{Carries, HasFrame, IsRelated, word_below}
 use Rattle.a64_emit.specs.Setting.{IsSet, Setting, row}
 use Rattle.a64_emit.proofs.Straight.{IsWhole}
@@ -68,6 +68,7 @@ keeps_frame z c d k f = record {
   bytes = subst AreBytes (sym k.memory) f.bytes;
   whole = λ address inside. ap (λ (m : Memory). is_some (m address)) k.memory ∙ f.whole address inside;
   mapped = λ address there. ap (λ (m : Memory). is_some (m address)) k.memory ∙ f.mapped address there;
+  unmapped = λ address none out. ap (λ (m : Memory). m address) k.memory ∙ f.unmapped address none out;
   caller = ap (λ (m : Memory). read_word m (frame_pointer_of z.entry - 0) 8) k.memory ∙ f.caller;
   link = ap (λ (m : Memory). read_word m (frame_pointer_of z.entry + 8) 8) k.memory ∙ f.link;
   saved = λ s there. ap (λ (m : Memory). read_word m (frame_pointer_of z.entry - s.offset) 8) k.memory ∙ f.saved s there;
@@ -83,6 +84,15 @@ keeps_related z s c d k rel = record {
       (word.0, ap (λ (m : Memory). read_word m (frame_pointer_of z.entry - offset) 8) k.memory ∙ word.1, word.2);
   memory = rel.memory ∙ ap (visible (row z) z.entry) (sym k.memory);
 }
+
+-- a byte that isn't there is none
+pub none_byte : (o : Option ℕ) → is_some o ≡ false → o ≡ None
+none_byte None e = refl
+none_byte (Some byte) e = absurd cc
+
+-- nor is it where the same bytes are there
+pub none_still : (o p : Option ℕ) → is_some p ≡ is_some o → o ≡ None → p ≡ None
+none_still o p same none = none_byte p (same ∙ ap is_some none)
 
 -- a word of the machine is one of 64 bits
 pub word-small : (z : Setting) (c : Machine) (offset w : ℕ) → HasFrame z c → word_below z c offset ≡ Some w → w < 2 ^ 64

@@ -1,16 +1,13 @@
 -- How often labels stand in emitted code.
-use Rattle.std.proofs.Common.{◌≡◌, ℕ, zero, suc, ◌+◌, ◌<◌, ◌≤◌, ⊎_elim, Bool, true, false, not, cond, List, [], ◌∷◌, ◌++◌, Some, None, length, get_or, refl, sym, ap, ◌∙◌, subst, arith, eq-eqb}
-use Rattle.std.specs.Prelude.{All, nat_lt, slice_get, ◌==◌}
+use Rattle.std.proofs.Common.{◌≡◌, ℕ, zero, suc, ◌+◌, ◌<◌, ◌≤◌, ⊎_elim, Bool, true, false, not, cond, List, [], ◌∷◌, ◌++◌, Some, length, get_or, refl, sym, ap, ◌∙◌, subst, arith, eq-eqb}
+use Rattle.std.specs.Prelude.{nat_lt, slice_get, ◌==◌}
 use Rattle.std.specs.List.{count_by, position_or_len, sum_by}
 use Rattle.std.proofs.lemmas.Bool.Decides.{nat_tests}
-use Rattle.std.proofs.lemmas.List.Elements.{All-head, All-tail}
 use Rattle.std.proofs.lemmas.List.Sums.{sum_by-append, sum_by-cons}
 use Rattle.a64_inst.specs.declared.inst.Cond.TheVariants.{Eq, Hi}
 use Rattle.a64_inst.specs.declared.item.Item.{Item}
 use Rattle.a64_inst.specs.declared.item.Item.TheVariants.{If, IfBit, IfZero, Jump, Label, Mark, Plain}
 use Rattle.b3_base.specs.declared.word.Width.{Width}
-use Rattle.air_ir.specs.Kinds.{target_count}
-use Rattle.air_ir.specs.WellFormed.{IsGoodBlock, IsWellFormed}
 use Rattle.air_ir.specs.declared.frame.Frame.{Frame}
 use Rattle.air_ir.specs.declared.op.AirOp.{AirOp}
 use Rattle.air_ir.specs.declared.op.AirOp.TheVariants as op
@@ -21,9 +18,9 @@ use Rattle.air_ir.specs.declared.procedure.AirProc.{AirProc}
 use Rattle.a64_layout.specs.Layout.{is_label, position_of}
 use Rattle.a64_layout.specs.Text.{is_any_label, label_count}
 use Rattle.a64_layout.proofs.Labels.{label_stands}
-use Rattle.a64_emit.specs.Code.{arg_at, block_labels, blocks_items, emitted, fetch, inst_items, insts_items, own_labels, source_at, width_at}
-use Rattle.a64_emit.specs.Computing.{reg_of}
-use Rattle.a64_emit.specs.Places.{plains, prologue}
+use Rattle.a64_emit.specs.Code.{arg_at, block_labels, block_marks, blocks_items, emitted, fetch, inst_items, insts_items, labels_of, marks_of, own_labels, source_at, width_at}
+use Rattle.a64_code.specs.Computing.{reg_of}
+use Rattle.a64_code.specs.Places.{plains, prologue}
 use Rattle.a64_emit.specs.Switched.{case_items, cases_in_order, compare_word, jump_to, search_items, switch_items, switch_labels}
 use Rattle.a64_emit.specs.Trees.{Leaf, Node, Tree, node_count, tree}
 use Rattle.a64_emit.specs.declared.case.Case.{Case}
@@ -69,7 +66,7 @@ none_times label items none =
 both_times : (p : Item → Bool) (xs ys : List Item) → count_by p (xs ++ ys) ≡ count_by p xs + count_by p ys
 both_times p xs ys = sum_by-append (λ item. cond (p item) 1 0) xs ys
 
-more_times : (p : Item → Bool) (item : Item) (items : List Item) → count_by p (item ∷ items) ≡ cond (p item) 1 0 + count_by p items
+pub more_times : (p : Item → Bool) (item : Item) (items : List Item) → count_by p (item ∷ items) ≡ cond (p item) 1 0 + count_by p items
 more_times p item items = sum_by-cons (λ item. cond (p item) 1 0) item items
 
 -- the labels of a search are its own ones, each once
@@ -115,10 +112,10 @@ search_count width reg other next own (Node before case behind) =
     omega arith
 
 -- and so are those of an instruction
-switch_times : (label : ℕ) (f : Frame) (next own : ℕ) (targets cases : List ℕ) (os : List Operand)
-    → label_times label (inst_items f next own targets (op.Switch cases) os) + below own label ≡ below (own + switch_labels cases) label
+switch_times : (label : ℕ) (f : Frame) (next own mark : ℕ) (targets cases : List ℕ) (traps : Bool) (os : List Operand)
+    → label_times label (inst_items f next own mark targets traps (op.Switch cases) os) + below own label ≡ below (own + switch_labels cases) label
 unfolding inst_items
-switch_times label f next own targets cases os =
+switch_times label f next own mark targets cases traps os =
     let width : Width = width_at os 0 in
     let t : Tree Case = tree (cases_in_order width cases targets) in
     let fetched : List Item = plains (fetch f 15 (arg_at os 0)) in
@@ -128,10 +125,10 @@ switch_times label f next own targets cases os =
     let same = ap (λ n. below (own + n) label) (search_labels width cases targets) in
     omega arith
 
-switch_count : (f : Frame) (next own : ℕ) (targets cases : List ℕ) (os : List Operand)
-    → label_count (inst_items f next own targets (op.Switch cases) os) ≡ switch_labels cases
+switch_count : (f : Frame) (next own mark : ℕ) (targets cases : List ℕ) (traps : Bool) (os : List Operand)
+    → label_count (inst_items f next own mark targets traps (op.Switch cases) os) ≡ switch_labels cases
 unfolding inst_items
-switch_count f next own targets cases os =
+switch_count f next own mark targets cases traps os =
     let width : Width = width_at os 0 in
     let t : Tree Case = tree (cases_in_order width cases targets) in
     let fetched : List Item = plains (fetch f 15 (arg_at os 0)) in
@@ -149,94 +146,73 @@ unlabelled_times label own n items each none =
     let same = ap (λ m. below m label) e in
     omega arith
 
-inst_times : (label : ℕ) (f : Frame) (next own : ℕ) (targets : List ℕ) (o : AirOp) (os : List Operand)
-    → label_times label (inst_items f next own targets o os) + below own label ≡ below (own + own_labels o) label
-inst_times label f next own targets o os =
+inst_times : (label : ℕ) (f : Frame) (next own mark : ℕ) (targets : List ℕ) (traps : Bool) (o : AirOp) (os : List Operand)
+    → label_times label (inst_items f next own mark targets traps o os) + below own label ≡ below (own + own_labels o) label
+inst_times label f next own mark targets traps o os =
     ⊎_elim
-    (λ (none : Each IsUnlabelled (inst_items f next own targets o os) × (own_labels o ≡ 0)).
-    unlabelled_times label own (own_labels o) (inst_items f next own targets o os) none.0 none.1)
+    (λ (none : Each IsUnlabelled (inst_items f next own mark targets traps o os) × (own_labels o ≡ 0)).
+    unlabelled_times label own (own_labels o) (inst_items f next own mark targets traps o os) none.0 none.1)
     (λ (is : (cases : List ℕ) × (o ≡ op.Switch cases)).
-    subst (λ o. label_times label (inst_items f next own targets o os) + below own label ≡ below (own + own_labels o) label) (sym is.1)
-    (switch_times label f next own targets is.0 os))
-    (inst_shape f next own targets o os)
+    subst (λ o. label_times label (inst_items f next own mark targets traps o os) + below own label ≡ below (own + own_labels o) label) (sym is.1)
+    (switch_times label f next own mark targets is.0 traps os))
+    (inst_shape f next own mark targets traps o os)
 
-inst_count : (f : Frame) (next own : ℕ) (targets : List ℕ) (o : AirOp) (os : List Operand) → label_count (inst_items f next own targets o os) ≡ own_labels o
-inst_count f next own targets o os =
+inst_count : (f : Frame) (next own mark : ℕ) (targets : List ℕ) (traps : Bool) (o : AirOp) (os : List Operand) → label_count (inst_items f next own mark targets traps o os) ≡ own_labels o
+inst_count f next own mark targets traps o os =
     ⊎_elim
-    (λ (none : Each IsUnlabelled (inst_items f next own targets o os) × (own_labels o ≡ 0)).
-    count_none is_any_label (inst_items f next own targets o os) none.0 ∙ sym none.1)
+    (λ (none : Each IsUnlabelled (inst_items f next own mark targets traps o os) × (own_labels o ≡ 0)).
+    count_none is_any_label (inst_items f next own mark targets traps o os) none.0 ∙ sym none.1)
     (λ (is : (cases : List ℕ) × (o ≡ op.Switch cases)).
-    subst (λ o. label_count (inst_items f next own targets o os) ≡ own_labels o) (sym is.1) (switch_count f next own targets is.0 os))
-    (inst_shape f next own targets o os)
+    subst (λ o. label_count (inst_items f next own mark targets traps o os) ≡ own_labels o) (sym is.1) (switch_count f next own mark targets is.0 traps os))
+    (inst_shape f next own mark targets traps o os)
 
--- an instruction that doesn't end its block has no label
-own_none : (o : AirOp) → target_count o ≡ None → own_labels o ≡ 0
-own_none (op.Switch cases) inner = absurd cc
-own_none o inner = refl
-
--- the labels of the instructions of a block are those of the last
-insts_times : (label : ℕ) (f : Frame) (next own : ℕ) (targets : List ℕ) (body : List AirInst) (last : AirInst)
-    → All (λ (i : AirInst). target_count i.op ≡ None) body
-    → label_times label (insts_items f next own targets (body ++ last ∷ [])) + below own label
-    ≡ below (own + sum_by (λ (i : AirInst). own_labels i.op) (body ++ last ∷ [])) label
+-- the labels of the instructions of a block are their own ones
+insts_times : (label : ℕ) (f : Frame) (next own mark : ℕ) (targets : List ℕ) (insts : List AirInst)
+    → label_times label (insts_items f next own mark targets insts) + below own label ≡ below (own + sum_by labels_of insts) label
 unfolding insts_items
-insts_times label f next own targets [] last inner =
-    let items : List Item = inst_items f next own targets last.op last.operands in
-    let parts = both_times (is_label label) items [] in
-    let here = inst_times label f next own targets last.op last.operands in
-    let sum = sum_by-cons (λ (i : AirInst). own_labels i.op) last [] in
-    let e : own + own_labels last.op ≡ own + sum_by (λ (i : AirInst). own_labels i.op) (last ∷ []) = omega arith in
+insts_times label f next own mark targets [] =
+    let e : own ≡ own + 0 = omega arith in
     let same = ap (λ n. below n label) e in
     omega arith
-insts_times label f next own targets (i ∷ body) last inner =
-    let items : List Item = inst_items f next own targets i.op i.operands in
-    let rest : List Item = insts_items f next own targets (body ++ last ∷ []) in
-    let none = own_none i.op (All-head (λ (i : AirInst). target_count i.op ≡ None) i body inner) in
+insts_times label f next own mark targets (i ∷ insts) =
+    let items : List Item = inst_items f next own mark targets i.traps i.op i.operands in
+    let rest : List Item = insts_items f next (own + labels_of i) (mark + marks_of i) targets insts in
     let parts = both_times (is_label label) items rest in
-    let here = inst_times label f next own targets i.op i.operands in
-    let more = insts_times label f next own targets body last (All-tail (λ (i : AirInst). target_count i.op ≡ None) i body inner) in
-    let sum = sum_by-cons (λ (i : AirInst). own_labels i.op) i (body ++ last ∷ []) in
-    let zero_here : own + own_labels i.op ≡ own = omega arith in
-    let same = ap (λ n. below n label) zero_here in
-    let e : own + sum_by (λ (i : AirInst). own_labels i.op) (body ++ last ∷ [])
-    ≡ own + sum_by (λ (i : AirInst). own_labels i.op) (i ∷ (body ++ last ∷ [])) = omega arith in
-    let same_rest = ap (λ n. below n label) e in
+    let here = inst_times label f next own mark targets i.traps i.op i.operands in
+    let more = insts_times label f next (own + labels_of i) (mark + marks_of i) targets insts in
+    let sum = sum_by-cons labels_of i insts in
+    let e : own + labels_of i + sum_by labels_of insts ≡ own + sum_by labels_of (i ∷ insts) = omega arith in
+    let same = ap (λ n. below n label) e in
     omega arith
 
-insts_count : (f : Frame) (next own : ℕ) (targets : List ℕ) (insts : List AirInst)
-    → label_count (insts_items f next own targets insts) ≡ sum_by (λ (i : AirInst). own_labels i.op) insts
+insts_count : (f : Frame) (next own mark : ℕ) (targets : List ℕ) (insts : List AirInst)
+    → label_count (insts_items f next own mark targets insts) ≡ sum_by labels_of insts
 unfolding insts_items
-insts_count f next own targets [] = refl
-insts_count f next own targets (i ∷ insts) =
-    let parts = both_times is_any_label (inst_items f next own targets i.op i.operands) (insts_items f next own targets insts) in
-    let here = inst_count f next own targets i.op i.operands in
-    let more = insts_count f next own targets insts in
-    let sum = sum_by-cons (λ (i : AirInst). own_labels i.op) i insts in
+insts_count f next own mark targets [] = refl
+insts_count f next own mark targets (i ∷ insts) =
+    let parts = both_times is_any_label (inst_items f next own mark targets i.traps i.op i.operands)
+    (insts_items f next (own + labels_of i) (mark + marks_of i) targets insts) in
+    let here = inst_count f next own mark targets i.traps i.op i.operands in
+    let more = insts_count f next (own + labels_of i) (mark + marks_of i) targets insts in
+    let sum = sum_by-cons labels_of i insts in
     omega arith
-
-block_times : (p : AirProc) (label : ℕ) (f : Frame) (next own : ℕ) (block : AirBlock) → IsGoodBlock p block
-    → label_times label (insts_items f next own block.targets block.insts) + below own label ≡ below (own + block_labels block) label
-block_times p label f next own block good =
-    subst (λ insts. label_times label (insts_items f next own block.targets insts) + below own label
-    ≡ below (own + sum_by (λ (i : AirInst). own_labels i.op) insts) label) (sym good.parts)
-    (insts_times label f next own block.targets good.body good.last good.inner)
 
 -- the labels of blocks are their numbers and their own ones
-blocks_times : (p : AirProc) (label : ℕ) (f : Frame) (first own : ℕ) (blocks : List AirBlock) → All (IsGoodBlock p) blocks
-    → label_times label (blocks_items f first own blocks) + below first label + below own label
+blocks_times : (label : ℕ) (f : Frame) (first own mark : ℕ) (blocks : List AirBlock)
+    → label_times label (blocks_items f first own mark blocks) + below first label + below own label
     ≡ below (first + length blocks) label + below (own + sum_by block_labels blocks) label
 unfolding blocks_items
-blocks_times p label f first own [] good =
+blocks_times label f first own mark [] =
     let a : first ≡ first + 0 = omega arith in
     let b : own ≡ own + 0 = omega arith in
     let same_a = ap (λ n. below n label) a in
     let same_b = ap (λ n. below n label) b in
     omega arith
-blocks_times p label f first own (block ∷ blocks) good =
-    let inside : List Item = insts_items f (first + 1) own block.targets block.insts in
-    let rest : List Item = blocks_items f (first + 1) (own + block_labels block) blocks in
-    let here = block_times p label f (first + 1) own block (All-head (IsGoodBlock p) block blocks good) in
-    let more = blocks_times p label f (first + 1) (own + block_labels block) blocks (All-tail (IsGoodBlock p) block blocks good) in
+blocks_times label f first own mark (block ∷ blocks) =
+    let inside : List Item = insts_items f (first + 1) own mark block.targets block.insts in
+    let rest : List Item = blocks_items f (first + 1) (own + block_labels block) (mark + block_marks block) blocks in
+    let here = insts_times label f (first + 1) own mark block.targets block.insts in
+    let more = blocks_times label f (first + 1) (own + block_labels block) (mark + block_marks block) blocks in
     let parts = both_times (is_label label) inside rest in
     let total = more_times (is_label label) (Label first) (inside ++ rest) in
     let one = label_one first label in
@@ -247,15 +223,15 @@ blocks_times p label f first own (block ∷ blocks) good =
     let same_b = ap (λ n. below n label) b in
     omega arith
 
-blocks_count : (f : Frame) (first own : ℕ) (blocks : List AirBlock)
-    → label_count (blocks_items f first own blocks) ≡ length blocks + sum_by block_labels blocks
+blocks_count : (f : Frame) (first own mark : ℕ) (blocks : List AirBlock)
+    → label_count (blocks_items f first own mark blocks) ≡ length blocks + sum_by block_labels blocks
 unfolding blocks_items
-blocks_count f first own [] = refl
-blocks_count f first own (block ∷ blocks) =
-    let inside : List Item = insts_items f (first + 1) own block.targets block.insts in
-    let rest : List Item = blocks_items f (first + 1) (own + block_labels block) blocks in
-    let here = insts_count f (first + 1) own block.targets block.insts in
-    let more = blocks_count f (first + 1) (own + block_labels block) blocks in
+blocks_count f first own mark [] = refl
+blocks_count f first own mark (block ∷ blocks) =
+    let inside : List Item = insts_items f (first + 1) own mark block.targets block.insts in
+    let rest : List Item = blocks_items f (first + 1) (own + block_labels block) (mark + block_marks block) blocks in
+    let here = insts_count f (first + 1) own mark block.targets block.insts in
+    let more = blocks_count f (first + 1) (own + block_labels block) (mark + block_marks block) blocks in
     let parts = both_times is_any_label inside rest in
     let total = more_times is_any_label (Label first) (inside ++ rest) in
     let sum = sum_by-cons block_labels block blocks in
@@ -270,9 +246,9 @@ pub labels_counted : (p : AirProc) (f : Frame) → label_count (emitted p f) ≡
 unfolding emitted
 labels_counted p f =
     let front : List Item = plains (prologue f) in
-    let rest : List Item = blocks_items f 0 (length p.blocks) p.blocks in
+    let rest : List Item = blocks_items f 0 (length p.blocks) 0 p.blocks in
     let none = count_none is_any_label front (plains_unlabelled (prologue f)) in
-    let more = blocks_count f 0 (length p.blocks) p.blocks in
+    let more = blocks_count f 0 (length p.blocks) 0 p.blocks in
     let both = both_times is_any_label front rest in
     omega arith
 
@@ -280,13 +256,13 @@ all_below : (n label : ℕ) → below 0 label ≡ 0
 all_below n label = grind (arith, nat_tests)
 
 -- each of them stands once
-pub code_times : (p : AirProc) (f : Frame) (label : ℕ) → IsWellFormed p → label_times label (emitted p f) ≡ below (all_labels p) label
+pub code_times : (p : AirProc) (f : Frame) (label : ℕ) → label_times label (emitted p f) ≡ below (all_labels p) label
 unfolding emitted
-code_times p f label well =
+code_times p f label =
     let front : List Item = plains (prologue f) in
-    let rest : List Item = blocks_items f 0 (length p.blocks) p.blocks in
+    let rest : List Item = blocks_items f 0 (length p.blocks) 0 p.blocks in
     let none = none_times label front (plains_unlabelled (prologue f)) in
-    let more = blocks_times p label f 0 (length p.blocks) p.blocks well.blocks in
+    let more = blocks_times label f 0 (length p.blocks) 0 p.blocks in
     let both = both_times (is_label label) front rest in
     let zero_below = all_below 0 label in
     let e : 0 + length p.blocks ≡ length p.blocks = omega arith in

@@ -36,17 +36,18 @@ use Rattle.a64_emit.proofs.Fits.{fitting}
 use Rattle.air_ir.specs.declared.procedure.AirBlock.{AirBlock}
 use Rattle.air_ir.specs.declared.procedure.AirInst.{AirInst}
 use Rattle.air_ir.specs.declared.procedure.AirProc.{AirProc}
-use Rattle.a64_emit.specs.Accesses.{access_kind, below_x29, upper}
-use Rattle.a64_emit.specs.Code.{arg_at, block_labels, blocks_items, branch_item, branches, compared, compute_code, copy_reg, bring, emitted, fetch, fetch_address, fetch_below, fetch_tested, frame_address, inst_code, inst_items, insts_items, load_code, own_labels, put_result, result_at, result_reg, slot_offset, source_at, source_of, store_code, test_at, test_count, width_at}
-use Rattle.a64_emit.specs.Computing.{computing, move_reg, reg_of, sum_with}
-use Rattle.a64_emit.specs.Constants.{constant, filling, half_count, half_move, half_moves, half_word, is_inverted}
-use Rattle.a64_emit.specs.Fitting.{IsComputed, IsFitting, IsLoaded, IsStored, IsTested}
-use Rattle.a64_emit.specs.Places.{above_sp, epilogue, leave, load_at, lower_sp, plains, prologue, restores, saves, spill_offset, store_at, unless_zero}
-use Rattle.a64_emit.specs.Switched.{case_items, case_of, cases_in_order, compare_word, is_sum_word, jump_to, search_items, sorted_words, switch_items}
+use Rattle.a64_code.specs.Accesses.{access_kind, below_x29, upper}
+use Rattle.a64_emit.specs.Code.{arg_at, block_labels, block_marks, blocks_items, branch_item, branches, compared, compute_code, copy_reg, bring, emitted, fetch, fetch_address, fetch_below, fetch_stored, fetch_tested, frame_address, inner_items, inst_code, inst_items, insts_items, labels_of, load_code, load_inst, load_items, marks_of, own_labels, put_result, result_at, result_reg, slot_offset, source_at, source_of, store_code, store_inst, store_items, test_at, test_count, width_at, with_mark, breaks, call_inst}
+use Rattle.a64_code.specs.Computing.{computing, move_reg, reg_of, sum_with, is_sum_word}
+use Rattle.a64_code.specs.Constants.{constant, filling, half_count, half_move, half_moves, half_word, is_inverted}
+use Rattle.a64_code.specs.Fitting.{IsComputed, IsTested}
+use Rattle.a64_emit.specs.Fitting.{IsFitting, IsLoaded, IsStored}
+use Rattle.a64_code.specs.Places.{above_sp, epilogue, leave, load_at, lower_sp, plains, prologue, restores, saves, spill_offset, store_at, unless_zero}
+use Rattle.a64_emit.specs.Switched.{case_items, case_of, cases_in_order, compare_word, jump_to, search_items, sorted_words, switch_items}
 use Rattle.a64_emit.specs.Trees.{Leaf, Node, Tree, node_count, tree}
 use Rattle.a64_emit.specs.declared.case.Case.{Case}
-use Rattle.a64_emit.specs.declared.source.Source.{Source}
-use Rattle.a64_emit.specs.declared.source.Source.TheVariants.{Constant}
+use Rattle.a64_code.specs.declared.source.Source.{Source}
+use Rattle.a64_code.specs.declared.source.Source.TheVariants.{Constant}
 use Rattle.a64_emit.proofs.AccessesWell.{HasSmallHomes, IsSmallHome, access_well}
 use Rattle.a64_emit.proofs.LabelCounts.{all_labels}
 use Rattle.a64_emit.proofs.Sorting.{each_map, search_labels, sorted_small}
@@ -125,6 +126,11 @@ moves_well width inverted reg word started (suc n) hw le count =
 constant_well : (width : Width) (reg word : ℕ) → reg ≤ 31 → AllWell (constant width reg word)
 unfolding constant
 constant_well width reg word le = moves_well width (is_inverted width word) reg word false (half_count width) 0 le (omega arith)
+
+breaks_well : (n : ℕ) → AllWell (breaks n)
+unfolding breaks
+breaks_well zero = tt
+breaks_well (suc n) = (omega arith, breaks_well n)
 
 -- ---- operands
 
@@ -361,7 +367,7 @@ module _ (f : Frame) (limit : f.bytes < 2 ^ 21) where
 
 -- ---- items
 
--- the fields of an item are in range, and a label that it is or names is below a number; it is no mark
+-- the fields of an item are in range, and a label that it is or names is below a number
 abbrev pub IsFair : ℕ → Item → Type 0
 IsFair n (Plain inst) = IsWellFormed inst
 IsFair n (Jump label) = label < n
@@ -369,7 +375,7 @@ IsFair n (If cond label) = label < n
 IsFair n (IfZero width nonzero reg label) = IsReg reg × (label < n)
 IsFair n (IfBit nonzero reg at label) = IsReg reg × (at < 64) × (label < n)
 IsFair n (Label label) = label < n
-IsFair n (Mark mark) = ⊥
+IsFair n (Mark mark) = Unit {0}
 
 plains_fair : (n : ℕ) (insts : List Inst) → AllWell insts → Each (IsFair n) (plains insts)
 plains_fair n [] well = tt
@@ -460,16 +466,59 @@ pub record IsFairInst (n label : ℕ) (targets : List ℕ) (o : AirOp) (os : Lis
   pub most : label + own_labels o ≤ n
 
 module _ (f : Frame) (limit : f.bytes < 2 ^ 21) (goods : All (IsGoodSaved f.bytes) f.saved) (n : ℕ) (some : 0 < n) where
-  pub inst_fair : (next label : ℕ) (targets : List ℕ) (o : AirOp) (os : List Operand) → IsFairInst n label targets o os → Each (IsFair n) (inst_items f next label targets o os)
+  with_mark_fair : (marks : Bool) (mark : ℕ) (before behind : List Inst) → AllWell before → AllWell behind → Each (IsFair n) (with_mark marks mark before behind)
+  with_mark_fair true mark before behind first rest =
+      each_append (IsFair n) (plains before ++ Mark mark ∷ []) (plains behind)
+      (each_append (IsFair n) (plains before) (Mark mark ∷ []) (plains_fair n before first) (tt, tt)) (plains_fair n behind rest)
+  with_mark_fair false mark before behind first rest =
+      each_append (IsFair n) (plains before ++ []) (plains behind)
+      (each_append (IsFair n) (plains before) [] (plains_fair n before first) tt) (plains_fair n behind rest)
+
+  load_fair : (mark : ℕ) (traps : Bool) (o : AirOp) (os : List Operand) → AreSmall os → IsLoaded o os → Each (IsFair n) (load_items f mark traps o os)
+  load_fair mark traps o os small fits =
+      let le = result_small (arg_at os 1) (small 1) in
+      with_mark_fair traps mark (fetch_address f (arg_at os 0)) (load_inst o os ∷ put_result f (result_reg (arg_at os 1)) (arg_at os 1))
+      (address_well f limit (arg_at os 0)) (
+        access_well (access_kind o (width_at os 0)) (result_reg (arg_at os 1)) (arg_at os 0) le (small_homes f limit (arg_at os 0) (small 0)) fits,
+        put_well f limit (result_reg (arg_at os 1)) (arg_at os 1) le,
+      )
+
+  store_fair : (mark : ℕ) (traps : Bool) (o : AirOp) (os : List Operand) → AreSmall os → IsStored o os → Each (IsFair n) (store_items f mark traps o os)
+  store_fair mark traps o os small fits =
+      with_mark_fair traps mark (fetch_stored f os) (store_inst o os ∷ [])
+      (well_append (fetch_address f (arg_at os 1)) (fetch f 17 (arg_at os 0)) (address_well f limit (arg_at os 1)) (fetch_well f limit 17 (arg_at os 0) (omega arith))) (
+        access_well (access_kind o (width_at os 0)) (reg_of (source_of 17 (arg_at os 0))) (arg_at os 1) (source_small 17 (arg_at os 0) (omega arith) (small 0))
+            (small_homes f limit (arg_at os 1) (small 1)) fits,
+        tt,
+      )
+
+  inner_fair : (mark : ℕ) (traps : Bool) (o : AirOp) (os : List Operand) → AreSmall os → IsFitting o os → Each (IsFair n) (inner_items f mark traps o os)
+  unfolding inner_items
+  inner_fair mark traps op.Load8Z os small fits = load_fair mark traps op.Load8Z os small fits
+  inner_fair mark traps op.Load8S os small fits = load_fair mark traps op.Load8S os small fits
+  inner_fair mark traps op.Load16Z os small fits = load_fair mark traps op.Load16Z os small fits
+  inner_fair mark traps op.Load16S os small fits = load_fair mark traps op.Load16S os small fits
+  inner_fair mark traps op.Load os small fits = load_fair mark traps op.Load os small fits
+  inner_fair mark traps op.Store8 os small fits = store_fair mark traps op.Store8 os small fits
+  inner_fair mark traps op.Store16 os small fits = store_fair mark traps op.Store16 os small fits
+  inner_fair mark traps op.Store os small fits = store_fair mark traps op.Store os small fits
+  inner_fair mark traps (op.Call typed) os small fits =
+      with_mark_fair true mark (fetch f 15 (arg_at os 0)) (call_inst os ∷ []) (fetch_well f limit 15 (arg_at os 0) (omega arith))
+      (source_small 15 (arg_at os 0) (omega arith) (small 0), tt)
+  inner_fair mark traps (op.Patch size typed) os small fits = with_mark_fair true mark [] (breaks size) tt (breaks_well size)
+  inner_fair mark traps o os small fits = plains_fair n (inst_code f o os) (code_well f limit o os small fits)
+
+  pub inst_fair : (next label mark : ℕ) (targets : List ℕ) (traps : Bool) (o : AirOp) (os : List Operand) → IsFairInst n label targets o os
+      → Each (IsFair n) (inst_items f next label mark targets traps o os)
   unfolding inst_items
-  inst_fair next label targets (op.BranchIf t) os h =
+  inst_fair next label mark targets traps (op.BranchIf t) os h =
       let reg : ℕ = reg_of (source_at os 0 15) in
       let le = source_small 15 (arg_at os 0) (omega arith) (h.small 0) in
       each_append (IsFair n) (plains (fetch_tested f t os ++ compared t os)) (branches t (width_at os 0) reg next (get_or targets 0 0) (get_or targets 1 0))
       (plains_fair n (fetch_tested f t os ++ compared t os) (well_append (fetch_tested f t os) (compared t os) (tested_well f limit t os) (compared_well f limit t os h.small h.fits)))
       (branches_fair n t (width_at os 0) (source_at os 1 16) reg next (get_or targets 0 0) (get_or targets 1 0) h.fits le (target_below n targets 0 some h.below) (target_below n targets 1 some h.below))
-  inst_fair next label targets op.Jump os h = jump_fair n next (get_or targets 0 0) (target_below n targets 0 some h.below)
-  inst_fair next label targets (op.Switch cases) os h =
+  inst_fair next label mark targets traps op.Jump os h = jump_fair n next (get_or targets 0 0) (target_below n targets 0 some h.below)
+  inst_fair next label mark targets traps (op.Switch cases) os h =
       let reg : ℕ = reg_of (source_at os 0 15) in
       let le = source_small 15 (arg_at os 0) (omega arith) (h.small 0) in
       each_append (IsFair n) (plains (fetch f 15 (arg_at os 0))) (switch_items (width_at os 0) reg next label cases targets)
@@ -481,9 +530,9 @@ module _ (f : Frame) (limit : f.bytes < 2 ^ 21) (goods : All (IsGoodSaved f.byte
       let count = search_labels (width_at os 0) cases targets in
       search_fair n (width_at os 0) reg (get_or targets (length cases) 0) next label t le are (target_below n targets (length cases) some h.below)
       (omega (arith, h.most)))
-  inst_fair next label targets op.Return os h = plains_fair n (epilogue f) (epilogue_well f limit goods)
-  inst_fair next label targets op.Oops os h = (omega arith, tt)
-  inst_fair next label targets o os h = plains_fair n (inst_code f o os) (code_well f limit o os h.small h.fits)
+  inst_fair next label mark targets traps op.Return os h = plains_fair n (epilogue f) (epilogue_well f limit goods)
+  inst_fair next label mark targets traps op.Oops os h = (omega arith, tt)
+  inst_fair next label mark targets traps o os h = inner_fair mark traps o os h.small h.fits
 
 -- ---- the procedure
 
@@ -506,7 +555,7 @@ named_small p role (Addr base offset) named = home_small p role base named
 named_small p role (Index base index shift) named = (home_small p role base named.0, home_small p role index named.1)
 named_small p role (FrameSlot n) named = tt
 
-names_small : (p : AirProc) (os : List Operand) → All (λ (o : Operand). NamesOwn p o.role o.arg) os → AreSmall os
+pub names_small : (p : AirProc) (os : List Operand) → All (λ (o : Operand). NamesOwn p o.role o.arg) os → AreSmall os
 names_small p os named k =
     let none : Operand = record { role = Use; width = W64; arg = Imm 0 } in
     ⊎_elim
@@ -518,40 +567,43 @@ module _ (p : AirProc) (f : Frame) (well : IsGoodProc p) (limit : f.bytes < 2 ^ 
   abbrev IsFairHere : Item → Type 0
   IsFairHere = IsFair (all_labels p)
 
-  insts_fair : (next label : ℕ) (targets : List ℕ) (insts : List AirInst) → All (IsGoodInst p) insts
-      → ((j : ℕ) → j < length targets → get_or targets j 0 < length p.blocks) → label + sum_by (λ (i : AirInst). own_labels i.op) insts ≤ all_labels p
-      → Each IsFairHere (insts_items f next label targets insts)
+  insts_fair : (next label mark : ℕ) (targets : List ℕ) (insts : List AirInst) → All (IsGoodInst p) insts
+      → ((j : ℕ) → j < length targets → get_or targets j 0 < length p.blocks) → label + sum_by labels_of insts ≤ all_labels p
+      → Each IsFairHere (insts_items f next label mark targets insts)
   unfolding insts_items
-  insts_fair next label targets [] good below most = tt
-  insts_fair next label targets (i ∷ insts) good below most =
+  insts_fair next label mark targets [] good below most = tt
+  insts_fair next label mark targets (i ∷ insts) good below most =
       let here = All-head (IsGoodInst p) i insts good in
-      let sum = sum_by-cons (λ (i : AirInst). own_labels i.op) i insts in
+      let sum = sum_by-cons labels_of i insts in
       let some = well.entry in
-      each_append IsFairHere (inst_items f next label targets i.op i.operands) (insts_items f next label targets insts)
-      (inst_fair f limit goods (all_labels p) (omega arith) next label targets i.op i.operands
+      each_append IsFairHere (inst_items f next label mark targets i.traps i.op i.operands)
+      (insts_items f next (label + labels_of i) (mark + marks_of i) targets insts)
+      (inst_fair f limit goods (all_labels p) (omega arith) next label mark targets i.traps i.op i.operands
       (record {
         small = names_small p i.operands here.names;
         fits = fitting p.returns i.op i.operands here.operands;
         below = λ j lt. let less = below j lt in omega arith;
         most = omega arith;
       }))
-      (insts_fair next label targets insts (All-tail (IsGoodInst p) i insts good) below (omega arith))
+      (insts_fair next (label + labels_of i) (mark + marks_of i) targets insts (All-tail (IsGoodInst p) i insts good) below (omega arith))
 
-  blocks_fair : (first label : ℕ) (blocks : List AirBlock) → All (IsGoodBlock p) blocks → first + length blocks ≤ length p.blocks
-      → label + sum_by block_labels blocks ≤ all_labels p → Each IsFairHere (blocks_items f first label blocks)
+  blocks_fair : (first label mark : ℕ) (blocks : List AirBlock) → All (IsGoodBlock p) blocks → first + length blocks ≤ length p.blocks
+      → label + sum_by block_labels blocks ≤ all_labels p → Each IsFairHere (blocks_items f first label mark blocks)
   unfolding blocks_items
-  blocks_fair first label [] good le most = tt
-  blocks_fair first label (block ∷ blocks) good le most =
+  blocks_fair first label mark [] good le most = tt
+  blocks_fair first label mark (block ∷ blocks) good le most =
       let here = All-head (IsGoodBlock p) block blocks good in
       let sum = sum_by-cons block_labels block blocks in (
         omega arith,
-        each_append IsFairHere (insts_items f (first + 1) label block.targets block.insts) (blocks_items f (first + 1) (label + block_labels block) blocks)
-            (insts_fair (first + 1) label block.targets block.insts here.insts (λ j lt. (here.targets j 0 lt).1) (omega arith))
-            (blocks_fair (first + 1) (label + block_labels block) blocks (All-tail (IsGoodBlock p) block blocks good) (omega arith) (omega arith)),
+        each_append IsFairHere (insts_items f (first + 1) label mark block.targets block.insts)
+            (blocks_items f (first + 1) (label + block_labels block) (mark + block_marks block) blocks)
+            (insts_fair (first + 1) label mark block.targets block.insts here.insts (λ j lt. (here.targets j 0 lt).1) (omega arith))
+            (blocks_fair (first + 1) (label + block_labels block) (mark + block_marks block) blocks (All-tail (IsGoodBlock p) block blocks good)
+            (omega arith) (omega arith)),
       )
 
   pub code_fair : Each (IsFair (all_labels p)) (emitted p f)
   unfolding emitted
   code_fair =
-      each_append IsFairHere (plains (prologue f)) (blocks_items f 0 (length p.blocks) p.blocks)
-      (plains_fair (all_labels p) (prologue f) (prologue_well f limit goods)) (blocks_fair 0 (length p.blocks) p.blocks well.blocks (omega arith) (omega arith))
+      each_append IsFairHere (plains (prologue f)) (blocks_items f 0 (length p.blocks) 0 p.blocks)
+      (plains_fair (all_labels p) (prologue f) (prologue_well f limit goods)) (blocks_fair 0 (length p.blocks) 0 p.blocks well.blocks (omega arith) (omega arith))

@@ -15,7 +15,7 @@ use Rattle.a64_layout.specs.Machine.{Machine, moved_to}
 use Rattle.a64_run.specs.Machine.{saved_at}
 use Rattle.a64_run.specs.Placement.{frame_pointer_of}
 use Rattle.air_frame.specs.Frames.{IsFrameOf}
-use Rattle.a64_emit.specs.Places.{above_sp, load_at, restores}
+use Rattle.a64_code.specs.Places.{above_sp, load_at, restores}
 use Rattle.a64_emit.specs.Related.{HasFrame, word_below}
 use Rattle.a64_emit.specs.Setting.{IsSet, Setting}
 use Rattle.a64_emit.proofs.Entering.{low_byte, with_sp}

@@ -1,6 +1,7 @@
 -- Emitted code is no longer than its procedure weighs.
-use Rattle.std.proofs.Common.{◌≡◌, ℕ, ◌+◌, ◌^◌, ◌<◌, ◌≤◌, Bool, true, List, [], ◌∷◌, ◌++◌, length, get_or, refl, ap, ◌∙◌, arith, length-append}
-use Rattle.std.specs.Prelude.{All}
+use Rattle.air_ir.specs.declared.operand.Role.TheVariants.{Clobber, Def}
+use Rattle.std.proofs.Common.{◌≡◌, ℕ, ◌+◌, ◌^◌, ◌<◌, ◌≤◌, Bool, true, false, List, [], ◌∷◌, ◌++◌, length, get_or, refl, ap, ◌∙◌, arith, length-append, zero, suc, sym, subst, map, drop}
+use Rattle.std.specs.Prelude.{All, if◌then◌else◌}
 use Rattle.std.specs.List.{sum_by}
 use Rattle.std.proofs.lemmas.List.{length-map}
 use Rattle.std.proofs.lemmas.List.Elements.{All-head, All-tail}
@@ -9,9 +10,11 @@ use Rattle.b3_base.specs.declared.word.Width.{Width}
 use Rattle.b3_base.specs.declared.word.Width.TheVariants.{W32, W64}
 use Rattle.stackmap.specs.declared.site.Returns.{Returns}
 use Rattle.stackmap.specs.declared.site.SavedRow.{SavedRow}
+use Rattle.a64_inst.specs.declared.inst.Inst.{Inst}
 use Rattle.a64_inst.specs.declared.item.Item.{Item}
 use Rattle.a64_inst.specs.declared.item.Item.TheVariants.{Label}
-use Rattle.air_ir.specs.Forms.{AllFit, AreThese, HasOperands, Takes, home, takes, test_takes}
+use Rattle.air_ir.specs.Forms.{AllFit, AreThese, HasOperands, Takes, home, takes, test_takes, arguments_from, call_clobbers, operand_in, spills_changed}
+use Rattle.air_ir.specs.Kinds.{kind_of}
 use Rattle.air_ir.specs.Weight.{inst_weight, op_words, words_by, weight}
 use Rattle.air_ir.specs.WellFormed.{IsGoodBlock, IsGoodInst, IsWellFormed}
 use Rattle.air_ir.specs.declared.frame.Frame.{Frame}
@@ -28,13 +31,13 @@ use Rattle.air_frame.specs.Needs.{callee_saved, writes}
 use Rattle.a64_layout.specs.Branch.{size_of}
 use Rattle.a64_layout.specs.Layout.{most_words}
 use Rattle.a64_emit.specs.Built.{IsBuilt, is_built}
-use Rattle.a64_emit.specs.Code.{arg_at, block_labels, blocks_items, compute_code, copy_code, emitted, frame_address, inst_code, inst_items, insts_items, load_code, own_labels, select_code, set_code, slot_offset, store_code, test_count, width_at}
+use Rattle.a64_emit.specs.Code.{arg_at, block_labels, block_marks, blocks_items, compute_code, copy_code, emitted, fetch_address, fetch_stored, frame_address, has_mark, inner_items, inst_code, inst_items, insts_items, labels_of, load_inst, load_items, marked_if, marks_of, own_labels, put_result, result_reg, select_code, set_code, slot_offset, store_inst, store_items, test_count, width_at, with_mark, breaks, call_inst, fetch}
 use Rattle.a64_emit.specs.Fitting.{AreFitting}
-use Rattle.a64_emit.specs.Places.{epilogue, plains, prologue}
+use Rattle.a64_code.specs.Places.{epilogue, plains, prologue}
 use Rattle.a64_emit.proofs.AccessesLight.{load_code_most, pointer_most, slot_most, store_code_most}
 use Rattle.a64_emit.specs.Switched.{switch_labels}
 use Rattle.a64_emit.specs.Trees.{tree}
-use Rattle.a64_emit.proofs.Sizes.{compute_most, most_is, operand_words, plain_words, words_of}
+use Rattle.a64_emit.proofs.Sizes.{compute_most, most_is, operand_words, plain_words, words_of, fetch_most, place_least}
 use Rattle.a64_emit.proofs.Trees.{nodes_few, tree_order}
 use Rattle.a64_emit.proofs.Weights.{branch_code_most, copy_most, epilogue_most, fit_count, jump_most, prologue_most, select_most, set_most, switch_code_most}
 
@@ -67,96 +70,140 @@ module _ (f : Frame) (few : length f.saved ≤ 10) where
       let plain = plain_words (compute_code f o os) in
       omega arith
 
-  load_light : (o : AirOp) (os : List Operand) → length os ≡ 2 → words_of (plains (load_code f o os)) ≤ 1 + sum_by (operand_words f) os
-  load_light o os count =
+  if_words : (marks : Bool) (mark : ℕ) → words_of (marked_if marks mark) ≡ 0
+  if_words true mark = refl
+  if_words false mark = refl
+
+  -- a mark has no word
+  with_mark_words : (marks : Bool) (mark : ℕ) (before behind : List Inst) → words_of (with_mark marks mark before behind) ≡ length before + length behind
+  with_mark_words marks mark before behind =
+      let all = sum_by-append (size_of true) (plains before ++ marked_if marks mark) (plains behind) in
+      let first = sum_by-append (size_of true) (plains before) (marked_if marks mark) in
+      let none = if_words marks mark in
+      let front = plain_words before in
+      let rest = plain_words behind in
+      omega arith
+
+  load_light : (mark : ℕ) (traps : Bool) (o : AirOp) (os : List Operand) → length os ≡ 2
+      → words_of (load_items f mark traps o os) ≤ 1 + sum_by (operand_words f) os
+  load_light mark traps o os count =
+      let behind : List Inst = load_inst o os ∷ put_result f (result_reg (arg_at os 1)) (arg_at os 1) in
       let most = load_code_most f o os count in
-      let plain = plain_words (load_code f o os) in
+      let both = length-append (fetch_address f (arg_at os 0)) behind in
+      let words = with_mark_words traps mark (fetch_address f (arg_at os 0)) behind in
       omega arith
 
-  store_light : (o : AirOp) (os : List Operand) → length os ≡ 2 → words_of (plains (store_code f o os)) ≤ 1 + sum_by (operand_words f) os
-  store_light o os count =
+  store_light : (mark : ℕ) (traps : Bool) (o : AirOp) (os : List Operand) → length os ≡ 2
+      → words_of (store_items f mark traps o os) ≤ 1 + sum_by (operand_words f) os
+  store_light mark traps o os count =
       let most = store_code_most f o os count in
-      let plain = plain_words (store_code f o os) in
+      let both = length-append (fetch_stored f os) (store_inst o os ∷ []) in
+      let words = with_mark_words traps mark (fetch_stored f os) (store_inst o os ∷ []) in
       omega arith
 
-  pub inst_light : (r : Returns) (next label : ℕ) (targets : List ℕ) (traps : Bool) (o : AirOp) (os : List Operand) → HasOperands r o os → is_built o traps ≡ true
-      → words_of (inst_items f next label targets o os) ≤ words_by o os
-  unfolding inst_items inst_code
-  inst_light r next label targets traps (op.BranchIf t) os has built =
+  breaks_count : (n : ℕ) → length (breaks n) ≡ n
+  unfolding breaks
+  breaks_count zero = refl
+  breaks_count (suc n) = ap suc (breaks_count n)
+
+  call_light : (mark : ℕ) (callee : Operand) (os : List Operand)
+      → words_of (with_mark true mark (fetch f 15 callee.arg) (call_inst (callee ∷ os) ∷ [])) ≤ 1 + sum_by (operand_words f) (callee ∷ os)
+  call_light mark callee os =
+      let fetched = fetch_most f 15 callee.arg in
+      let words = with_mark_words true mark (fetch f 15 callee.arg) (call_inst (callee ∷ os) ∷ []) in
+      let sum = sum_by-cons (operand_words f) callee os in
+      let least = place_least callee.arg in
+      omega arith
+
+  patch_light : (mark size : ℕ) (os : List Operand) → words_of (with_mark true mark [] (breaks size)) ≤ size + sum_by (operand_words f) os
+  patch_light mark size os =
+      let words = with_mark_words true mark [] (breaks size) in
+      let count = breaks_count size in
+      omega arith
+
+  pub inst_light : (r : Returns) (next label mark : ℕ) (targets : List ℕ) (traps : Bool) (o : AirOp) (os : List Operand) → HasOperands r o os → is_built o traps ≡ true
+      → words_of (inst_items f next label mark targets traps o os) ≤ words_by o os
+  unfolding inst_items inner_items inst_code
+  inst_light r next label mark targets traps (op.BranchIf t) os has built =
       branch_code_most f next targets t os (fit_count (test_takes t has.0) os has.2 ∙ test_length t has.0)
-  inst_light r next label targets traps op.Jump os has built = let most = jump_most next (get_or targets 0 0) in omega arith
-  inst_light r next label targets traps (op.Switch cases) os has built = switch_code_most f next label cases targets os (fit_count (home has.0 ∷ []) os has.1)
-  inst_light r next label targets traps op.Return os has built =
+  inst_light r next label mark targets traps op.Jump os has built = let most = jump_most next (get_or targets 0 0) in omega arith
+  inst_light r next label mark targets traps (op.Switch cases) os has built = switch_code_most f next label cases targets os (fit_count (home has.0 ∷ []) os has.1)
+  inst_light r next label mark targets traps op.Return os has built =
       let most = epilogue_most f few in
       let plain = plain_words (epilogue f) in
       omega arith
-  inst_light r next label targets traps op.Oops os has built = omega arith
-  inst_light r next label targets traps op.Move os has built =
+  inst_light r next label mark targets traps op.Oops os has built = omega arith
+  inst_light r next label mark targets traps op.Move os has built =
       let most = copy_most f os (fit_count (_ ∷ _ ∷ []) os has.2) in
       let plain = plain_words (copy_code f (width_at os 0) (arg_at os 0) (arg_at os 1)) in
       omega arith
-  inst_light r next label targets traps (op.SetIf t) os has built =
+  inst_light r next label mark targets traps (op.SetIf t) os has built =
       let most = set_most f t os (test_fits t has.0 (_ ∷ []) os has.2) in
       let plain = plain_words (set_code f t os) in
       omega arith
-  inst_light r next label targets traps (op.SelectIf t) os has built =
+  inst_light r next label mark targets traps (op.SelectIf t) os has built =
       let most = select_most f t os (test_fits t has.0 (_ ∷ _ ∷ _ ∷ []) os has.2) in
       let plain = plain_words (select_code f t os) in
       omega arith
-  inst_light r next label targets traps op.Load8Z os has built = load_light op.Load8Z os (fit_count (_ ∷ _ ∷ []) os has.2)
-  inst_light r next label targets traps op.Load8S os has built = load_light op.Load8S os (fit_count (_ ∷ _ ∷ []) os has.2)
-  inst_light r next label targets traps op.Load16Z os has built = load_light op.Load16Z os (fit_count (_ ∷ _ ∷ []) os has.2)
-  inst_light r next label targets traps op.Load16S os has built = load_light op.Load16S os (fit_count (_ ∷ _ ∷ []) os has.2)
-  inst_light r next label targets traps op.Load os has built = load_light op.Load os (load_count has.0 has.1 os has.2)
-  inst_light r next label targets traps op.Store8 os has built = store_light op.Store8 os (fit_count (_ ∷ _ ∷ []) os has.2)
-  inst_light r next label targets traps op.Store16 os has built = store_light op.Store16 os (fit_count (_ ∷ _ ∷ []) os has.2)
-  inst_light r next label targets traps op.Store os has built = store_light op.Store os (store_count has.0 has.1 os has.2)
-  inst_light r next label targets traps op.SlotAddress os has built =
+  inst_light r next label mark targets traps op.Load8Z os has built = load_light mark traps op.Load8Z os (fit_count (_ ∷ _ ∷ []) os has.2)
+  inst_light r next label mark targets traps op.Load8S os has built = load_light mark traps op.Load8S os (fit_count (_ ∷ _ ∷ []) os has.2)
+  inst_light r next label mark targets traps op.Load16Z os has built = load_light mark traps op.Load16Z os (fit_count (_ ∷ _ ∷ []) os has.2)
+  inst_light r next label mark targets traps op.Load16S os has built = load_light mark traps op.Load16S os (fit_count (_ ∷ _ ∷ []) os has.2)
+  inst_light r next label mark targets traps op.Load os has built = load_light mark traps op.Load os (load_count has.0 has.1 os has.2)
+  inst_light r next label mark targets traps op.Store8 os has built = store_light mark traps op.Store8 os (fit_count (_ ∷ _ ∷ []) os has.2)
+  inst_light r next label mark targets traps op.Store16 os has built = store_light mark traps op.Store16 os (fit_count (_ ∷ _ ∷ []) os has.2)
+  inst_light r next label mark targets traps op.Store os has built = store_light mark traps op.Store os (store_count has.0 has.1 os has.2)
+  inst_light r next label mark targets traps op.SlotAddress os has built =
       let most = slot_most f os (fit_count (_ ∷ _ ∷ []) os has.2) in
       let plain = plain_words (frame_address f (slot_offset f (arg_at os 0)) (arg_at os 1)) in
       omega arith
-  inst_light r next label targets traps op.FramePointer os has built =
+  inst_light r next label mark targets traps op.FramePointer os has built =
       let most = pointer_most f os (fit_count (_ ∷ []) os has.2) in
       let plain = plain_words (frame_address f 0 (arg_at os 0)) in
       omega arith
-  inst_light r next label targets traps op.Shuffle os has built = absurd cc
-  inst_light r next label targets traps (op.Patch size typed) os has built = absurd cc
-  inst_light r next label targets traps o os has built = compute_light o os (omega arith)
+  inst_light r next label mark targets traps op.Shuffle os has built = absurd cc
+  inst_light r next label mark targets traps (op.Call typed) os has built =
+      subst (λ (xs : List Operand). words_of (with_mark true mark (fetch f 15 (arg_at xs 0)) (call_inst xs ∷ [])) ≤ 1 + sum_by (operand_words f) xs)
+      (sym has.parts) (call_light mark has.callee (arguments_from 0 has.widths ++ map (operand_in Clobber W64) call_clobbers
+      ++ spills_changed 0 (drop 8 has.widths) ++ (if typed then operand_in Def has.width 0 ∷ [] else [])))
+  inst_light r next label mark targets traps (op.Patch size typed) os has built = patch_light mark size os
+  inst_light r next label mark targets traps o os has built = compute_light o os (omega arith)
 
   -- ---- blocks
 
   words_least : (i : AirInst) → words_by i.op i.operands ≤ inst_weight i
   words_least i = omega arith
 
-  insts_light : (p : AirProc) (next label : ℕ) (targets : List ℕ) (insts : List AirInst) → All (IsGoodInst p) insts
+  insts_light : (p : AirProc) (next label mark : ℕ) (targets : List ℕ) (insts : List AirInst) → All (IsGoodInst p) insts
       → All (λ (i : AirInst). is_built i.op i.traps ≡ true) insts
-      → words_of (insts_items f next label targets insts) ≤ sum_by inst_weight insts
+      → words_of (insts_items f next label mark targets insts) ≤ sum_by inst_weight insts
   unfolding insts_items
-  insts_light p next label targets [] good built = omega arith
-  insts_light p next label targets (i ∷ insts) good built =
-      let here = inst_light p.returns next label targets i.traps i.op i.operands (All-head (IsGoodInst p) i insts good).operands
+  insts_light p next label mark targets [] good built = omega arith
+  insts_light p next label mark targets (i ∷ insts) good built =
+      let here = inst_light p.returns next label mark targets i.traps i.op i.operands (All-head (IsGoodInst p) i insts good).operands
       (All-head (λ (i : AirInst). is_built i.op i.traps ≡ true) i insts built) in
       let least = words_least i in
-      let more = insts_light p next label targets insts (All-tail (IsGoodInst p) i insts good)
+      let more = insts_light p next (label + labels_of i) (mark + marks_of i) targets insts (All-tail (IsGoodInst p) i insts good)
       (All-tail (λ (i : AirInst). is_built i.op i.traps ≡ true) i insts built) in
-      let both = sum_by-append (size_of true) (inst_items f next label targets i.op i.operands) (insts_items f next label targets insts) in
+      let both = sum_by-append (size_of true) (inst_items f next label mark targets i.traps i.op i.operands)
+      (insts_items f next (label + labels_of i) (mark + marks_of i) targets insts) in
       let sum = sum_by-cons inst_weight i insts in
       omega arith
 
   abbrev block_weight : AirBlock → ℕ
   block_weight b = sum_by inst_weight b.insts
 
-  blocks_light : (p : AirProc) (first label : ℕ) (blocks : List AirBlock) → All (IsGoodBlock p) blocks
+  blocks_light : (p : AirProc) (first label mark : ℕ) (blocks : List AirBlock) → All (IsGoodBlock p) blocks
       → All (λ (b : AirBlock). All (λ (i : AirInst). is_built i.op i.traps ≡ true) b.insts) blocks
-      → words_of (blocks_items f first label blocks) ≤ sum_by block_weight blocks
+      → words_of (blocks_items f first label mark blocks) ≤ sum_by block_weight blocks
   unfolding blocks_items
-  blocks_light p first label [] good built = omega arith
-  blocks_light p first label (b ∷ blocks) good built =
-      let inside : List Item = insts_items f (first + 1) label b.targets b.insts in
-      let rest : List Item = blocks_items f (first + 1) (label + block_labels b) blocks in
-      let here = insts_light p (first + 1) label b.targets b.insts (All-head (IsGoodBlock p) b blocks good).insts
+  blocks_light p first label mark [] good built = omega arith
+  blocks_light p first label mark (b ∷ blocks) good built =
+      let inside : List Item = insts_items f (first + 1) label mark b.targets b.insts in
+      let rest : List Item = blocks_items f (first + 1) (label + block_labels b) (mark + block_marks b) blocks in
+      let here = insts_light p (first + 1) label mark b.targets b.insts (All-head (IsGoodBlock p) b blocks good).insts
       (All-head (λ (b : AirBlock). All (λ (i : AirInst). is_built i.op i.traps ≡ true) b.insts) b blocks built) in
-      let more = blocks_light p (first + 1) (label + block_labels b) blocks (All-tail (IsGoodBlock p) b blocks good)
+      let more = blocks_light p (first + 1) (label + block_labels b) (mark + block_marks b) blocks (All-tail (IsGoodBlock p) b blocks good)
       (All-tail (λ (b : AirBlock). All (λ (i : AirInst). is_built i.op i.traps ≡ true) b.insts) b blocks built) in
       let both = sum_by-append (size_of true) inside rest in
       let label = sum_by-cons (size_of true) (Label first) (inside ++ rest) in
@@ -178,9 +225,9 @@ light p f well built serves =
     let few = few_saved p f serves in
     let front = prologue_most f few in
     let plain = plain_words (prologue f) in
-    let blocks = blocks_light f few p 0 (length p.blocks) p.blocks well.blocks built in
-    let both = sum_by-append (size_of true) (plains (prologue f)) (blocks_items f 0 (length p.blocks) p.blocks) in
-    let most = most_is (plains (prologue f) ++ blocks_items f 0 (length p.blocks) p.blocks) in
+    let blocks = blocks_light f few p 0 (length p.blocks) 0 p.blocks well.blocks built in
+    let both = sum_by-append (size_of true) (plains (prologue f)) (blocks_items f 0 (length p.blocks) 0 p.blocks) in
+    let most = most_is (plains (prologue f) ++ blocks_items f 0 (length p.blocks) 0 p.blocks) in
     omega arith
 
 -- ---- labels
@@ -195,23 +242,29 @@ few_labels : (o : AirOp) (os : List Operand) → own_labels o ≤ words_by o os
 few_labels (op.Switch cases) os = let few = labels_few cases in omega arith
 few_labels o os = omega arith
 
-own_few : (insts : List AirInst) → sum_by (λ (i : AirInst). own_labels i.op) insts ≤ sum_by inst_weight insts
-own_few [] = omega arith
-own_few (i ∷ insts) =
-    let here = few_labels i.op i.operands in
-    let least : words_by i.op i.operands ≤ inst_weight i = omega arith in
-    let more = own_few insts in
-    let own = sum_by-cons (λ (i : AirInst). own_labels i.op) i insts in
-    let sum = sum_by-cons inst_weight i insts in
+few_marks : (i : AirInst) → marks_of i ≤ 1
+few_marks i = elim (has_mark (kind_of i.op) i.traps) as (λ b. (if b then 1 else 0) ≤ 1) [ true ↦ omega arith | false ↦ omega arith ]
+
+-- what is counted of each item is no more than what it weighs
+sums_few : {X : Type 0} (count heavy : X → ℕ) → ((x : X) → count x ≤ heavy x) → (xs : List X) → sum_by count xs ≤ sum_by heavy xs
+sums_few count heavy few [] = omega arith
+sums_few count heavy few (x ∷ xs) =
+    let here = few x in
+    let more = sums_few count heavy few xs in
+    let own = sum_by-cons count x xs in
+    let sum = sum_by-cons heavy x xs in
     omega arith
 
-blocks_own_few : (blocks : List AirBlock) → sum_by block_labels blocks ≤ sum_by (λ (b : AirBlock). sum_by inst_weight b.insts) blocks
-blocks_own_few [] = omega arith
-blocks_own_few (b ∷ blocks) =
-    let here : block_labels b ≤ sum_by inst_weight b.insts = own_few b.insts in
-    let more = blocks_own_few blocks in
-    let own = sum_by-cons block_labels b blocks in
-    let sum = sum_by-cons (λ (b : AirBlock). sum_by inst_weight b.insts) b blocks in
+labels_light : (i : AirInst) → labels_of i ≤ inst_weight i
+labels_light i =
+    let here = few_labels i.op i.operands in
+    let least : words_by i.op i.operands ≤ inst_weight i = omega arith in
+    omega arith
+
+marks_light : (i : AirInst) → marks_of i ≤ inst_weight i
+marks_light i =
+    let here = few_marks i in
+    let least : 1 ≤ inst_weight i = omega arith in
     omega arith
 
 some_weight : (p : AirProc) (b : AirBlock) → IsGoodBlock p b → 1 ≤ sum_by inst_weight b.insts
@@ -230,9 +283,11 @@ blocks_few p (b ∷ blocks) good =
     let sum = sum_by-cons (λ (b : AirBlock). sum_by inst_weight b.insts) b blocks in
     omega arith
 
--- the labels of a procedure of this weight are numbers of 32 bits
+-- the labels and the marks of a procedure of this weight are numbers of 32 bits
 pub labels_fit : (p : AirProc) → IsWellFormed p → weight p < 2 ^ 24 → AreFitting p
 labels_fit p well short =
     let few = blocks_few p p.blocks well.blocks in
-    let own = blocks_own_few p.blocks in
-    omega arith
+    let Heavy : AirBlock → ℕ = λ b. sum_by inst_weight b.insts in
+    let labels = sums_few block_labels Heavy (λ b. sums_few labels_of inst_weight labels_light b.insts) p.blocks in
+    let marks = sums_few block_marks Heavy (λ b. sums_few marks_of inst_weight marks_light b.insts) p.blocks in
+    record { labels = omega arith; marks = omega arith }

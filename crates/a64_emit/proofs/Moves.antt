@@ -8,10 +8,10 @@ use Rattle.a64_inst.specs.Step.{AreWords, Bytes, Registers, step_of, goes_on, lo
 use Rattle.a64_inst.specs.Values.{complement}
 use Rattle.a64_inst.specs.declared.inst.Inst.{Inst}
 use Rattle.a64_layout.specs.Machine.{Machine, moved_to}
-use Rattle.a64_emit.specs.Constants.{constant, filling, half_count, half_move, half_moves, half_word, is_inverted}
+use Rattle.a64_code.specs.Constants.{constant, filling, half_count, half_move, half_moves, half_word, is_inverted}
 use Rattle.a64_emit.specs.Setting.{Setting}
 use Rattle.a64_run.specs.Machine.{touched}
-use Rattle.a64_emit.proofs.Ops.{puts_of, read_is}
+use Rattle.a64_code.proofs.Ops.{puts_of, read_is}
 use Rattle.a64_emit.proofs.Straight.{DoesOne, IsWhole, does_first, does_none}
 use Rattle.a64_emit.proofs.Words.{Puts, put_other, put_same, put_words, puts_by_one, puts_one, whole_same, with_reg}
 

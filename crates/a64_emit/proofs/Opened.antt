@@ -35,7 +35,7 @@ use Rattle.a64_emit.proofs.Instructions.{AreOpen, home_word}
 
 -- ---- lists
 
-any_at : {X : Type 0} (p : X → Bool) (xs : List X) (k : ℕ) (x : X) → slice_get xs k ≡ Some x → p x ≡ true → list_any p xs ≡ true
+pub any_at : {X : Type 0} (p : X → Bool) (xs : List X) (k : ℕ) (x : X) → slice_get xs k ≡ Some x → p x ≡ true → list_any p xs ≡ true
 any_at p xs k x there passes = list_any_at p xs k x (slice_get_within xs k x there) (ap p (get_or_from_slice_get xs k x x there) ∙ passes)
 
 pub all_at : {X : Type 0} (P : X → Type 0) (xs : List X) (k : ℕ) (x : X) → slice_get xs k ≡ Some x → All P xs → P x
@@ -43,7 +43,7 @@ all_at P xs k x there each = subst P (get_or_from_slice_get xs k x x there) (eac
 
 -- ---- names
 
-own_spill : (n : ℕ) → arg_names n (At (Spill n)) ≡ true
+pub own_spill : (n : ℕ) → arg_names n (At (Spill n)) ≡ true
 own_spill n = eq-eqb n n refl
 
 or_left : (a b : Bool) → a ≡ true → (a || b) ≡ true
@@ -53,7 +53,7 @@ or_right : (a b : Bool) → b ≡ true → (a || b) ≡ true
 or_right true b e = refl
 or_right false b e = e
 
-usable_arg : (z : Setting) (arg : Arg) → z.procedure.tmps ≡ 0 → NamesOwn z.procedure Use arg → ((n : ℕ) → arg_names n arg ≡ true → names z.procedure n ≡ true)
+pub usable_arg : (z : Setting) (arg : Arg) → z.procedure.tmps ≡ 0 → NamesOwn z.procedure Use arg → ((n : ℕ) → arg_names n arg ≡ true → names z.procedure n ≡ true)
     → (width : Width) (immediates : Immediates) → IsWord immediates width arg → IsUsable z arg
 usable_arg z (At (Tmp n)) none own named width immediates is = let lt : n < z.procedure.tmps = own in absurd (omega (arith, none))
 usable_arg z (At (Reg r)) none own named width immediates is = own

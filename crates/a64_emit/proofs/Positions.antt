@@ -3,7 +3,10 @@ use Rattle.std.proofs.Common.{◌≡◌, ℕ, zero, suc, ◌+◌, ◌<◌, ◌�
 use Rattle.std.proofs.lemmas.List.{append-nil}
 use Rattle.std.proofs.lemmas.Option.{slice_get-get_or, slice_get_within}
 use Rattle.std.specs.Prelude.{nat_eq, slice_get, if◌then◌else◌}
-use Rattle.std.specs.List.{position_or_len}
+use Rattle.std.specs.List.{flat_map, position_or_len, sum_by}
+use Rattle.std.proofs.lemmas.List.Sums.{sum_by-cons}
+use Rattle.stackmap.specs.declared.site.Site.{Site}
+use Rattle.air_ir.specs.Kinds.{Kind, Loads, Stores, kind_of}
 use Rattle.std.proofs.lemmas.Bool.{cases_lt, ne_eqb}
 use Rattle.a64_inst.specs.declared.inst.Cond.TheVariants.{Eq, Hi}
 use Rattle.a64_inst.specs.declared.inst.Inst.{Inst}
@@ -21,9 +24,10 @@ use Rattle.air_ir.specs.declared.procedure.AirInst.{AirInst}
 use Rattle.air_ir.specs.declared.procedure.AirProc.{AirProc}
 use Rattle.a64_layout.specs.Layout.{is_label, position_of}
 use Rattle.a64_layout.specs.Text.{is_any_label}
-use Rattle.a64_emit.specs.Code.{arg_at, block_labels, blocks_items, branch_item, branches, compared, emitted, fetch, fetch_tested, inst_code, inst_items, insts_items, own_labels, source_at, width_at}
-use Rattle.a64_emit.specs.Computing.{reg_of}
-use Rattle.a64_emit.specs.Places.{epilogue, plains, prologue}
+use Rattle.a64_emit.specs.Code.{arg_at, block_labels, block_marks, blocks_items, branch_item, branches, compared, emitted, fetch, fetch_address, fetch_stored, fetch_tested, has_mark, inner_items, inst_code, inst_items, insts_items, labels_of, load_inst, load_items, marks_of, own_labels, put_result, result_reg, source_at, store_inst, store_items, width_at, with_mark, breaks, call_inst}
+use Rattle.a64_code.specs.Computing.{reg_of}
+use Rattle.a64_emit.specs.Made.{block_sites, inst_sites, procedure_sites, sites_by, trap_site}
+use Rattle.a64_code.specs.Places.{epilogue, plains, prologue}
 use Rattle.a64_emit.specs.Switched.{case_items, cases_in_order, compare_word, jump_to, search_items, switch_items}
 use Rattle.a64_emit.specs.Trees.{Leaf, Node, Tree, node_count, tree}
 use Rattle.a64_emit.specs.declared.case.Case.{Case}
@@ -31,16 +35,16 @@ use Rattle.a64_emit.proofs.Trees.{Each, each_append, each_weaker}
 
 -- ---- items one after the other
 
--- these items stand among others from item k on
-abbrev pub Among : List Item → ℕ → List Item → Type 0
-Among code k items = (j : ℕ) (item : Item) → slice_get items j ≡ Some item → slice_get code (k + j) ≡ Some item
+-- these stand among others from the k-th on
+abbrev pub Among : {X : Type 0} → List X → ℕ → List X → Type 0
+Among {X = X} code k items = (j : ℕ) (item : X) → slice_get items j ≡ Some item → slice_get code (k + j) ≡ Some item
 
-get_front : (a b : List Item) (n : ℕ) (x : Item) → slice_get a n ≡ Some x → slice_get (a ++ b) n ≡ Some x
+pub get_front : {X : Type 0} (a b : List X) (n : ℕ) (x : X) → slice_get a n ≡ Some x → slice_get (a ++ b) n ≡ Some x
 get_front [] b n x e = cc
 get_front (y ∷ a) b zero x e = e
 get_front (y ∷ a) b (suc n) x e = get_front a b n x e
 
-get_behind : (a b : List Item) (n : ℕ) → slice_get (a ++ b) (length a + n) ≡ slice_get b n
+pub get_behind : {X : Type 0} (a b : List X) (n : ℕ) → slice_get (a ++ b) (length a + n) ≡ slice_get b n
 get_behind [] b n = ap (slice_get b) (omega arith)
 get_behind (x ∷ a) b n = let e : length (x ∷ a) + n ≡ suc (length a + n) = omega arith in ap (slice_get (x ∷ (a ++ b))) e ∙ get_behind a b n
 
@@ -48,10 +52,10 @@ pub among_split : (code before items rest : List Item) → code ≡ before ++ (i
 among_split code before items rest split j item there =
     ap (λ (xs : List Item). slice_get xs (length before + j)) split ∙ get_behind before (items ++ rest) j ∙ get_front items rest j item there
 
-pub among_first : (code : List Item) (k : ℕ) (xs ys : List Item) → Among code k (xs ++ ys) → Among code k xs
+pub among_first : {X : Type 0} (code : List X) (k : ℕ) (xs ys : List X) → Among code k (xs ++ ys) → Among code k xs
 among_first code k xs ys among j item there = among j item (get_front xs ys j item there)
 
-pub among_rest : (code : List Item) (k : ℕ) (xs ys : List Item) → Among code k (xs ++ ys) → Among code (k + length xs) ys
+pub among_rest : {X : Type 0} (code : List X) (k : ℕ) (xs ys : List X) → Among code k (xs ++ ys) → Among code (k + length xs) ys
 among_rest code k xs ys among j item there =
     ap (slice_get code) (omega arith) ∙ among (length xs + j) item (get_behind xs ys j ∙ there)
 
@@ -93,11 +97,40 @@ pub leaf_unlabelled : (width : Width) (reg other next : ℕ) (cases : List Case)
 leaf_unlabelled width reg other next cases =
     each_append IsUnlabelled (case_items width reg cases) (jump_to next other) (cases_unlabelled width reg cases) (jump_unlabelled next other)
 
+with_mark_unlabelled : (marks : Bool) (mark : ℕ) (before behind : List Inst) → Each IsUnlabelled (with_mark marks mark before behind)
+with_mark_unlabelled true mark before behind =
+    each_append IsUnlabelled (plains before ++ Mark mark ∷ []) (plains behind)
+    (each_append IsUnlabelled (plains before) (Mark mark ∷ []) (plains_unlabelled before) (refl, tt)) (plains_unlabelled behind)
+with_mark_unlabelled false mark before behind =
+    each_append IsUnlabelled (plains before ++ []) (plains behind)
+    (each_append IsUnlabelled (plains before) [] (plains_unlabelled before) tt) (plains_unlabelled behind)
+
+load_unlabelled : (f : Frame) (mark : ℕ) (traps : Bool) (o : AirOp) (os : List Operand) → Each IsUnlabelled (load_items f mark traps o os)
+load_unlabelled f mark traps o os =
+    with_mark_unlabelled traps mark (fetch_address f (arg_at os 0)) (load_inst o os ∷ put_result f (result_reg (arg_at os 1)) (arg_at os 1))
+
+store_unlabelled : (f : Frame) (mark : ℕ) (traps : Bool) (o : AirOp) (os : List Operand) → Each IsUnlabelled (store_items f mark traps o os)
+store_unlabelled f mark traps o os = with_mark_unlabelled traps mark (fetch_stored f os) (store_inst o os ∷ [])
+
+inner_unlabelled : (f : Frame) (mark : ℕ) (traps : Bool) (o : AirOp) (os : List Operand) → Each IsUnlabelled (inner_items f mark traps o os)
+unfolding inner_items
+inner_unlabelled f mark traps op.Load8Z os = load_unlabelled f mark traps op.Load8Z os
+inner_unlabelled f mark traps op.Load8S os = load_unlabelled f mark traps op.Load8S os
+inner_unlabelled f mark traps op.Load16Z os = load_unlabelled f mark traps op.Load16Z os
+inner_unlabelled f mark traps op.Load16S os = load_unlabelled f mark traps op.Load16S os
+inner_unlabelled f mark traps op.Load os = load_unlabelled f mark traps op.Load os
+inner_unlabelled f mark traps op.Store8 os = store_unlabelled f mark traps op.Store8 os
+inner_unlabelled f mark traps op.Store16 os = store_unlabelled f mark traps op.Store16 os
+inner_unlabelled f mark traps op.Store os = store_unlabelled f mark traps op.Store os
+inner_unlabelled f mark traps (op.Call typed) os = with_mark_unlabelled true mark (fetch f 15 (arg_at os 0)) (call_inst os ∷ [])
+inner_unlabelled f mark traps (op.Patch size typed) os = with_mark_unlabelled true mark [] (breaks size)
+inner_unlabelled f mark traps o os = plains_unlabelled (inst_code f o os)
+
 -- an instruction other than a Switch has no label
-pub inst_shape : (f : Frame) (next label : ℕ) (targets : List ℕ) (o : AirOp) (os : List Operand)
-    → (Each IsUnlabelled (inst_items f next label targets o os) × (own_labels o ≡ 0)) ⊎ ((cases : List ℕ) × (o ≡ op.Switch cases))
+pub inst_shape : (f : Frame) (next label mark : ℕ) (targets : List ℕ) (traps : Bool) (o : AirOp) (os : List Operand)
+    → (Each IsUnlabelled (inst_items f next label mark targets traps o os) × (own_labels o ≡ 0)) ⊎ ((cases : List ℕ) × (o ≡ op.Switch cases))
 unfolding inst_items
-inst_shape f next label targets (op.BranchIf test) os =
+inst_shape f next label mark targets traps (op.BranchIf test) os =
     inl (
       each_append IsUnlabelled (plains (fetch_tested f test os ++ compared test os))
           (branches test (width_at os 0) (reg_of (source_at os 0 15)) next (get_or targets 0 0) (get_or targets 1 0))
@@ -105,11 +138,11 @@ inst_shape f next label targets (op.BranchIf test) os =
           (branches_unlabelled test (width_at os 0) (reg_of (source_at os 0 15)) next (get_or targets 0 0) (get_or targets 1 0)),
       refl,
     )
-inst_shape f next label targets op.Jump os = inl (jump_unlabelled next (get_or targets 0 0), refl)
-inst_shape f next label targets (op.Switch cases) os = inr (cases, refl)
-inst_shape f next label targets op.Return os = inl (plains_unlabelled (epilogue f), refl)
-inst_shape f next label targets op.Oops os = inl ((refl, tt), refl)
-inst_shape f next label targets o os = inl (plains_unlabelled (inst_code f o os), refl)
+inst_shape f next label mark targets traps op.Jump os = inl (jump_unlabelled next (get_or targets 0 0), refl)
+inst_shape f next label mark targets traps (op.Switch cases) os = inr (cases, refl)
+inst_shape f next label mark targets traps op.Return os = inl (plains_unlabelled (epilogue f), refl)
+inst_shape f next label mark targets traps op.Oops os = inl ((refl, tt), refl)
+inst_shape f next label mark targets traps o os = inl (inner_unlabelled f mark traps o os, refl)
 
 -- an item that is no label below a number
 abbrev pub IsInner : ℕ → Item → Type 0
@@ -138,32 +171,34 @@ search_inner n width reg other next label (Node before case behind) le =
     (tt, (tt, search_inner n width reg other label (label + 1) before (omega arith))))
     (le, search_inner n width reg other next (label + 1 + node_count before) behind (omega arith))
 
-switch_inner : (n : ℕ) (f : Frame) (next label : ℕ) (targets cases : List ℕ) (os : List Operand) → n ≤ label
-    → Each (IsInner n) (inst_items f next label targets (op.Switch cases) os)
+switch_inner : (n : ℕ) (f : Frame) (next label mark : ℕ) (targets cases : List ℕ) (traps : Bool) (os : List Operand) → n ≤ label
+    → Each (IsInner n) (inst_items f next label mark targets traps (op.Switch cases) os)
 unfolding inst_items
-switch_inner n f next label targets cases os le =
+switch_inner n f next label mark targets cases traps os le =
     each_append (IsInner n) (plains (fetch f 15 (arg_at os 0))) (switch_items (width_at os 0) (reg_of (source_at os 0 15)) next label cases targets)
     (unlabelled_inner n (plains (fetch f 15 (arg_at os 0))) (plains_unlabelled (fetch f 15 (arg_at os 0))))
     (search_inner n (width_at os 0) (reg_of (source_at os 0 15)) (get_or targets (length cases) 0) next label
     (tree (cases_in_order (width_at os 0) cases targets)) le)
 
-inst_inner : (n : ℕ) (f : Frame) (next label : ℕ) (targets : List ℕ) (o : AirOp) (os : List Operand) → n ≤ label
-    → Each (IsInner n) (inst_items f next label targets o os)
-inst_inner n f next label targets o os le =
+inst_inner : (n : ℕ) (f : Frame) (next label mark : ℕ) (targets : List ℕ) (traps : Bool) (o : AirOp) (os : List Operand) → n ≤ label
+    → Each (IsInner n) (inst_items f next label mark targets traps o os)
+inst_inner n f next label mark targets traps o os le =
     ⊎_elim
-    (λ (none : Each IsUnlabelled (inst_items f next label targets o os) × (own_labels o ≡ 0)).
-    unlabelled_inner n (inst_items f next label targets o os) none.0)
+    (λ (none : Each IsUnlabelled (inst_items f next label mark targets traps o os) × (own_labels o ≡ 0)).
+    unlabelled_inner n (inst_items f next label mark targets traps o os) none.0)
     (λ (is : (cases : List ℕ) × (o ≡ op.Switch cases)).
-    subst (λ o. Each (IsInner n) (inst_items f next label targets o os)) (sym is.1) (switch_inner n f next label targets is.0 os le))
-    (inst_shape f next label targets o os)
+    subst (λ o. Each (IsInner n) (inst_items f next label mark targets traps o os)) (sym is.1) (switch_inner n f next label mark targets is.0 traps os le))
+    (inst_shape f next label mark targets traps o os)
 
-insts_inner : (n : ℕ) (f : Frame) (next label : ℕ) (targets : List ℕ) (insts : List AirInst) → n ≤ label
-    → Each (IsInner n) (insts_items f next label targets insts)
+insts_inner : (n : ℕ) (f : Frame) (next label mark : ℕ) (targets : List ℕ) (insts : List AirInst) → n ≤ label
+    → Each (IsInner n) (insts_items f next label mark targets insts)
 unfolding insts_items
-insts_inner n f next label targets [] le = tt
-insts_inner n f next label targets (i ∷ is) le =
-    each_append (IsInner n) (inst_items f next label targets i.op i.operands) (insts_items f next label targets is)
-    (inst_inner n f next label targets i.op i.operands le) (insts_inner n f next label targets is le)
+insts_inner n f next label mark targets [] le = tt
+insts_inner n f next label mark targets (i ∷ is) le =
+    each_append (IsInner n) (inst_items f next label mark targets i.traps i.op i.operands)
+    (insts_items f next (label + labels_of i) (mark + marks_of i) targets is)
+    (inst_inner n f next label mark targets i.traps i.op i.operands le)
+    (insts_inner n f next (label + labels_of i) (mark + marks_of i) targets is (omega arith))
 
 -- ---- positions of labels
 
@@ -200,72 +235,106 @@ pub position_behind : (label : ℕ) (before rest : List Item) → Each (IsNot la
 unfolding position_of
 position_behind label before rest none = position_after label before rest none
 
+-- ---- the sites of blocks
+
+counted_by : (f : Frame) (kind : Kind) (i : AirInst) → length (sites_by kind f i) ≡ (if has_mark kind i.traps then 1 else 0)
+counted_by f (Loads extent extends) i = elim i.traps as (λ b. length (if b then trap_site i.value ∷ [] else []) ≡ (if b then 1 else 0)) [ true ↦ refl | false ↦ refl ]
+counted_by f (Stores extent) i = elim i.traps as (λ b. length (if b then trap_site i.value ∷ [] else []) ≡ (if b then 1 else 0)) [ true ↦ refl | false ↦ refl ]
+counted_by f kind i = refl
+
+-- an instruction has as many sites as marks
+pub inst_counted : (f : Frame) (i : AirInst) → length (inst_sites f i) ≡ marks_of i
+inst_counted f i = counted_by f (kind_of i.op) i
+
+insts_counted : (f : Frame) (insts : List AirInst) → length (flat_map (inst_sites f) insts) ≡ sum_by marks_of insts
+insts_counted f [] = refl
+insts_counted f (i ∷ is) =
+    let here = inst_counted f i in
+    let more = insts_counted f is in
+    let both = length-append (inst_sites f i) (flat_map (inst_sites f) is) in
+    let sum = sum_by-cons marks_of i is in
+    omega arith
+
+pub sites_counted : (f : Frame) (b : AirBlock) → length (block_sites f b) ≡ block_marks b
+sites_counted f b = insts_counted f b.insts
+
 -- ---- the items of blocks
 
 -- one of some blocks: what stands before it and after it; the labels of blocks are those below a number
-pub record BlockAmong (n : ℕ) (f : Frame) (items : List Item) (first : ℕ) (blocks : List AirBlock) (i : ℕ) (block : AirBlock) : Type 0 where
+pub record BlockAmong (n : ℕ) (f : Frame) (items : List Item) (first start : ℕ) (blocks : List AirBlock) (i : ℕ) (block : AirBlock) : Type 0 where
   pub before : List Item
   pub rest : List Item
   pub own : ℕ
+  pub mark : ℕ
   pub above : n ≤ own
-  pub split : items ≡ before ++ (Label (first + i) ∷ (insts_items f (first + i + 1) own block.targets block.insts ++ rest))
+  pub split : items ≡ before ++ (Label (first + i) ∷ (insts_items f (first + i + 1) own mark block.targets block.insts ++ rest))
   pub clear : (label : ℕ) → first + i ≤ label → label < n → Each (IsNot label) before
   pub more : i + 1 < length blocks → (behind : List Item) × (rest ≡ Label (first + i + 1) ∷ behind)
   pub last : i + 1 ≡ length blocks → rest ≡ []
   pub none : i ≡ 0 → before ≡ []
+  pub sites : (all : List Site) → Among all start (flat_map (block_sites f) blocks) → Among all mark (block_sites f block)
 
-blocks_rest : (f : Frame) (first label : ℕ) (blocks : List AirBlock) → 0 < length blocks → (behind : List Item) × (blocks_items f first label blocks ≡ Label first ∷ behind)
+blocks_rest : (f : Frame) (first label mark : ℕ) (blocks : List AirBlock) → 0 < length blocks
+    → (behind : List Item) × (blocks_items f first label mark blocks ≡ Label first ∷ behind)
 unfolding blocks_items
-blocks_rest f first label [] some = absurd (omega arith)
-blocks_rest f first label (block ∷ blocks) some = (_, refl)
+blocks_rest f first label mark [] some = absurd (omega arith)
+blocks_rest f first label mark (block ∷ blocks) some = (_, refl)
 
-blocks_none : (f : Frame) (first label : ℕ) (blocks : List AirBlock) → length blocks ≡ 0 → blocks_items f first label blocks ≡ []
+blocks_none : (f : Frame) (first label mark : ℕ) (blocks : List AirBlock) → length blocks ≡ 0 → blocks_items f first label mark blocks ≡ []
 unfolding blocks_items
-blocks_none f first label [] none = refl
-blocks_none f first label (block ∷ blocks) none = absurd (omega arith)
+blocks_none f first label mark [] none = refl
+blocks_none f first label mark (block ∷ blocks) none = absurd (omega arith)
 
 other_label : (a b : ℕ) → a < b → IsNot b (Label a)
 other_label a b lt = ne_eqb a b (λ e. omega arith)
 
-pub block_among : (n : ℕ) (f : Frame) (first label : ℕ) (blocks : List AirBlock) (i : ℕ) (block : AirBlock) → n ≤ label
-    → slice_get blocks i ≡ Some block → BlockAmong n f (blocks_items f first label blocks) first blocks i block
+pub block_among : (n : ℕ) (f : Frame) (first label mark : ℕ) (blocks : List AirBlock) (i : ℕ) (block : AirBlock) → n ≤ label
+    → slice_get blocks i ≡ Some block → BlockAmong n f (blocks_items f first label mark blocks) first mark blocks i block
 unfolding blocks_items
-block_among n f first label [] i block le there = cc
-block_among n f first label (b ∷ bs) zero block le there =
+block_among n f first label mark [] i block le there = cc
+block_among n f first label mark (b ∷ bs) zero block le there =
     let same : b ≡ block = cc in
     let e : first ≡ first + 0 = omega arith in
+    let rest : List Item = blocks_items f (first + 1) (label + block_labels b) (mark + block_marks b) bs in
     record {
       before = [];
-      rest = blocks_items f (first + 1) (label + block_labels b) bs;
+      rest = rest;
       own = label;
+      mark = mark;
       above = le;
-      split = ap (λ (x : AirBlock). Label first ∷ (insts_items f (first + 1) label x.targets x.insts ++ blocks_items f (first + 1) (label + block_labels b) bs)) same
-          ∙ ap (λ n. Label n ∷ (insts_items f (n + 1) label block.targets block.insts ++ blocks_items f (first + 1) (label + block_labels b) bs)) e;
+      split = ap (λ (x : AirBlock). Label first ∷ (insts_items f (first + 1) label mark x.targets x.insts ++ rest)) same
+          ∙ ap (λ n. Label n ∷ (insts_items f (n + 1) label mark block.targets block.insts ++ rest)) e;
       clear = λ other least below. tt;
-      more = λ lt. let rest = blocks_rest f (first + 1) (label + block_labels b) bs (omega arith) in (rest.0, rest.1 ∙ ap (λ n. Label (n + 1) ∷ rest.0) e);
-      last = λ is. blocks_none f (first + 1) (label + block_labels b) bs (omega arith);
+      more = λ lt. let rest = blocks_rest f (first + 1) (label + block_labels b) (mark + block_marks b) bs (omega arith) in
+          (rest.0, rest.1 ∙ ap (λ n. Label (n + 1) ∷ rest.0) e);
+      last = λ is. blocks_none f (first + 1) (label + block_labels b) (mark + block_marks b) bs (omega arith);
       none = λ is. refl;
+      sites = λ all here. subst (λ (x : AirBlock). Among all mark (block_sites f x)) same
+          (among_first all mark (block_sites f b) (flat_map (block_sites f) bs) here);
     }
-block_among n f first label (b ∷ bs) (suc i) block le there =
-    let more = block_among n f (first + 1) (label + block_labels b) bs i block (omega arith) there in
+block_among n f first label mark (b ∷ bs) (suc i) block le there =
+    let more = block_among n f (first + 1) (label + block_labels b) (mark + block_marks b) bs i block (omega arith) there in
     let e : first + 1 + i ≡ first + suc i = omega arith in
-    let items : List Item = insts_items f (first + 1) label b.targets b.insts in
-    let tail : ℕ → List Item = λ n. Label n ∷ (insts_items f (n + 1) more.own block.targets block.insts ++ more.rest) in
+    let items : List Item = insts_items f (first + 1) label mark b.targets b.insts in
+    let tail : ℕ → List Item = λ n. Label n ∷ (insts_items f (n + 1) more.own more.mark block.targets block.insts ++ more.rest) in
     record {
       before = Label first ∷ (items ++ more.before);
       rest = more.rest;
       own = more.own;
+      mark = more.mark;
       above = more.above;
       split = ap (λ (xs : List Item). Label first ∷ (items ++ xs)) (more.split ∙ ap (λ n. more.before ++ tail n) e)
           ∙ ap (λ (xs : List Item). Label first ∷ xs) (sym (append_assoc items more.before (tail (first + suc i))));
       clear = λ other least below. (
         other_label first other (omega arith),
         each_append (IsNot other) items more.before
-            (none_is n other items below (insts_inner n f (first + 1) label b.targets b.insts le)) (more.clear other (omega arith) below),
+            (none_is n other items below (insts_inner n f (first + 1) label mark b.targets b.insts le)) (more.clear other (omega arith) below),
       );
       more = λ lt. let rest = more.more (omega arith) in (rest.0, rest.1 ∙ ap (λ n. Label (n + 1) ∷ rest.0) e);
       last = λ is. more.last (omega arith);
       none = λ is. absurd (omega arith);
+      sites = λ all here. more.sites all (subst (λ n. Among all (mark + n) (flat_map (block_sites f) bs)) (sites_counted f b)
+          (among_rest all mark (block_sites f b) (flat_map (block_sites f) bs) here));
     }
 
 -- ---- the blocks of a procedure
@@ -273,12 +342,14 @@ block_among n f first label (b ∷ bs) (suc i) block le there =
 -- where a block stands in the code: its label, its items, and then the next label, or the end
 pub record BlockStands (p : AirProc) (f : Frame) (b : ℕ) (block : AirBlock) : Type 0 where
   pub own : ℕ
+  pub mark : ℕ
   pub above : length p.blocks ≤ own
   pub label : slice_get (emitted p f) (position_of (emitted p f) b) ≡ Some (Label b)
-  pub items : Among (emitted p f) (position_of (emitted p f) b + 1) (insts_items f (b + 1) own block.targets block.insts)
-  pub next : b + 1 < length p.blocks → position_of (emitted p f) (b + 1) ≡ position_of (emitted p f) b + 1 + length (insts_items f (b + 1) own block.targets block.insts)
-  pub last : b + 1 ≡ length p.blocks → length (emitted p f) ≡ position_of (emitted p f) b + 1 + length (insts_items f (b + 1) own block.targets block.insts)
+  pub items : Among (emitted p f) (position_of (emitted p f) b + 1) (insts_items f (b + 1) own mark block.targets block.insts)
+  pub next : b + 1 < length p.blocks → position_of (emitted p f) (b + 1) ≡ position_of (emitted p f) b + 1 + length (insts_items f (b + 1) own mark block.targets block.insts)
+  pub last : b + 1 ≡ length p.blocks → length (emitted p f) ≡ position_of (emitted p f) b + 1 + length (insts_items f (b + 1) own mark block.targets block.insts)
   pub first : b ≡ 0 → position_of (emitted p f) b ≡ length (prologue f)
+  pub sites : Among (procedure_sites p f) mark (block_sites f block)
 
 pub each_at : (P : Item → Type 0) (items : List Item) (k : ℕ) (item : Item) → Each P items → slice_get items k ≡ Some item → P item
 each_at P [] k item each there = absurd cc
@@ -290,8 +361,8 @@ length_plains [] = refl
 length_plains (inst ∷ insts) = let more = length_plains insts in omega arith
 
 module _ (p : AirProc) (f : Frame) (b : ℕ) (block : AirBlock) (there : slice_get p.blocks b ≡ Some block) where
-  among : BlockAmong (length p.blocks) f (blocks_items f 0 (length p.blocks) p.blocks) 0 p.blocks b block
-  among = block_among (length p.blocks) f 0 (length p.blocks) p.blocks b block (omega arith) there
+  among : BlockAmong (length p.blocks) f (blocks_items f 0 (length p.blocks) 0 p.blocks) 0 0 p.blocks b block
+  among = block_among (length p.blocks) f 0 (length p.blocks) 0 p.blocks b block (omega arith) there
 
   within : b < length p.blocks
   within = slice_get_within p.blocks b block there
@@ -300,14 +371,14 @@ module _ (p : AirProc) (f : Frame) (b : ℕ) (block : AirBlock) (there : slice_g
   front = plains (prologue f) ++ among.before
 
   inside : List Item
-  inside = insts_items f (b + 1) among.own block.targets block.insts
+  inside = insts_items f (b + 1) among.own among.mark block.targets block.insts
 
   split : emitted p f ≡ front ++ (Label b ∷ (inside ++ among.rest))
   unfolding emitted front inside
   split =
       let e : 0 + b ≡ b = omega arith in
       ap (λ (xs : List Item). plains (prologue f) ++ xs)
-      (among.split ∙ ap (λ n. among.before ++ (Label n ∷ (insts_items f (n + 1) among.own block.targets block.insts ++ among.rest))) e)
+      (among.split ∙ ap (λ n. among.before ++ (Label n ∷ (insts_items f (n + 1) among.own among.mark block.targets block.insts ++ among.rest))) e)
       ∙ sym (append_assoc (plains (prologue f)) among.before (Label b ∷ (inside ++ among.rest)))
 
   clear : (label : ℕ) → b ≤ label → label < length p.blocks → Each (IsNot label) front
@@ -336,7 +407,7 @@ module _ (p : AirProc) (f : Frame) (b : ℕ) (block : AirBlock) (there : slice_g
   whole_clear lt =
       each_append (IsNot (b + 1)) front (Label b ∷ inside) (clear (b + 1) (omega arith) lt) (
         other_label b (b + 1) (omega arith),
-        none_is (length p.blocks) (b + 1) inside lt (insts_inner (length p.blocks) f (b + 1) among.own block.targets block.insts among.above),
+        none_is (length p.blocks) (b + 1) inside lt (insts_inner (length p.blocks) f (b + 1) among.own among.mark block.targets block.insts among.above),
       )
 
   next_at : b + 1 < length p.blocks → position_of (emitted p f) (b + 1) ≡ length whole
@@ -370,12 +441,14 @@ module _ (p : AirProc) (f : Frame) (b : ℕ) (block : AirBlock) (there : slice_g
   unfolding inside
   block_stands = record {
     own = among.own;
+    mark = among.mark;
     above = among.above;
     label = label_at;
     items = items_at;
     next = λ lt. next_at lt ∙ whole_length;
     last = λ is. last_at is ∙ whole_length;
     first = first_at;
+    sites = among.sites (procedure_sites p f) (λ j site there. ap (slice_get (procedure_sites p f)) (omega arith) ∙ there);
   }
 
 -- the labels of blocks stand in order

@@ -1,14 +1,16 @@
 -- The procedure that the tests emit is well formed.
-use Rattle.std.proofs.Common.{◌≡◌, ℕ, ◌<◌, inl, [], ◌∷◌, None, length, refl, arith}
+use Rattle.std.proofs.Common.{◌≡◌, ℕ, zero, suc, ◌<◌, true, false, inl, [], ◌∷◌, Some, None, length, refl, sym, ap, ◌∙◌, arith}
+use Rattle.std.specs.Prelude.{slice_get}
 use Rattle.std.proofs.lemmas.List.Elements.{All-cons, All-nil}
 use Rattle.b3_base.specs.declared.word.Width.TheVariants.{W64}
 use Rattle.air_ir.specs.Forms.{AllFit, AnyWord, Result, Slot, Word, load, store}
-use Rattle.air_ir.specs.Kinds.{target_count}
-use Rattle.air_ir.specs.WellFormed.{IsGoodBlock, IsGoodInst, IsWellFormed, NamesOwn}
+use Rattle.air_ir.specs.Kinds.{kind_of, makes_site, target_count}
+use Rattle.air_ir.specs.WellFormed.{HasOneSiteEach, IsGoodBlock, IsGoodInst, IsWellFormed, NamesOwn, StandsAt}
 use Rattle.air_ir.specs.declared.op.AirOp.TheVariants as op
 use Rattle.air_ir.specs.declared.operand.Arg.TheVariants.{At, Imm, FrameSlot}
 use Rattle.air_ir.specs.declared.operand.Home.TheVariants.{Spill}
 use Rattle.air_ir.specs.declared.operand.Operand.{Operand}
+use Rattle.air_ir.specs.declared.procedure.AirBlock.{AirBlock}
 use Rattle.air_ir.specs.declared.procedure.AirInst.{AirInst}
 use Rattle.a64_emit.specs.Sample.{above_x1, entry, fills, inst, last, loads, made, points, procedure, stores, used, x0, x1}
 
@@ -102,3 +104,35 @@ sample_good = record {
   entry = omega arith;
   blocks = All-cons (IsGoodBlock procedure) entry (last ∷ []) entry_good (All-cons (IsGoodBlock procedure) last [] last_good (All-nil (IsGoodBlock procedure)));
 }
+
+-- ---- its one site
+
+no_site : (x i : AirInst) → makes_site (kind_of x.op) x.traps ≡ false → Some x ≡ Some i → makes_site (kind_of i.op) i.traps ≡ true → ⊥
+no_site x i none same makes = let e : x ≡ i = cc in let also = ap (λ (y : AirInst). makes_site (kind_of y.op) y.traps) e in cc
+
+entry_none : (k : ℕ) (i : AirInst) → slice_get entry.insts k ≡ Some i → makes_site (kind_of i.op) i.traps ≡ true → ⊥
+entry_none zero i there makes = no_site fills i refl there makes
+entry_none (suc zero) i there makes = no_site points i refl there makes
+entry_none (suc (suc zero)) i there makes = no_site stores i refl there makes
+entry_none (suc (suc (suc zero))) i there makes = no_site (inst op.Jump []) i refl there makes
+entry_none (suc (suc (suc (suc k)))) i there makes = cc
+
+last_first : (k : ℕ) (i : AirInst) → slice_get last.insts k ≡ Some i → makes_site (kind_of i.op) i.traps ≡ true → k ≡ 0
+last_first zero i there makes = refl
+last_first (suc zero) i there makes = absurd (no_site (inst op.Return (used x0 ∷ [])) i refl there makes)
+last_first (suc (suc k)) i there makes = absurd cc
+
+site_at : (b k : ℕ) (i : AirInst) → StandsAt procedure b k i → makes_site (kind_of i.op) i.traps ≡ true → (b ≡ 1) × (k ≡ 0)
+site_at zero k i at makes =
+    let of : entry ≡ at.of = cc in
+    absurd (entry_none k i (ap (λ (x : AirBlock). slice_get x.insts k) of ∙ at.inst_there) makes)
+site_at (suc zero) k i at makes =
+    let of : last ≡ at.of = cc in
+    (refl, last_first k i (ap (λ (x : AirBlock). slice_get x.insts k) of ∙ at.inst_there) makes)
+site_at (suc (suc b)) k i at makes = absurd cc
+
+pub sample_one : HasOneSiteEach procedure
+sample_one b c k l i j at_i at_j makes_i makes_j same =
+    let first = site_at b k i at_i makes_i in
+    let second = site_at c l j at_j makes_j in
+    (first.0 ∙ sym second.0, first.1 ∙ sym second.1)

@@ -25,11 +25,11 @@ use Rattle.air_ir.specs.declared.op.AirOp.{AirOp}
 use Rattle.air_ir.specs.declared.op.AirOp.TheVariants as op
 use Rattle.air_ir.specs.declared.op.Test.{Test}
 use Rattle.air_ir.specs.declared.op.Test.TheVariants.{Compare, NonZero, Bit}
-use Rattle.a64_emit.specs.Computing.{computing, logic_by, move_reg, move_shifted, reg_of, shift_by, short_sum, sum_by, sum_with, testing}
-use Rattle.a64_emit.specs.Fitting.{IsComputed, IsMasked, IsSummed, IsTested}
-use Rattle.a64_emit.specs.declared.source.Source.{Source}
-use Rattle.a64_emit.specs.declared.source.Source.TheVariants.{InReg, Constant}
-use Rattle.a64_emit.proofs.Ops.{fields_name, turned_short}
+use Rattle.a64_code.specs.Computing.{computing, logic_by, move_reg, move_shifted, reg_of, shift_by, short_sum, sum_by, sum_with, testing}
+use Rattle.a64_code.specs.Fitting.{IsComputed, IsMasked, IsSummed, IsTested}
+use Rattle.a64_code.specs.declared.source.Source.{Source}
+use Rattle.a64_code.specs.declared.source.Source.TheVariants.{InReg, Constant}
+use Rattle.a64_code.proofs.Ops.{fields_name, turned_short}
 
 -- an instruction whose fields are in range and that accesses nothing
 pub record IsPlain (i : Inst) : Type 0 where

@@ -24,9 +24,9 @@ use Rattle.a64_layout.specs.Branch.{size_in, size_of}
 use Rattle.a64_layout.specs.Layout.{most_words, place}
 use Rattle.a64_layout.proofs.Least.{place-suc, place-zero}
 use Rattle.a64_emit.specs.Code.{arg_at, bring, compute_code, fetch, fetch_below, put_result, result_at, result_reg, source_at, width_at}
-use Rattle.a64_emit.specs.Computing.{computing, move_reg}
-use Rattle.a64_emit.specs.Constants.{constant, filling, half_move, half_moves, half_word, is_inverted}
-use Rattle.a64_emit.specs.Places.{above_sp, load_at, plains, spill_offset, store_at}
+use Rattle.a64_code.specs.Computing.{computing, move_reg}
+use Rattle.a64_code.specs.Constants.{constant, filling, half_move, half_moves, half_word, is_inverted}
+use Rattle.a64_code.specs.Places.{above_sp, load_at, plains, spill_offset, store_at}
 
 -- ---- words of items, where all branches are long
 

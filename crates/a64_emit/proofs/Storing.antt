@@ -11,7 +11,7 @@ use Rattle.b3_base.specs.Observed.{Memory}
 use Rattle.b3_base.specs.declared.word.Width.{Width}
 use Rattle.b3_base.specs.declared.word.Width.TheVariants.{W64}
 use Rattle.b3_base.proofs.MemoryLaws.{write_word-AreBytes, write_word_keeps}
-use Rattle.b3_base.proofs.WordLaws.{read-write_apart, read-write_same}
+use Rattle.b3_base.proofs.WordLaws.{read-write_apart, read-write_same, write_word_mapped}
 use Rattle.b3_ir.specs.declared.value.Reg.{Reg as Register}
 use Rattle.stackmap.specs.Rules.{IsAllocatable}
 use Rattle.stackmap.specs.declared.site.Rep.TheVariants.{Slot}
@@ -28,11 +28,11 @@ use Rattle.air_frame.specs.Needs.{callee_saved, names, writes}
 use Rattle.a64_layout.specs.Machine.{Machine}
 use Rattle.a64_run.specs.Machine.{saved_at}
 use Rattle.a64_run.specs.Placement.{frame_pointer_of, visible}
-use Rattle.a64_emit.specs.Places.{spill_offset}
+use Rattle.a64_code.specs.Places.{spill_offset}
 use Rattle.a64_emit.specs.Related.{Carries, HasFrame, IsRelated}
 use Rattle.a64_emit.specs.Setting.{IsSet, Setting, row}
-use Rattle.a64_emit.proofs.FrameWords.{all_front, hidden_store, hidden_word, words_apart}
-use Rattle.a64_emit.proofs.Keeping.{IsKept, allocatable_kept, some_is, spill_stands}
+use Rattle.a64_emit.proofs.FrameWords.{all_front, hidden_store, hidden_word, word_mapped, words_apart}
+use Rattle.a64_emit.proofs.Keeping.{IsKept, allocatable_kept, none_still, some_is, spill_stands}
 
 -- a state with something else in a home
 abbrev pub with_home : State → Home → Held → State
@@ -96,10 +96,10 @@ swapped a b apart = ⊎_elim (λ le. inr le) (λ le. inl le) apart
 
 -- ---- a result in a register
 
-reg_differs : (r q : Register) → Reg r ≢ Reg q → r.0 ≢ q.0
+pub reg_differs : (r q : Register) → Reg r ≢ Reg q → r.0 ≢ q.0
 reg_differs r q differ e = differ (ap (λ (n : ℕ). Reg (record { 0 = n })) e)
 
-same_number : (r q : Register) → Reg r ≡ Reg q → r.0 ≡ q.0
+pub same_number : (r q : Register) → Reg r ≡ Reg q → r.0 ≡ q.0
 same_number r q e = let same : r ≡ q = cc in ap (λ (x : Register). x.0) same
 
 spill_differs : (m n : ℕ) → Spill m ≢ Spill n → m ≢ n
@@ -130,6 +130,7 @@ module _ (z : Setting) (set : IsSet z) (serves : IsFrameOf z.procedure z.frame) 
     bytes = subst AreBytes (sym p.memory) f.bytes;
     whole = λ address inside. ap (λ (m : Memory). is_some (m address)) p.memory ∙ f.whole address inside;
     mapped = λ address there. ap (λ (m : Memory). is_some (m address)) p.memory ∙ f.mapped address there;
+    unmapped = λ address none out. ap (λ (m : Memory). m address) p.memory ∙ f.unmapped address none out;
     caller = ap (λ (m : Memory). read_word m (frame_pointer_of z.entry - 0) 8) p.memory ∙ f.caller;
     link = ap (λ (m : Memory). read_word m (frame_pointer_of z.entry + 8) 8) p.memory ∙ f.link;
     saved = λ s there. ap (λ (m : Memory). read_word m (frame_pointer_of z.entry - s.offset) 8) p.memory ∙ f.saved s there;
@@ -181,6 +182,10 @@ module _ (z : Setting) (set : IsSet z) (serves : IsFrameOf z.procedure z.frame) 
         ∙ write_word_keeps c.memory (frame_pointer_of z.entry - offset) 8 word address (f.whole address inside);
     mapped = λ address there. ap (λ (m : Memory). is_some (m address)) p.memory
         ∙ write_word_keeps c.memory (frame_pointer_of z.entry - offset) 8 word address (f.mapped address there);
+    unmapped = λ address none out. ap (λ (m : Memory). m address) p.memory
+        ∙ none_still (c.memory address) (write_word c.memory (frame_pointer_of z.entry - offset) 8 word address)
+        (write_word_mapped c.memory (frame_pointer_of z.entry - offset) 8 word address
+        (word_mapped z set serves.good c offset place.0 f.whole)) (f.unmapped address none out);
     caller = ap (λ (m : Memory). read_word m (frame_pointer_of z.entry - 0) 8) p.memory
         ∙ read-write_apart c.memory (frame_pointer_of z.entry - 0) 8 (frame_pointer_of z.entry - offset) 8 word
         (caller_apart z.entry.sp z.frame.bytes offset set.ranged.sp set.room place.0.ends place.0.begins) ∙ f.caller;

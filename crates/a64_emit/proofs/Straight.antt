@@ -1,21 +1,20 @@
 -- Straight code: instructions that each go on to the next one.
-use Rattle.std.proofs.Common.{◌≡◌, ℕ, zero, suc, ◌+◌, ◌%◌, ◌^◌, ◌<◌, ◌≤◌, true, List, [], ◌∷◌, ◌++◌, Some, None, length, refl, sym, ap, ◌∙◌, subst, arith, add-one, eq-eqb}
+use Rattle.std.proofs.Common.{◌≡◌, ℕ, zero, suc, ◌+◌, ◌%◌, ◌^◌, ◌<◌, ◌≤◌, true, inl, inr, ⊎_elim, List, [], ◌∷◌, ◌++◌, Option, Some, None, length, refl, sym, ap, ◌∙◌, subst, arith, add-one, eq-eqb}
 use Rattle.std.specs.Prelude.{slice_get, if◌then◌else◌}
 use Rattle.b3_base.specs.Run.{iterate}
 use Rattle.b3_base.proofs.Run.{iterate-zero, iterate-one, iterate-suc, iterate-add, moments_joined}
 use Rattle.a64_inst.specs.Step.{Stepped, step_of, goes_on}
 use Rattle.a64_inst.specs.declared.inst.Inst.{Inst}
 use Rattle.a64_inst.specs.declared.item.Item.TheVariants.{Plain}
-use Rattle.air_ir.specs.Blocks.{Config as AirConfig}
-use Rattle.air_ir.specs.Meaning.{World}
+use Rattle.air_ir.specs.Blocks.{Config as AirConfig, Lost}
 use Rattle.a64_layout.specs.Branch.{size_in}
 use Rattle.a64_layout.specs.Layout.{place}
-use Rattle.a64_layout.specs.Machine.{Machine, goes_on_at, instruction_does, machine_of, moved_to}
+use Rattle.a64_layout.specs.Machine.{Machine, goes_on_at, instruction_does, machine_of, moved_to, outside_at}
 use Rattle.a64_layout.specs.Run.{At, Config, Ends, GoForward, GoesOn, Goes, Outcome, after, item_step, mark_before}
 use Rattle.a64_layout.proofs.Least.{place-next, place_mono}
 use Rattle.a64_run.specs.Placement.{in_frame}
-use Rattle.a64_emit.specs.Emitted.{IsProper, IsProperAt, IsSafe, IsSafeItem, Lands, Leads}
-use Rattle.a64_emit.specs.Setting.{IsSet, Setting, address_of, meaning_of, row}
+use Rattle.a64_emit.specs.Emitted.{IsProper, IsProperAt, IsSafe, IsSafeItem, Lands, Leads, LeadsBy, LeadsOut, Log, RunsTo}
+use Rattle.a64_emit.specs.Setting.{IsSet, Setting, address_of, meaning_of, nothing, row}
 
 -- two machines that differ in pc alone
 abbrev pub AreAlike : Machine → Machine → Type 0
@@ -139,85 +138,115 @@ runs_more z k c e n d step here small rest = record {
   small = λ lt. rest.small small;
 }
 
--- items lead on as they do from a block's label, where none may be needed
-pub record Reaches (z : Setting) (from : World) (next : AirConfig) (k : ℕ) (c : Machine) : Type 0 where
-  pub items : ℕ
-  pub at : ℕ
-  pub last : Machine
-  pub forward : GoForward (meaning_of z) z.code items (At k c)
-  pub comes : iterate (item_step (meaning_of z) z.code) items (At k c) ≡ At at last
-  pub proper : (i : ℕ) → i ≤ items → IsProper z (iterate (item_step (meaning_of z) z.code) i (At k c))
-  pub lands : Lands z from next at last
+-- items lead to where the run lands, where none may be needed; a run that is lost leads anywhere
+abbrev pub Reaches : Setting → Log → AirConfig → ℕ → Machine → Type 0
+Reaches z log next k c = (sites : ℕ) × LeadsBy sites z 0 log next k c
+
+abbrev pub ReachesUnlessLost : Setting → Log → AirConfig → ℕ → Machine → Type 0
+ReachesUnlessLost z log Lost k c = Unit {0}
+ReachesUnlessLost z log next k c = Reaches z log next k c
 
 -- no item is needed
-pub reaches_here : (z : Setting) (from : World) (next : AirConfig) (k : ℕ) (c : Machine) → IsProperAt z k c → Lands z from next k c → Reaches z from next k c
-reaches_here z from next k c here lands = record {
+pub runs_here : (z : Setting) (k : ℕ) (c : Machine) → IsProperAt z k c → RunsTo z 0 k c k c
+runs_here z k c here = record {
   items = 0;
-  at = k;
-  last = c;
+  some = omega arith;
   forward = forward_zero z (At k c);
   comes = iterate-zero (item_step (meaning_of z) z.code) (At k c);
   proper = λ i le. let none : i ≡ 0 = omega arith in
       subst (IsProper z) (sym (ap (λ (j : ℕ). iterate (item_step (meaning_of z) z.code) j (At k c)) none
       ∙ iterate-zero (item_step (meaning_of z) z.code) (At k c))) here;
-  lands = lands;
 }
+
+pub leads_of : (z : Setting) (log : Log) (next : AirConfig) (k : ℕ) (c : Machine) → Leads z 0 log next k c → Reaches z log next k c
+unfolding LeadsBy
+leads_of z log next k c leads = (0, leads)
+
+pub reaches_here : (z : Setting) (log : Log) (next : AirConfig) (k : ℕ) (c : Machine) → IsProperAt z k c → Lands z log next k c → Reaches z log next k c
+reaches_here z log next k c here lands = leads_of z log next k c (record { at = k; last = c; runs = runs_here z k c here; lands = lands })
+
+-- n items that each go farther on, from one item to another one
+pub record Passes (z : Setting) (n k : ℕ) (c : Machine) (l : ℕ) (d : Machine) : Type 0 where
+  pub comes : iterate (item_step (meaning_of z) z.code) n (At k c) ≡ At l d
+  pub forward : GoForward (meaning_of z) z.code n (At k c)
+  pub proper : (i : ℕ) → i < n → IsProper z (iterate (item_step (meaning_of z) z.code) i (At k c))
+
+pub runs_pass : (z : Setting) (k n : ℕ) (c d : Machine) → (runs : Runs z k c n d) → Passes z n k c (k + n) runs.last
+runs_pass z k n c d runs = record { comes = runs.comes; forward = runs.forward; proper = runs.proper }
+
+-- one item, which leads to a later one
+pub one_passes : (z : Setting) (k l : ℕ) (c d : Machine) → k < l → IsProperAt z k c → item_step (meaning_of z) z.code (At k c) ≡ At l d
+    → Passes z 1 k c l d
+one_passes z k l c d lt here step = record {
+  comes = iterate-one (item_step (meaning_of z) z.code) (At k c) ∙ step;
+  forward = forward_more z 0 (At k c) (subst (GoesOn (At k c)) (sym step) lt) (forward_zero z (item_step (meaning_of z) z.code (At k c)));
+  proper = λ i below. let none : i ≡ 0 = omega arith in
+      subst (IsProper z) (sym (ap (λ (j : ℕ). iterate (item_step (meaning_of z) z.code) j (At k c)) none
+      ∙ iterate-zero (item_step (meaning_of z) z.code) (At k c))) here;
+}
+
+pub runs_on : (z : Setting) (least some n k l at : ℕ) (c d last : Machine) → some ≤ n + least → Passes z n k c l d → RunsTo z least l d at last
+    → RunsTo z some k c at last
+runs_on z least some n k l at c d last le first rest = record {
+  items = n + rest.items;
+  some = omega (arith, rest.some);
+  forward = forward_both z n rest.items (At k c) first.forward (subst (GoForward (meaning_of z) z.code rest.items) (sym first.comes) rest.forward);
+  comes = iterate-add (item_step (meaning_of z) z.code) n rest.items (At k c) ∙ ap (iterate (item_step (meaning_of z) z.code) rest.items) first.comes
+      ∙ rest.comes;
+  proper = λ i le. moments_joined (item_step (meaning_of z) z.code) (IsProper z) n (suc rest.items) (At k c) first.proper
+      (λ j below. subst (λ a. IsProper z (iterate (item_step (meaning_of z) z.code) j a)) (sym first.comes) (rest.proper j (omega arith))) i (omega arith);
+}
+
+-- and what leads on from there
+leads_past : (z : Setting) (sites least some : ℕ) (log : Log) (next : AirConfig) (n k l : ℕ) (c d : Machine) → some ≤ n + least
+    → Passes z n k c l d → LeadsBy sites z least log next l d → LeadsBy sites z some log next k c
+unfolding LeadsBy
+leads_past z zero least some log next n k l c d le first rest =
+    record { at = rest.at; last = rest.last; runs = runs_on z least some n k l rest.at c d rest.last le first rest.runs; lands = rest.lands }
+leads_past z (suc sites) least some log next n k l c d le first rest =
+    ⊎_elim
+    (λ (on : Leads z least log next l d). inl (record {
+      at = on.at;
+      last = on.last;
+      runs = runs_on z least some n k l on.at c d on.last le first on.runs;
+      lands = on.lands;
+    }))
+    (λ (out : LeadsOut (λ log k c. LeadsBy sites z 0 log next k c) z least log next l d). inr (record {
+      at = out.at;
+      last = out.last;
+      runs = runs_on z least some n k l out.at c d out.last le first out.runs;
+      asks = out.asks;
+      takes = out.takes;
+    }))
+    rest
+
+pub passes_on : (z : Setting) (log : Log) (next : AirConfig) (n k l : ℕ) (c d : Machine) → Passes z n k c l d → Reaches z log next l d
+    → Reaches z log next k c
+passes_on z log next n k l c d first rest = (rest.0, leads_past z rest.0 0 0 log next n k l c d (omega arith) first rest.1)
 
 -- a run, and what leads on from its end
-pub leads_on : (z : Setting) (from : World) (next : AirConfig) (k n : ℕ) (c d : Machine) → (runs : Runs z k c n d)
-    → Reaches z from next (k + n) runs.last → Reaches z from next k c
-leads_on z from next k n c d runs rest = record {
-  items = n + rest.items;
-  at = rest.at;
-  last = rest.last;
-  forward = forward_both z n rest.items (At k c) runs.forward (subst (GoForward (meaning_of z) z.code rest.items) (sym runs.comes) rest.forward);
-  comes = iterate-add (item_step (meaning_of z) z.code) n rest.items (At k c) ∙ ap (iterate (item_step (meaning_of z) z.code) rest.items) runs.comes
-      ∙ rest.comes;
-  proper = λ i le. moments_joined (item_step (meaning_of z) z.code) (IsProper z) n (suc rest.items) (At k c) runs.proper
-      (λ j below. subst (λ a. IsProper z (iterate (item_step (meaning_of z) z.code) j a)) (sym runs.comes) (rest.proper j (omega arith))) i (omega arith);
-  lands = rest.lands;
-}
+pub leads_on : (z : Setting) (log : Log) (next : AirConfig) (k n : ℕ) (c d : Machine) → (runs : Runs z k c n d)
+    → Reaches z log next (k + n) runs.last → Reaches z log next k c
+leads_on z log next k n c d runs rest = passes_on z log next n k (k + n) c runs.last (runs_pass z k n c d runs) rest
 
 -- one item, which leads to a later one, and what leads on from there
-pub leads_over : (z : Setting) (from : World) (next : AirConfig) (k l : ℕ) (c : Machine) → k < l → IsProperAt z k c
-    → item_step (meaning_of z) z.code (At k c) ≡ At l c → Reaches z from next l c → Reaches z from next k c
-leads_over z from next k l c lt here step rest = record {
-  items = suc rest.items;
-  at = rest.at;
-  last = rest.last;
-  forward = forward_more z rest.items (At k c) (subst (GoesOn (At k c)) (sym step) lt)
-      (subst (GoForward (meaning_of z) z.code rest.items) (sym step) rest.forward);
-  comes = iterate-suc (item_step (meaning_of z) z.code) rest.items (At k c) ∙ ap (iterate (item_step (meaning_of z) z.code) rest.items) step ∙ rest.comes;
-  proper = λ j le. moments_joined (item_step (meaning_of z) z.code) (IsProper z) 1 (suc rest.items) (At k c)
-      (λ i below. let none : i ≡ 0 = omega arith in
-      subst (IsProper z) (sym (ap (λ (j : ℕ). iterate (item_step (meaning_of z) z.code) j (At k c)) none
-      ∙ iterate-zero (item_step (meaning_of z) z.code) (At k c))) here)
-      (λ i below. subst (λ a. IsProper z (iterate (item_step (meaning_of z) z.code) i a)) (sym (iterate-one (item_step (meaning_of z) z.code) (At k c)
-      ∙ step)) (rest.proper i (omega arith)))
-      j (omega arith);
-  lands = rest.lands;
-}
+pub leads_over : (z : Setting) (log : Log) (next : AirConfig) (k l : ℕ) (c : Machine) → k < l → IsProperAt z k c
+    → item_step (meaning_of z) z.code (At k c) ≡ At l c → Reaches z log next l c → Reaches z log next k c
+leads_over z log next k l c lt here step rest = passes_on z log next 1 k l c c (one_passes z k l c c lt here step) rest
 
 -- behind at least one item
-pub leads_by : (z : Setting) (from : World) (next : AirConfig) (k n : ℕ) (c d : Machine) → 1 ≤ n → (runs : Runs z k c n d)
-    → Reaches z from next (k + n) runs.last → Leads z from next k c
-unfolding leads_on
-leads_by z from next k n c d some runs rest =
-    let whole = leads_on z from next k n c d runs rest in
-    record {
-      items = n + rest.items;
-      some = omega arith;
-      at = whole.at;
-      last = whole.last;
-      forward = whole.forward;
-      comes = whole.comes;
-      proper = whole.proper;
-      lands = whole.lands;
-    }
+pub leads_by : (z : Setting) (log : Log) (next : AirConfig) (k n : ℕ) (c d : Machine) → 1 ≤ n → (runs : Runs z k c n d)
+    → Reaches z log next (k + n) runs.last → (sites : ℕ) × LeadsBy sites z 1 log next k c
+leads_by z log next k n c d some runs rest =
+    (rest.0, leads_past z rest.0 0 1 log next n k (k + n) c runs.last (omega arith) (runs_pass z k n c d runs) rest.1)
 
 -- ---- the step of an instruction
 
-module _ (z : Setting) (set : IsSet z) (unmarked : (k : ℕ) → mark_before z.code k ≡ None) where
+does_nothing : (mark : Option ℕ) (c : Machine) → outside_at nothing mark c ≡ None
+does_nothing None c = refl
+does_nothing (Some mark) c = refl
+
+module _ (z : Setting) (set : IsSet z) where
   after_goes : (address : ℕ) (inst : Inst) (c d : Machine) → address + 4 < 2 ^ 64
       → step_of inst (moved_to address c).registers c.memory ≡ goes_on (moved_to address d).registers d.memory
       → instruction_does address inst c ≡ Goes 1 (moved_to (address + 4) d)
@@ -226,12 +255,12 @@ module _ (z : Setting) (set : IsSet z) (unmarked : (k : ℕ) → mark_before z.c
       let e : (address + 4) % 2 ^ 64 ≡ address + 4 = omega arith in
       ap f does ∙ rw (e, eq-eqb (address + 4) (address + 4) refl) refl
 
-  plain_step : (k : ℕ) (inst : Inst) (c d : Machine) → slice_get z.code k ≡ Some (Plain inst) → address_of z k + 4 < 2 ^ 64
+  pub plain_step : (k : ℕ) (inst : Inst) (c d : Machine) → slice_get z.code k ≡ Some (Plain inst) → address_of z k + 4 < 2 ^ 64
       → DoesOne z c inst d → item_step (meaning_of z) z.code (At k c) ≡ At (k + 1) (moved_to (address_of z k + 4) d)
   unfolding item_step
-  plain_step k inst c d there small one = rw (there, unmarked k) (ap (after k) (after_goes (address_of z k) inst c d small (one.does (address_of z k))))
+  plain_step k inst c d there small one = rw (there, does_nothing (mark_before z.code k) (moved_to (address_of z k) c)) (ap (after k) (after_goes (address_of z k) inst c d small (one.does (address_of z k))))
 
-  proper_here : (k : ℕ) (inst : Inst) (c d : Machine) → slice_get z.code k ≡ Some (Plain inst) → DoesOne z c inst d → IsProperAt z k c
+  pub proper_here : (k : ℕ) (inst : Inst) (c d : Machine) → slice_get z.code k ≡ Some (Plain inst) → DoesOne z c inst d → IsProperAt z k c
   proper_here k inst c d there one = record {
     aligned = one.whole.aligned;
     whole = one.whole.whole;

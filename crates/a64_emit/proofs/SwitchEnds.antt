@@ -1,5 +1,5 @@
 -- A Switch leads to the target of the case that its word is equal to.
-use Rattle.std.proofs.Common.{◌≡◌, ◌≢◌, ℕ, suc, ◌+◌, ◌^◌, ◌<◌, ◌≤◌, true, false, not, ◌&&◌, ⊎_elim, List, [], ◌∷◌, ◌++◌, Some, None, length, get_or, refl, sym, ap, ◌∙◌, subst, arith, append_assoc, length-append}
+use Rattle.std.proofs.Common.{◌≡◌, ◌≢◌, ℕ, suc, ◌+◌, ◌^◌, ◌<◌, ◌≤◌, true, false, not, ◌&&◌, ⊎_elim, List, [], ◌∷◌, ◌++◌, Some, length, get_or, refl, sym, ap, ◌∙◌, subst, arith, append_assoc, length-append}
 use Rattle.std.specs.Prelude.{nat_eq, nat_le, nat_lt, slice_get, if◌then◌else◌}
 use Rattle.std.proofs.lemmas.Bool.{cases_lt}
 use Rattle.std.proofs.lemmas.Bool.Decides.{nat_tests}
@@ -17,7 +17,7 @@ use Rattle.a64_inst.specs.declared.item.Item.{Item}
 use Rattle.a64_inst.specs.declared.item.Item.TheVariants.{If, Label}
 use Rattle.air_ir.specs.Blocks as air
 use Rattle.air_ir.specs.Forms.{AllFit, NoImmediate, Word, home}
-use Rattle.air_ir.specs.Meaning.{To, World, case_number, meaning, operation}
+use Rattle.air_ir.specs.Meaning.{To, case_number, meaning, operation}
 use Rattle.air_ir.specs.Operands.{word_of, words}
 use Rattle.air_ir.specs.Steps.{State}
 use Rattle.air_ir.specs.declared.op.AirOp.TheVariants as op
@@ -29,16 +29,17 @@ use Rattle.a64_layout.specs.Layout.{place, position_of}
 use Rattle.a64_layout.specs.Machine.{Machine, moved_to, test_holds}
 use Rattle.a64_layout.specs.Run as run
 use Rattle.a64_emit.specs.Code.{arg_at, fetch, source_at, source_of, width_at}
-use Rattle.a64_emit.specs.Computing.{reg_of, sum_with}
-use Rattle.a64_emit.specs.Constants.{constant}
-use Rattle.a64_emit.specs.Places.{plains}
+use Rattle.a64_code.specs.Computing.{reg_of, sum_with, is_sum_word}
+use Rattle.a64_code.specs.Constants.{constant}
+use Rattle.a64_emit.specs.Emitted.{Log, log_of}
+use Rattle.a64_code.specs.Places.{plains}
 use Rattle.a64_emit.specs.Related.{IsRelated}
 use Rattle.a64_emit.specs.Setting.{IsSet, Setting, meaning_of}
-use Rattle.a64_emit.specs.Switched.{case_items, cases_in_order, compare_word, is_sum_word, jump_to, search_items, switch_items}
+use Rattle.a64_emit.specs.Switched.{case_items, cases_in_order, compare_word, jump_to, search_items, switch_items}
 use Rattle.a64_emit.specs.Trees.{Leaf, Node, Tree, node_count, tree}
 use Rattle.a64_emit.specs.declared.case.Case.{Case}
-use Rattle.a64_emit.specs.declared.source.Source.{Source}
-use Rattle.a64_emit.specs.declared.source.Source.TheVariants.{Constant, InReg}
+use Rattle.a64_code.specs.declared.source.Source.{Source}
+use Rattle.a64_code.specs.declared.source.Source.TheVariants.{Constant, InReg}
 use Rattle.a64_layout.proofs.Least.{place_mono}
 use Rattle.a64_emit.proofs.Ahead.{if_size, switch_words, words_ahead}
 use Rattle.a64_emit.proofs.AirSteps.{step_lost}
@@ -50,13 +51,13 @@ use Rattle.a64_emit.proofs.Endings.{Ends, among_plains, leaves_to}
 use Rattle.a64_emit.proofs.Fetching.{IsUsable, fetch_word, fetched_keeps, gives_same, kept_differs, source_differs}
 use Rattle.a64_emit.proofs.Keeping.{keeps_related, whole_of}
 use Rattle.a64_emit.proofs.Moves.{constant_puts}
-use Rattle.a64_emit.proofs.Ops.{Gives, IsRegister, gives-small}
+use Rattle.a64_code.proofs.Ops.{Gives, IsRegister, gives-small}
 use Rattle.a64_emit.proofs.Positions.{Among, among_first, among_rest, length_plains}
 use Rattle.a64_emit.proofs.Labelled.{IsCaseOf, cases_lead}
 use Rattle.a64_emit.proofs.Sorting.{led, led_among, search_leads}
 use Rattle.a64_emit.proofs.Straight.{AreAlike, Does, DoesOne, Reaches, Runs, does_both, does_one, leads_on, leads_over, straight_runs}
 use Rattle.a64_emit.proofs.Trees.{Each, each_left, each_right, in_order, tree_order}
-use Rattle.a64_emit.proofs.Tests.{compare_is, with_flags}
+use Rattle.a64_code.proofs.Tests.{compare_is, with_flags}
 use Rattle.a64_emit.proofs.Words.{does_safely, touches_nothing}
 
 -- the difference of two words is 0 where they are equal
@@ -101,7 +102,7 @@ register_most r (Constant word) width x is gives = absurd is
 abbrev pub AllWithin : Setting → List ℕ → Type 0
 AllWithin z targets_of = (j : ℕ) → j < length targets_of → get_or targets_of j 0 < length z.procedure.blocks
 
-module _ (z : Setting) (set : IsSet z) (serves : IsFrameOf z.procedure z.frame) (unmarked : (k : ℕ) → run.mark_before z.code k ≡ None)
+module _ (z : Setting) (set : IsSet z) (serves : IsFrameOf z.procedure z.frame)
     (placed : (k label : ℕ) → slice_get z.code k ≡ Some (Label label) → position_of z.code label ≡ k) where
   -- by a register
   compares_put : (s : State) (c : Machine) (a : Source) (width : Width) (x y : ℕ) → IsRelated z s c → IsRegister a → ((r : ℕ) → a ≡ InReg r → r ≢ 16)
@@ -182,16 +183,16 @@ module _ (z : Setting) (set : IsSet z) (serves : IsFrameOf z.procedure z.frame) 
   -- ---- the search
 
   -- a word in a register, in a state to which the block leads
-  pub record Seeks (from : World) (s : State) (a : Source) (width : Width) (x : ℕ) (c : Machine) : Type 0 where
-    pub since : Since from s
+  pub record Seeks (log : Log) (s : State) (a : Source) (width : Width) (x : ℕ) (c : Machine) : Type 0 where
+    pub since : Since log s
     pub related : IsRelated z s c
     pub register : IsRegister a
     pub differs : (r : ℕ) → a ≡ InReg r → r ≢ 16
     pub gives : Gives c.registers a width x
 
-  alike_seeks : (from : World) (s : State) (a : Source) (width : Width) (x : ℕ) (c d : Machine) → AreAlike d c → d.registers.pc < 2 ^ 64
-      → Seeks from s a width x c → Seeks from s a width x d
-  alike_seeks from s a width x c d same small seeks = record {
+  alike_seeks : (log : Log) (s : State) (a : Source) (width : Width) (x : ℕ) (c d : Machine) → AreAlike d c → d.registers.pc < 2 ^ 64
+      → Seeks log s a width x c → Seeks log s a width x d
+  alike_seeks log s a width x c d same small seeks = record {
     since = seeks.since;
     related = alike_related z s c d same small seeks.related;
     register = seeks.register;
@@ -200,14 +201,14 @@ module _ (z : Setting) (set : IsSet z) (serves : IsFrameOf z.procedure z.frame) 
   }
 
   -- a word is compared with that of a case: the case leads where it is equal, and else the items behind its branch do
-  compare_reaches : (from : World) (s : State) (a : Source) (width : Width) (x : ℕ) (case : Case) (rest : List Item) (k other : ℕ) (c : Machine)
+  compare_reaches : (log : Log) (s : State) (a : Source) (width : Width) (x : ℕ) (case : Case) (rest : List Item) (k other : ℕ) (c : Machine)
       → IsCaseOf (length z.procedure.blocks) width case
       → Among z.code k (plains (compare_word width (reg_of a) case.word) ++ If Eq case.target ∷ rest)
-      → Seeks from s a width x c
-      → ((d : Machine) → Seeks from s a width x d → holds Hi d.registers.flags ≡ nat_lt case.word x
-      → Reaches z from (air.At other s) (k + length (plains (compare_word width (reg_of a) case.word) ++ If Eq case.target ∷ [])) d)
-      → Reaches z from (air.At (if nat_eq case.word x then case.target else other) s) k c
-  compare_reaches from s a width x case rest k other c of among seeks goes_on =
+      → Seeks log s a width x c
+      → ((d : Machine) → Seeks log s a width x d → holds Hi d.registers.flags ≡ nat_lt case.word x
+      → Reaches z log (air.At other s) (k + length (plains (compare_word width (reg_of a) case.word) ++ If Eq case.target ∷ [])) d)
+      → Reaches z log (air.At (if nat_eq case.word x then case.target else other) s) k c
+  compare_reaches log s a width x case rest k other c of among seeks goes_on =
       let insts : List Inst = compare_word width (reg_of a) case.word in
       let q = compares s c a width x case.word seeks.related seeks.register seeks.differs of.0 seeks.gives in
       let n : ℕ = length insts in
@@ -217,42 +218,42 @@ module _ (z : Setting) (set : IsSet z) (serves : IsFrameOf z.procedure z.frame) 
       let there : slice_get z.code (k + n) ≡ Some (If Eq case.target) = ap (slice_get z.code) (omega arith) ∙ behind 0 (If Eq case.target) refl in
       let room = words_there z (k + n) (If Eq case.target) there (slice_get_within z.code (k + n) (If Eq case.target) there)
       (if_size Eq case.target (z.long (k + n))) in
-      let runs : Runs z k c n q.after = straight_runs z set unmarked k c q.after insts q.does
+      let runs : Runs z k c n q.after = straight_runs z set k c q.after insts q.does
       (among_plains z.code k insts (among_first z.code k (plains insts) (If Eq case.target ∷ rest) among)) room in
       let last : Machine = runs.last in
-      let compared : Seeks from s a width x q.after =
+      let compared : Seeks log s a width x q.after =
       record { since = seeks.since; related = q.related; register = seeks.register; differs = seeks.differs; gives = q.gives } in
-      let seeks_last = alike_seeks from s a width x q.after last runs.alike (runs.small seeks.related.frame.words.pc) compared in
+      let seeks_last = alike_seeks log s a width x q.after last runs.alike (runs.small seeks.related.frame.words.pc) compared in
       let equal : test_holds (branch_test (Compare Eq) true width 0) last ≡ nat_eq case.word x =
       ap (λ (m : Machine). holds Eq m.registers.flags) runs.alike ∙ q.equal in
       let higher : holds Hi last.registers.flags ≡ nat_lt case.word x = ap (λ (m : Machine). holds Hi m.registers.flags) runs.alike ∙ q.higher in
       let step = branch_goes z set serves (Compare Eq) true width 0 (k + n) case.target last (nat_eq case.word x) equal there in
       let total = length-append (plains insts) (If Eq case.target ∷ []) in
       let e : k + length (plains insts ++ If Eq case.target ∷ []) ≡ k + n + 1 = omega arith in
-      leads_on z from (air.At (if nat_eq case.word x then case.target else other) s) k n c q.after runs
+      leads_on z log (air.At (if nat_eq case.word x then case.target else other) s) k n c q.after runs
       (elim (nat_eq case.word x) as (λ b. run.item_step (meaning_of z) z.code (run.At (k + n) last) ≡ run.At
       (if b then position_of z.code case.target else k + n + 1) last
-      → Reaches z from (air.At (if b then case.target else other) s) (k + n) last) [
-        | true ↦ λ step. reaches_step z set serves from s (k + n) case.target last
+      → Reaches z log (air.At (if b then case.target else other) s) (k + n) last) [
+        | true ↦ λ step. reaches_step z set serves log s (k + n) case.target last
             (item_proper z set serves s (k + n) last (If Eq case.target) there tt seeks_last.related)
             step seeks.since seeks_last.related
         | false ↦ λ step.
             let on = one_runs z set serves s (k + n) last (If Eq case.target) there tt step seeks_last.related in
-            leads_on z from (air.At other s) (k + n) 1 last last on
-            (subst (λ j. Reaches z from (air.At other s) j on.last) e
-            (goes_on on.last (alike_seeks from s a width x last on.last on.alike (on.small seeks_last.related.frame.words.pc) seeks_last)
+            leads_on z log (air.At other s) (k + n) 1 last last on
+            (subst (λ j. Reaches z log (air.At other s) j on.last) e
+            (goes_on on.last (alike_seeks log s a width x last on.last on.alike (on.small seeks_last.related.frame.words.pc) seeks_last)
             (ap (λ (m : Machine). holds Hi m.registers.flags) on.alike ∙ higher)))
       ] step)
 
-  cases_reach : (from : World) (s : State) (a : Source) (width : Width) (x other next : ℕ) (cases : List Case) (k : ℕ) (c : Machine)
+  cases_reach : (log : Log) (s : State) (a : Source) (width : Width) (x other next : ℕ) (cases : List Case) (k : ℕ) (c : Machine)
       → other < length z.procedure.blocks → Each (IsCaseOf (length z.procedure.blocks) width) cases
       → Among z.code k (case_items width (reg_of a) cases ++ jump_to next other)
-      → NextAt z next (k + length (case_items width (reg_of a) cases ++ jump_to next other)) → Seeks from s a width x c
-      → Reaches z from (air.At (led_among other x cases) s) k c
+      → NextAt z next (k + length (case_items width (reg_of a) cases ++ jump_to next other)) → Seeks log s a width x c
+      → Reaches z log (air.At (led_among other x cases) s) k c
   unfolding case_items
-  cases_reach from s a width x other next [] k c within are among at seeks =
-      jump_reaches z set serves from s k next other c within among at seeks.since seeks.related
-  cases_reach from s a width x other next (case ∷ cases) k c within are among at seeks =
+  cases_reach log s a width x other next [] k c within are among at seeks =
+      jump_reaches z set serves log s k next other c within among at seeks.since seeks.related
+  cases_reach log s a width x other next (case ∷ cases) k c within are among at seeks =
       let front : List Item = plains (compare_word width (reg_of a) case.word) in
       let branch : List Item = If Eq case.target ∷ [] in
       let rest : List Item = case_items width (reg_of a) cases ++ jump_to next other in
@@ -265,8 +266,8 @@ module _ (z : Setting) (set : IsSet z) (serves : IsFrameOf z.procedure z.frame) 
       let behind : Among z.code (k + length (front ++ branch)) rest = among_rest z.code k (front ++ branch) rest (subst (Among z.code k) parts here) in
       let e : k + length ((front ++ If Eq case.target ∷ case_items width (reg_of a) cases) ++ jump_to next other)
       ≡ k + length (front ++ branch) + length rest = omega arith in
-      compare_reaches from s a width x case rest k (led_among other x cases) c are.0 here seeks
-      (λ d seeks_d higher. cases_reach from s a width x other next cases (k + length (front ++ branch)) d within are.1 behind
+      compare_reaches log s a width x case rest k (led_among other x cases) c are.0 here seeks
+      (λ d seeks_d higher. cases_reach log s a width x other next cases (k + length (front ++ branch)) d within are.1 behind
       (subst (λ j. NextAt z next j) e at) seeks_d)
 
   -- where the search stands before a label of its own, no block is next
@@ -274,13 +275,13 @@ module _ (z : Setting) (set : IsSet z) (serves : IsFrameOf z.procedure z.frame) 
   no_next label k le = λ lt. absurd (omega arith)
 
   -- behind the comparison with a node: the lower half stands next, and the other one behind a label
-  half_reaches : (from : World) (s : State) (a : Source) (width : Width) (x label to_first to_rest : ℕ) (case : Case) (first rest : List Item) (k : ℕ)
-      (d : Machine) → Among z.code k (If Hi label ∷ first ++ Label label ∷ rest) → Seeks from s a width x d
+  half_reaches : (log : Log) (s : State) (a : Source) (width : Width) (x label to_first to_rest : ℕ) (case : Case) (first rest : List Item) (k : ℕ)
+      (d : Machine) → Among z.code k (If Hi label ∷ first ++ Label label ∷ rest) → Seeks log s a width x d
       → holds Hi d.registers.flags ≡ nat_lt case.word x
-      → ((m : Machine) → Seeks from s a width x m → Reaches z from (air.At to_first s) (k + 1) m)
-      → ((m : Machine) → Seeks from s a width x m → Reaches z from (air.At to_rest s) (k + 1 + length first + 1) m)
-      → Reaches z from (air.At (if nat_lt case.word x then to_rest else to_first) s) k d
-  half_reaches from s a width x label to_first to_rest case first rest k d among seeks higher first_goes rest_goes =
+      → ((m : Machine) → Seeks log s a width x m → Reaches z log (air.At to_first s) (k + 1) m)
+      → ((m : Machine) → Seeks log s a width x m → Reaches z log (air.At to_rest s) (k + 1 + length first + 1) m)
+      → Reaches z log (air.At (if nat_lt case.word x then to_rest else to_first) s) k d
+  half_reaches log s a width x label to_first to_rest case first rest k d among seeks higher first_goes rest_goes =
       let there : slice_get z.code k ≡ Some (If Hi label) =
       ap (slice_get z.code) (omega arith) ∙ among_first z.code k (If Hi label ∷ first) (Label label ∷ rest) among 0 (If Hi label) refl in
       let l : ℕ = k + 1 + length first in
@@ -289,27 +290,27 @@ module _ (z : Setting) (set : IsSet z) (serves : IsFrameOf z.procedure z.frame) 
       let step = branch_goes z set serves (Compare Hi) true width 0 k label d (nat_lt case.word x) higher there in
       let proper = item_proper z set serves s k d (If Hi label) there tt seeks.related in
       elim (nat_lt case.word x) as (λ b. run.item_step (meaning_of z) z.code (run.At k d) ≡ run.At (if b then position_of z.code label else k + 1) d
-      → Reaches z from (air.At (if b then to_rest else to_first) s) k d) [
+      → Reaches z log (air.At (if b then to_rest else to_first) s) k d) [
         | true ↦ λ step.
             let over = label_runs z set serves s l label d at seeks.related in
-            leads_over z from (air.At to_rest s) k l d (omega arith) proper (step ∙ ap (λ j. run.At j d) (placed l label at))
-            (leads_on z from (air.At to_rest s) l 1 d d over
-            (rest_goes over.last (alike_seeks from s a width x d over.last over.alike (over.small seeks.related.frame.words.pc) seeks)))
+            leads_over z log (air.At to_rest s) k l d (omega arith) proper (step ∙ ap (λ j. run.At j d) (placed l label at))
+            (leads_on z log (air.At to_rest s) l 1 d d over
+            (rest_goes over.last (alike_seeks log s a width x d over.last over.alike (over.small seeks.related.frame.words.pc) seeks)))
         | false ↦ λ step.
             let on = one_runs z set serves s k d (If Hi label) there tt step seeks.related in
-            leads_on z from (air.At to_first s) k 1 d d on
-            (first_goes on.last (alike_seeks from s a width x d on.last on.alike (on.small seeks.related.frame.words.pc) seeks))
+            leads_on z log (air.At to_first s) k 1 d d on
+            (first_goes on.last (alike_seeks log s a width x d on.last on.alike (on.small seeks.related.frame.words.pc) seeks))
       ] step
 
-  search_reaches : (from : World) (s : State) (a : Source) (width : Width) (x other next label : ℕ) (t : Tree Case) (k : ℕ) (c : Machine)
+  search_reaches : (log : Log) (s : State) (a : Source) (width : Width) (x other next label : ℕ) (t : Tree Case) (k : ℕ) (c : Machine)
       → other < length z.procedure.blocks → length z.procedure.blocks ≤ label → Each (IsCaseOf (length z.procedure.blocks) width) (in_order t)
       → Among z.code k (search_items width (reg_of a) other next label t)
-      → NextAt z next (k + length (search_items width (reg_of a) other next label t)) → Seeks from s a width x c
-      → Reaches z from (air.At (led other x t) s) k c
+      → NextAt z next (k + length (search_items width (reg_of a) other next label t)) → Seeks log s a width x c
+      → Reaches z log (air.At (led other x t) s) k c
   unfolding search_items in_order led
-  search_reaches from s a width x other next label (Leaf cases) k c within above are among at seeks =
-      cases_reach from s a width x other next cases k c within are among at seeks
-  search_reaches from s a width x other next label (Node before case behind) k c within above are among at seeks =
+  search_reaches log s a width x other next label (Leaf cases) k c within above are among at seeks =
+      cases_reach log s a width x other next cases k c within are among at seeks
+  search_reaches log s a width x other next label (Node before case behind) k c within above are among at seeks =
       let front : List Item = plains (compare_word width (reg_of a) case.word) in
       let branch : List Item = If Eq case.target ∷ [] in
       let first : List Item = search_items width (reg_of a) other label (label + 1) before in
@@ -335,26 +336,26 @@ module _ (z : Setting) (set : IsSet z) (serves : IsFrameOf z.procedure z.frame) 
       subst (λ n. Among z.code n rest) l_is
       (among_rest z.code (j + length (If Hi label ∷ first)) (Label label ∷ []) rest (among_rest z.code j (If Hi label ∷ first) (Label label ∷ rest) both)) in
       let e : k + length ((front ++ If Eq case.target ∷ If Hi label ∷ first) ++ Label label ∷ rest) ≡ l + 1 + length rest = omega arith in
-      compare_reaches from s a width x case halves k (if nat_lt case.word x then led other x behind else led other x before) c are_rest.0 here seeks
-      (λ d seeks_d higher. half_reaches from s a width x label (led other x before) (led other x behind) case first rest j d both seeks_d higher
-      (λ m seeks_m. search_reaches from s a width x other label (label + 1) before (j + 1) m within (omega arith) are_first first_there
+      compare_reaches log s a width x case halves k (if nat_lt case.word x then led other x behind else led other x before) c are_rest.0 here seeks
+      (λ d seeks_d higher. half_reaches log s a width x label (led other x before) (led other x behind) case first rest j d both seeks_d higher
+      (λ m seeks_m. search_reaches log s a width x other label (label + 1) before (j + 1) m within (omega arith) are_first first_there
       (no_next label (j + 1 + length first) above) seeks_m)
-      (λ m seeks_m. search_reaches from s a width x other next own behind (l + 1) m within (omega arith) are_rest.1 rest_there
+      (λ m seeks_m. search_reaches log s a width x other next own behind (l + 1) m within (omega arith) are_rest.1 rest_there
       (subst (λ n. NextAt z next n) e at) seeks_m))
 
   -- a Switch on a word leads to the target of its case
-  pub switch_reaches : (from : World) (s : State) (a : Source) (width : Width) (x next label : ℕ) (cases targets_of : List ℕ) (k : ℕ) (c : Machine)
+  pub switch_reaches : (log : Log) (s : State) (a : Source) (width : Width) (x next label : ℕ) (cases targets_of : List ℕ) (k : ℕ) (c : Machine)
       → length targets_of ≡ suc (length cases) → AllWithin z targets_of → length z.procedure.blocks ≤ label
       → Among z.code k (switch_items width (reg_of a) next label cases targets_of)
-      → NextAt z next (k + length (switch_items width (reg_of a) next label cases targets_of)) → Seeks from s a width x c
-      → Reaches z from (air.At (get_or targets_of (case_number width x cases) 0) s) k c
-  switch_reaches from s a width x next label cases targets_of k c count within above among at seeks =
+      → NextAt z next (k + length (switch_items width (reg_of a) next label cases targets_of)) → Seeks log s a width x c
+      → Reaches z log (air.At (get_or targets_of (case_number width x cases) 0) s) k c
+  switch_reaches log s a width x next label cases targets_of k c count within above among at seeks =
       let ordered : List Case = cases_in_order width cases targets_of in
       let other : ℕ = get_or targets_of (length cases) 0 in
       let last = within (length cases) (omega arith) in
       let are = cases_lead (length z.procedure.blocks) width cases targets_of (omega arith) within in
-      subst (λ to. Reaches z from (air.At to s) k c) (search_leads width x cases targets_of)
-      (search_reaches from s a width x other next label (tree ordered) k c last above
+      subst (λ to. Reaches z log (air.At to s) k c) (search_leads width x cases targets_of)
+      (search_reaches log s a width x other next label (tree ordered) k c last above
       (subst (Each (IsCaseOf (length z.procedure.blocks) width)) (sym (tree_order ordered)) are) among at seeks)
 
   switches_to : (i : AirInst) (s : State) (cases : List ℕ) (width : Width) (x : ℕ) → i.op ≡ op.Switch cases
@@ -417,7 +418,7 @@ module _ (z : Setting) (set : IsSet z) (serves : IsFrameOf z.procedure z.frame) 
       let rel_m = keeps_related z s c m (fetched_keeps z c insts 15 scratch_15 first.0) rel in
       let room = switch_room next label k (length insts) cases targets_of a.width (reg_of source) count within behind
       (subst (λ j. next < length z.procedure.blocks → place z.code z.long j < place z.code z.long (length z.code)) e ahead_here) in
-      let runs : Runs z k c (length insts) m = straight_runs z set unmarked k c m insts first.0.does
+      let runs : Runs z k c (length insts) m = straight_runs z set k c m insts first.0.does
       (among_plains z.code k insts (among_first z.code k (plains insts) items here)) room in
       let last : Machine = runs.last in
       let rel_last = alike_related z s m last runs.alike (runs.small rel.frame.words.pc) rel_m in
@@ -428,14 +429,14 @@ module _ (z : Setting) (set : IsSet z) (serves : IsFrameOf z.procedure z.frame) 
       let to : ℕ = get_or targets_of number 0 in
       record {
         next = air.At to s;
-        is = leaves_to z set serves unmarked i s targets_of ((a.width, x) ∷ []) number to found.2 (one_writes i a os.1 os.2.0)
+        is = leaves_to z set serves i s targets_of ((a.width, x) ∷ []) number to found.2 (one_writes i a os.1 os.2.0)
             (switches_to i s cases a.width x is)
             (slice_get-get_or targets_of number 0 (omega arith));
-        reaches = leads_on z s.world (air.At to s) k (length insts) c m runs
-            (switch_reaches s.world s source a.width x next label cases targets_of (k + length insts) last count within above behind
+        reaches = leads_on z (log_of s.world) (air.At to s) k (length insts) c m runs
+            (switch_reaches (log_of s.world) s source a.width x next label cases targets_of (k + length insts) last count within above behind
             (subst (λ j. NextAt z next j) e at_here)
             (record {
-              since = (refl, refl);
+              since = refl;
               related = rel_last;
               register = is_a;
               differs = source_differs z 15 16 a.arg scratch_16 (λ e. omega arith) usable_a;

@@ -5,7 +5,7 @@ use Rattle.b3_base.specs.declared.word.Width.{Width}
 use Rattle.a64_inst.specs.declared.inst.Cond.TheVariants.{Eq, Hi}
 use Rattle.a64_inst.specs.declared.item.Item.{Item}
 use Rattle.a64_inst.specs.declared.item.Item.TheVariants.{If, Label}
-use Rattle.a64_emit.specs.Places.{plains}
+use Rattle.a64_code.specs.Places.{plains}
 use Rattle.a64_emit.specs.Switched.{case_items, compare_word, jump_to, search_items}
 use Rattle.a64_emit.specs.Trees.{Tree, node_count, tree}
 use Rattle.a64_emit.specs.declared.case.Case.{Case}

@@ -27,20 +27,20 @@ use Rattle.air_ir.specs.declared.operand.Operand.{Operand}
 use Rattle.air_ir.specs.declared.procedure.AirInst.{AirInst}
 use Rattle.air_frame.specs.Frames.{IsFrameOf}
 use Rattle.a64_emit.specs.Code.{fetch, inst_code, put_result, result_reg, source_of}
-use Rattle.a64_emit.specs.Computing.{condition, reg_of, testing}
-use Rattle.a64_emit.specs.Fitting.{IsTested}
+use Rattle.a64_code.specs.Computing.{condition, reg_of, testing}
+use Rattle.a64_code.specs.Fitting.{IsTested}
 use Rattle.a64_emit.specs.Related.{IsRelated}
 use Rattle.a64_emit.specs.Setting.{IsSet, Setting}
-use Rattle.a64_emit.specs.declared.source.Source.{Source}
+use Rattle.a64_code.specs.declared.source.Source.{Source}
 use Rattle.a64_emit.proofs.AirSteps.{IsWritten}
 use Rattle.a64_emit.proofs.Computes.{Carried, does_more, ends_by, fetch_two, le_more, scratch_15, source_most}
 use Rattle.a64_emit.proofs.Fetching.{IsPlaceFor, IsUsable, fetch_word, fetched_keeps, result_most}
 use Rattle.a64_emit.proofs.Keeping.{keeps_related, whole_of}
-use Rattle.a64_emit.proofs.Ops.{Gives, IsRegister, gives-small, low_is, puts_of}
+use Rattle.a64_code.proofs.Ops.{Gives, IsRegister, gives-small, low_is, puts_of}
 use Rattle.a64_emit.proofs.Shapes.{testing_plain}
 use Rattle.a64_emit.proofs.Storing.{with_home}
 use Rattle.a64_emit.proofs.Straight.{Does, DoesOne, does_both, does_first}
-use Rattle.a64_emit.proofs.Tests.{GivesSecond, condition_holds, passes, test_flags, testing_is, with_flags}
+use Rattle.a64_code.proofs.Tests.{GivesSecond, condition_holds, passes, test_flags, testing_is, with_flags}
 use Rattle.a64_emit.proofs.Words.{does_safely, touches_nothing}
 
 -- ---- conditions

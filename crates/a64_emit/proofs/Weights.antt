@@ -21,15 +21,14 @@ use Rattle.air_ir.specs.declared.operand.Arg.{Arg}
 use Rattle.air_ir.specs.declared.operand.Operand.{Operand}
 use Rattle.a64_layout.specs.Branch.{size_of}
 use Rattle.a64_emit.specs.Code.{arg_at, branch_code, branch_item, branches, bring, compared, copy_code, copy_reg, fetch, fetch_tested, put_result, result_reg, select_code, set_code, source_at, test_at, test_count, width_at}
-use Rattle.a64_emit.specs.Computing.{reg_of}
-use Rattle.a64_emit.specs.Constants.{constant}
-use Rattle.a64_emit.specs.Places.{above_sp, epilogue, leave, load_at, lower_sp, plains, prologue, restores, saves, store_at, unless_zero}
-use Rattle.a64_emit.specs.Switched.{case_items, cases_in_order, compare_word, is_sum_word, jump_to, search_items, switch_items}
+use Rattle.a64_code.specs.Computing.{reg_of, is_sum_word, sum_with}
+use Rattle.a64_code.specs.Constants.{constant}
+use Rattle.a64_code.specs.Places.{above_sp, epilogue, leave, load_at, lower_sp, plains, prologue, restores, saves, store_at, unless_zero}
+use Rattle.a64_emit.specs.Switched.{case_items, cases_in_order, compare_word, jump_to, search_items, switch_items}
 use Rattle.a64_emit.specs.Trees.{Leaf, Node, Tree, node_count, tree}
 use Rattle.a64_emit.specs.declared.case.Case.{Case}
 use Rattle.a64_emit.proofs.Sorting.{cases_length}
 use Rattle.a64_emit.proofs.Trees.{in_order, tree_order}
-use Rattle.a64_emit.specs.Computing.{sum_with}
 use Rattle.a64_emit.proofs.Sizes.{bring_most, constant_most, fetch_most, load_most, operand_words, place_least, plain_words, put_most, store_most, words_of}
 
 -- ---- operands

@@ -13,7 +13,7 @@ use Rattle.exit_table.specs.Good.{IsWordOffset}
 use Rattle.a64_layout.specs.Machine.{Machine, moved_to}
 use Rattle.a64_run.specs.Machine.{touched}
 use Rattle.a64_run.specs.Placement.{frame_pointer_of}
-use Rattle.a64_emit.specs.Places.{above_sp, load_at, store_at}
+use Rattle.a64_code.specs.Places.{above_sp, load_at, store_at}
 use Rattle.a64_emit.specs.Related.{word_below}
 use Rattle.a64_emit.specs.Setting.{Setting}
 use Rattle.a64_emit.proofs.Straight.{Does, DoesOne, IsWhole, does_first, does_one}

@@ -1,19 +1,21 @@
 -- The ops that are emitted.
-use Rattle.std.specs.Prelude.{◌≡◌, Bool, true, false, not, All}
-use Rattle.air_ir.specs.Kinds.{Kind, Copies, Computes, Loads, Stores, SlotAddresses, FramePointers, Branches, Jumps, Switches, Returns, Fails, kind_of}
+use Rattle.std.specs.Prelude.{◌≡◌, nat_lt, Bool, true, false, All}
+use Rattle.air_ir.specs.Kinds.{Kind, Copies, Computes, Loads, Stores, Calls, Patches, SlotAddresses, FramePointers, Branches, Jumps, Switches, Returns, Fails, kind_of}
 use Rattle.air_ir.specs.declared.op.AirOp.{AirOp}
-use Rattle.air_ir.specs.declared.op.AirOp.TheVariants.{Shuffle}
+use Rattle.air_ir.specs.declared.op.AirOp.TheVariants.{Patch, Shuffle}
 use Rattle.air_ir.specs.declared.procedure.AirBlock.{AirBlock}
 use Rattle.air_ir.specs.declared.procedure.AirInst.{AirInst}
 use Rattle.air_ir.specs.declared.procedure.AirProc.{AirProc}
 
--- the kinds of ops that are emitted: copies, what computes a word, accesses that don't trap, addresses in the frame,
--- and what ends a block
+-- the kinds of ops that are emitted: copies, what computes a word, accesses, calls and patchpoints, addresses in the
+-- frame, and what ends a block
 abbrev pub is_built_kind : Kind → Bool → Bool
 is_built_kind Copies traps = true
 is_built_kind Computes traps = true
-is_built_kind (Loads extent extends) traps = not traps
-is_built_kind (Stores extent) traps = not traps
+is_built_kind (Loads extent extends) traps = true
+is_built_kind (Stores extent) traps = true
+is_built_kind (Calls typed) traps = true
+is_built_kind (Patches typed) traps = true
 is_built_kind SlotAddresses traps = true
 is_built_kind FramePointers traps = true
 is_built_kind (Branches test) traps = true
@@ -23,9 +25,10 @@ is_built_kind Returns traps = true
 is_built_kind Fails traps = true
 is_built_kind _ traps = false
 
--- a Shuffle isn't
+-- a Shuffle isn't, nor a patchpoint without words
 abbrev pub is_built : AirOp → Bool → Bool
 is_built Shuffle traps = false
+is_built (Patch size typed) traps = nat_lt 0 size
 is_built op traps = is_built_kind (kind_of op) traps
 
 abbrev pub IsBuilt : AirProc → Type 0

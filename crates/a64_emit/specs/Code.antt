@@ -1,14 +1,16 @@
 -- The code of a procedure.
-use Rattle.std.specs.Prelude.{ℕ, ◌+◌, ◌-◌, Bool, true, false, not, nat_eq, nat_lt, if◌then◌else◌, List, [], ◌∷◌, ◌++◌, length, get_or, sum_by}
+use Rattle.std.specs.Prelude.{ℕ, zero, suc, ◌+◌, ◌-◌, Bool, true, false, not, nat_eq, nat_lt, if◌then◌else◌, List, [], ◌∷◌, ◌++◌, length, get_or, sum_by}
 use Rattle.b3_base.specs.declared.word.Width.{Width}
 use Rattle.b3_base.specs.declared.word.Width.TheVariants.{W32, W64}
 use Rattle.a64_inst.specs.StepMemory.{is_store}
 use Rattle.a64_inst.specs.declared.inst.AccessKind.{AccessKind}
+use Rattle.a64_inst.specs.declared.inst.BranchKind.TheVariants.{Blr}
 use Rattle.a64_inst.specs.declared.inst.Inst.{Inst}
-use Rattle.a64_inst.specs.declared.inst.Inst.TheVariants.{AccessIndex, Break, Nop, Select}
+use Rattle.a64_inst.specs.declared.inst.Inst.TheVariants.{AccessIndex, BranchReg, Break, Nop, Select}
 use Rattle.a64_inst.specs.declared.item.Item.{Item}
-use Rattle.a64_inst.specs.declared.item.Item.TheVariants.{If, IfBit, IfZero, Label, Plain}
+use Rattle.a64_inst.specs.declared.item.Item.TheVariants.{If, IfBit, IfZero, Label, Mark, Plain}
 use Rattle.a64_layout.specs.Branch.{opposite_cond}
+use Rattle.air_ir.specs.Kinds.{Calls, Kind, Loads, Patches, Stores, kind_of}
 use Rattle.air_ir.specs.declared.frame.Frame.{Frame}
 use Rattle.air_ir.specs.declared.op.AirOp.{AirOp}
 use Rattle.air_ir.specs.declared.op.AirOp.TheVariants as op
@@ -22,13 +24,23 @@ use Rattle.air_ir.specs.declared.operand.Role.TheVariants.{Use}
 use Rattle.air_ir.specs.declared.procedure.AirBlock.{AirBlock}
 use Rattle.air_ir.specs.declared.procedure.AirInst.{AirInst}
 use Rattle.air_ir.specs.declared.procedure.AirProc.{AirProc}
-use Rattle.a64_emit.specs.declared.source.Source.{Source}
-use Rattle.a64_emit.specs.declared.source.Source.TheVariants.{InReg, Constant}
-use Rattle.a64_emit.specs.Accesses.{access_kind, below_x29, offset_access}
-use Rattle.a64_emit.specs.Computing.{computing, condition, move_reg, reg_of, takes_two, testing}
-use Rattle.a64_emit.specs.Constants.{constant}
-use Rattle.a64_emit.specs.Places.{above_sp, epilogue, load_at, plains, prologue, spill_offset, store_at}
+use Rattle.a64_code.specs.declared.source.Source.{Source}
+use Rattle.a64_code.specs.declared.source.Source.TheVariants.{InReg, Constant}
+use Rattle.a64_code.specs.Accesses.{access_kind, below_x29, offset_access}
+use Rattle.a64_code.specs.Computing.{computing, condition, move_reg, reg_of, takes_two, testing}
+use Rattle.a64_code.specs.Constants.{constant}
+use Rattle.a64_code.specs.Places.{above_sp, epilogue, load_at, plains, prologue, spill_offset, store_at}
 use Rattle.a64_emit.specs.Switched.{jump_to, switch_items, switch_labels}
+
+-- ---- marks
+
+-- instructions as items, with a mark between them where there is to be one
+abbrev pub marked_if : Bool → ℕ → List Item
+marked_if true mark = Mark mark ∷ []
+marked_if false mark = []
+
+abbrev pub with_mark : Bool → ℕ → List Inst → List Inst → List Item
+with_mark marks mark before behind = plains before ++ marked_if marks mark ++ plains behind
 
 -- ---- operands
 
@@ -135,16 +147,30 @@ access_inst kind rt (Index base index shift) =
     (nat_eq shift 3)
 access_inst kind rt _ = Nop
 
+abbrev pub load_inst : AirOp → List Operand → Inst
+load_inst op os = access_inst (access_kind op (width_at os 0)) (result_reg (arg_at os 1)) (arg_at os 0)
+
 abbrev pub load_code : Frame → AirOp → List Operand → List Inst
-load_code f op os =
-    fetch_address f (arg_at os 0)
-    ++ access_inst (access_kind op (width_at os 0)) (result_reg (arg_at os 1)) (arg_at os 0)
-    ∷ put_result f (result_reg (arg_at os 1)) (arg_at os 1)
+load_code f op os = fetch_address f (arg_at os 0) ++ load_inst op os ∷ put_result f (result_reg (arg_at os 1)) (arg_at os 1)
+
+-- what is fetched for a store
+abbrev pub fetch_stored : Frame → List Operand → List Inst
+fetch_stored f os = fetch_address f (arg_at os 1) ++ fetch f 17 (arg_at os 0)
+
+abbrev pub store_inst : AirOp → List Operand → Inst
+store_inst op os = access_inst (access_kind op (width_at os 0)) (reg_of (source_of 17 (arg_at os 0))) (arg_at os 1)
 
 abbrev pub store_code : Frame → AirOp → List Operand → List Inst
-store_code f op os =
-    fetch_address f (arg_at os 1) ++ fetch f 17 (arg_at os 0)
-    ++ access_inst (access_kind op (width_at os 0)) (reg_of (source_of 17 (arg_at os 0))) (arg_at os 1) ∷ []
+store_code f op os = fetch_stored f os ++ store_inst op os ∷ []
+
+-- where an access traps a mark stands right before it
+abbrev pub load_items : Frame → ℕ → Bool → AirOp → List Operand → List Item
+load_items f mark traps op os =
+    with_mark traps mark (fetch_address f (arg_at os 0))
+    (load_inst op os ∷ put_result f (result_reg (arg_at os 1)) (arg_at os 1))
+
+abbrev pub store_items : Frame → ℕ → Bool → AirOp → List Operand → List Item
+store_items f mark traps op os = with_mark traps mark (fetch_stored f os) (store_inst op os ∷ [])
 
 -- how far below x29 a slot stands
 abbrev pub slot_offset : Frame → Arg → ℕ
@@ -154,6 +180,16 @@ slot_offset f _ = 0
 -- the address so many bytes below x29, in a place
 abbrev pub frame_address : Frame → ℕ → Arg → List Inst
 frame_address f bytes to = below_x29 (result_reg to) bytes ++ put_result f (result_reg to) to
+
+-- ---- calls and patchpoints
+
+-- the words of a patchpoint, which are filled in later
+unfoldable pub breaks : ℕ → List Inst
+breaks zero = []
+breaks (suc n) = Break 2 ∷ breaks n
+
+abbrev pub call_inst : List Operand → Inst
+call_inst os = BranchReg Blr (reg_of (source_at os 0 15))
 
 -- ---- each op
 
@@ -197,38 +233,75 @@ branch_code f next targets test os =
     plains (fetch_tested f test os ++ compared test os)
     ++ branches test (width_at os 0) (reg_of (source_at os 0 15)) next (get_or targets 0 0) (get_or targets 1 0)
 
+-- the items of an instruction that doesn't end its block, where its mark has this number
+unfoldable pub inner_items : Frame → ℕ → Bool → AirOp → List Operand → List Item
+inner_items f mark traps op.Load8Z os = load_items f mark traps op.Load8Z os
+inner_items f mark traps op.Load8S os = load_items f mark traps op.Load8S os
+inner_items f mark traps op.Load16Z os = load_items f mark traps op.Load16Z os
+inner_items f mark traps op.Load16S os = load_items f mark traps op.Load16S os
+inner_items f mark traps op.Load os = load_items f mark traps op.Load os
+inner_items f mark traps op.Store8 os = store_items f mark traps op.Store8 os
+inner_items f mark traps op.Store16 os = store_items f mark traps op.Store16 os
+inner_items f mark traps op.Store os = store_items f mark traps op.Store os
+inner_items f mark traps (op.Call typed) os = with_mark true mark (fetch f 15 (arg_at os 0)) (call_inst os ∷ [])
+inner_items f mark traps (op.Patch size typed) os = with_mark true mark [] (breaks size)
+inner_items f mark traps op os = plains (inst_code f op os)
+
 -- the items of an instruction of a block with these targets, before the block `next`; a Switch may use labels from
 -- `label` on
-unfoldable pub inst_items : Frame → ℕ → ℕ → List ℕ → AirOp → List Operand → List Item
-inst_items f next label targets (op.BranchIf test) os = branch_code f next targets test os
-inst_items f next label targets op.Jump os = jump_to next (get_or targets 0 0)
-inst_items f next label targets (op.Switch cases) os =
+unfoldable pub inst_items : Frame → ℕ → ℕ → ℕ → List ℕ → Bool → AirOp → List Operand → List Item
+inst_items f next label mark targets traps (op.BranchIf test) os = branch_code f next targets test os
+inst_items f next label mark targets traps op.Jump os = jump_to next (get_or targets 0 0)
+inst_items f next label mark targets traps (op.Switch cases) os =
     plains (fetch f 15 (arg_at os 0)) ++ switch_items (width_at os 0) (reg_of (source_at os 0 15)) next label cases targets
-inst_items f next label targets op.Return os = plains (epilogue f)
-inst_items f next label targets op.Oops os = Plain (Break 3) ∷ []
-inst_items f next label targets op os = plains (inst_code f op os)
+inst_items f next label mark targets traps op.Return os = plains (epilogue f)
+inst_items f next label mark targets traps op.Oops os = Plain (Break 3) ∷ []
+inst_items f next label mark targets traps op os = inner_items f mark traps op os
 
 -- ---- blocks
-
-unfoldable pub insts_items : Frame → ℕ → ℕ → List ℕ → List AirInst → List Item
-insts_items f next label targets [] = []
-insts_items f next label targets (i ∷ is) =
-    inst_items f next label targets i.op i.operands ++ insts_items f next label targets is
 
 -- how many labels an instruction has of its own
 abbrev pub own_labels : AirOp → ℕ
 own_labels (op.Switch cases) = switch_labels cases
 own_labels _ = 0
 
-abbrev pub block_labels : AirBlock → ℕ
-block_labels b = sum_by (λ (i : AirInst). own_labels i.op) b.insts
+-- whether a mark stands within the items of an instruction of this kind
+abbrev pub has_mark : Kind → Bool → Bool
+has_mark (Loads extent extends) traps = traps
+has_mark (Stores extent) traps = traps
+has_mark (Calls typed) traps = true
+has_mark (Patches typed) traps = true
+has_mark _ traps = false
 
--- the items of blocks, the first of which has this number; their own labels are those from `label` on
-unfoldable pub blocks_items : Frame → ℕ → ℕ → List AirBlock → List Item
-blocks_items f b label [] = []
-blocks_items f b label (block ∷ blocks) =
-    Label b ∷ insts_items f (b + 1) label block.targets block.insts
-    ++ blocks_items f (b + 1) (label + block_labels block) blocks
+-- how many marks stand there
+abbrev pub own_marks : AirOp → Bool → ℕ
+own_marks op traps = if has_mark (kind_of op) traps then 1 else 0
+
+abbrev pub labels_of : AirInst → ℕ
+labels_of i = own_labels i.op
+
+abbrev pub marks_of : AirInst → ℕ
+marks_of i = own_marks i.op i.traps
+
+unfoldable pub insts_items : Frame → ℕ → ℕ → ℕ → List ℕ → List AirInst → List Item
+insts_items f next label mark targets [] = []
+insts_items f next label mark targets (i ∷ is) =
+    inst_items f next label mark targets i.traps i.op i.operands
+    ++ insts_items f next (label + labels_of i) (mark + marks_of i) targets is
+
+abbrev pub block_labels : AirBlock → ℕ
+block_labels b = sum_by labels_of b.insts
+
+abbrev pub block_marks : AirBlock → ℕ
+block_marks b = sum_by marks_of b.insts
+
+-- the items of blocks, the first of which has this number; their own labels are those from `label` on, and their marks
+-- those from `mark` on
+unfoldable pub blocks_items : Frame → ℕ → ℕ → ℕ → List AirBlock → List Item
+blocks_items f b label mark [] = []
+blocks_items f b label mark (block ∷ blocks) =
+    Label b ∷ insts_items f (b + 1) label mark block.targets block.insts
+    ++ blocks_items f (b + 1) (label + block_labels block) (mark + block_marks block) blocks
 
 unfoldable pub emitted : AirProc → Frame → List Item
-emitted p f = plains (prologue f) ++ blocks_items f 0 (length p.blocks) p.blocks
+emitted p f = plains (prologue f) ++ blocks_items f 0 (length p.blocks) 0 p.blocks

@@ -1,4 +1,4 @@
--- Which constants the sources of ops may be, and that the cases of a Switch differ. No public clause cites this module.
+-- What the operands of accesses may be, and what an instruction and a procedure may have. No public clause cites this module.
 use Rattle.std.specs.Prelude.{◌≡◌, true, ◌+◌, ◌^◌, ◌<◌, List, All, length, sum_by}
 use Rattle.b3_base.specs.Word.{bits}
 use Rattle.b3_base.specs.declared.word.Width.{Width}
@@ -15,36 +15,12 @@ use Rattle.air_ir.specs.declared.operand.Operand.{Operand}
 use Rattle.air_ir.specs.declared.procedure.AirBlock.{AirBlock}
 use Rattle.air_ir.specs.declared.procedure.AirInst.{AirInst}
 use Rattle.air_ir.specs.declared.procedure.AirProc.{AirProc}
-use Rattle.a64_emit.specs.Accesses.{access_kind}
-use Rattle.a64_emit.specs.Code.{arg_at, block_labels, source_at, width_at}
+use Rattle.a64_code.specs.Accesses.{access_kind}
+use Rattle.a64_emit.specs.Code.{arg_at, block_labels, block_marks, source_at, width_at}
 use Rattle.a64_emit.specs.Switched.{AreDifferent}
-use Rattle.a64_emit.specs.declared.source.Source.{Source}
-use Rattle.a64_emit.specs.declared.source.Source.TheVariants.{InReg, Constant}
-
--- a constant of a width, of these immediates
-abbrev pub FitsSource : Immediates → Width → Source → Type 0
-FitsSource immediates width (InReg reg) = Unit {0}
-FitsSource immediates width (Constant word) = (word < 2 ^ bits width) × IsImmediate immediates width word
-
-abbrev pub IsSummed : Width → Source → Type 0
-IsSummed width by = FitsSource OfSum width by
-
-abbrev pub IsMasked : Width → Source → Type 0
-IsMasked width by = FitsSource OfLogic width by
-
--- what the second source of an op may be, where it is a sum or a logical operation
-abbrev pub IsComputed : AirOp → Width → Source → Type 0
-IsComputed op.Add width b = IsSummed width b
-IsComputed op.And width b = IsMasked width b
-IsComputed op.Or width b = IsMasked width b
-IsComputed op.Xor width b = IsMasked width b
-IsComputed _ width b = Unit {0}
-
--- what a test may take: a bit is one of the width
-abbrev pub IsTested : Test → Width → Source → Type 0
-IsTested (Compare cond) width b = IsSummed width b
-IsTested NonZero width b = Unit {0}
-IsTested (Bit bit) width b = bit < bits width
+use Rattle.a64_code.specs.declared.source.Source.{Source}
+use Rattle.a64_code.specs.declared.source.Source.TheVariants.{InReg, Constant}
+use Rattle.a64_code.specs.Fitting.{IsComputed, IsTested}
 
 -- what the address of an access may be, where it has an offset
 abbrev pub IsReached : AccessKind → Arg → Type 0
@@ -77,6 +53,7 @@ IsFitting op os = IsComputed op (width_at os 0) (source_at os 1 16)
 abbrev pub IsFittingBlock : AirBlock → Type 0
 IsFittingBlock b = All (λ (i : AirInst). IsFitting i.op i.operands) b.insts
 
--- the labels are numbers of 32 bits
-abbrev pub AreFitting : AirProc → Type 0
-AreFitting p = length p.blocks + sum_by block_labels p.blocks < 2 ^ 32
+-- the labels and the marks are numbers of 32 bits
+pub record AreFitting (p : AirProc) : Type 0 where
+  pub labels : length p.blocks + sum_by block_labels p.blocks < 2 ^ 32
+  pub marks : sum_by block_marks p.blocks < 2 ^ 32

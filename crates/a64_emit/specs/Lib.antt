@@ -1,13 +1,11 @@
-pub mod Places
-pub mod Constants
-pub mod Computing
 pub mod Trees
 pub mod Switched
-pub mod Accesses
 pub mod Code
+pub mod Made
 pub mod Fitting
 pub mod Built
 pub mod Setting
 pub mod Related
+pub mod Sites
 pub mod Emitted
 pub mod Sample

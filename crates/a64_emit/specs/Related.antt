@@ -1,5 +1,5 @@
 -- When the machine, at the label of a block, stands as the run of Air does before the block.
-use Rattle.std.specs.Prelude.{◌≡◌, ℕ, ◌+◌, ◌-◌, ◌≤◌, true, Option, Some, None, is_some, slice_get, Contains}
+use Rattle.std.specs.Prelude.{◌≡◌, ℕ, ◌+◌, ◌-◌, ◌≤◌, false, true, Option, Some, None, is_some, slice_get, Contains}
 use Rattle.b3_base.specs.Arithmetic.{low}
 use Rattle.b3_base.specs.Memory.{AreBytes, read_word}
 use Rattle.b3_ir.specs.declared.value.Reg.{Reg as Register}
@@ -25,7 +25,8 @@ abbrev pub word_below : Setting → Machine → ℕ → Option ℕ
 word_below z c offset = read_word c.memory (frame_pointer_of z.entry - offset) 8
 
 -- the frame is there, whole, with SP at its bottom and x29 above it: above that stand the caller's x29 and the link, and
--- in it the saved registers; those of x19 to x28 that aren't saved have the words that they had at entry
+-- in it the saved registers; those of x19 to x28 that aren't saved have the words that they had at entry. Beside it the
+-- bytes that were mapped at entry are mapped, and no others
 pub record HasFrame (z : Setting) (c : Machine) : Type 0 where
   pub sp : c.registers.sp ≡ z.entry.sp - z.frame.bytes
   pub x29 : c.registers.x 29 ≡ frame_pointer_of z.entry
@@ -33,6 +34,8 @@ pub record HasFrame (z : Setting) (c : Machine) : Type 0 where
   pub bytes : AreBytes c.memory
   pub whole : (address : ℕ) → in_frame (row z) z.entry address ≡ true → is_some (c.memory address) ≡ true
   pub mapped : (address : ℕ) → is_some (z.entry.memory address) ≡ true → is_some (c.memory address) ≡ true
+  pub unmapped : (address : ℕ) → is_some (z.entry.memory address) ≡ false → in_frame (row z) z.entry address ≡ false
+      → c.memory address ≡ None
   pub caller : word_below z c 0 ≡ Some (z.entry.registers 29)
   pub link : read_word c.memory (frame_pointer_of z.entry + 8) 8 ≡ Some (z.entry.registers 30)
   pub saved : (s : SavedRow) → Contains z.frame.saved s → word_below z c s.offset ≡ Some (z.entry.registers s.reg.0)

@@ -1,5 +1,5 @@
 -- No public clause cites this module. The procedure that the tests emit.
-use Rattle.std.specs.Prelude.{pos, false, List, [], ◌∷◌}
+use Rattle.std.specs.Prelude.{pos, false, true, List, [], ◌∷◌}
 use Rattle.b3_base.specs.declared.word.Width.TheVariants.{W64}
 use Rattle.stackmap.specs.declared.site.Returns.TheVariants as returns
 use Rattle.air_ir.specs.declared.op.AirOp.{AirOp}
@@ -45,9 +45,9 @@ abbrev pub stores : AirInst
 stores = inst op.Store (used (At (Spill 0)) ∷ used above_x1 ∷ [])
 
 abbrev pub loads : AirInst
-loads = inst op.Load (used above_x1 ∷ made x0 ∷ [])
+loads = record { op = op.Load; operands = used above_x1 ∷ made x0 ∷ []; value = 7; traps = true }
 
--- 7 is put in a spill place and from there in a slot, and the second block loads it and returns it
+-- 7 is put in a spill place and from there in a slot, and the second block loads it, where it may trap, and returns it
 abbrev pub entry : AirBlock
 entry = record { insts = fills ∷ points ∷ stores ∷ inst op.Jump [] ∷ []; targets = 1 ∷ [] }
 

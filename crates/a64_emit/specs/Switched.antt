@@ -10,17 +10,13 @@ use Rattle.a64_inst.specs.declared.item.Item.{Item}
 use Rattle.a64_inst.specs.declared.item.Item.TheVariants.{If, Jump, Label}
 use Rattle.air_ir.specs.Forms.{DifferIn, is_short}
 use Rattle.air_ir.specs.Meaning.{case_number}
-use Rattle.a64_emit.specs.Computing.{sum_with}
-use Rattle.a64_emit.specs.Constants.{constant}
-use Rattle.a64_emit.specs.Places.{plains}
+use Rattle.a64_code.specs.Computing.{sum_with, is_sum_word}
+use Rattle.a64_code.specs.Constants.{constant}
+use Rattle.a64_code.specs.Places.{plains}
 use Rattle.a64_emit.specs.Trees.{Tree, Leaf, Node, node_count, tree}
 use Rattle.a64_emit.specs.declared.case.Case.{Case}
 
 -- ---- comparisons
-
--- a word is an immediate of a difference, or of a sum
-abbrev pub is_sum_word : Width → ℕ → Bool
-is_sum_word width word = is_short word || is_short (2 ^ bits width - word)
 
 -- a word in a register is compared with one of a width, which is put in x16 where it is no immediate
 abbrev pub compare_word : Width → ℕ → ℕ → List Inst

@@ -1,21 +1,20 @@
 //! That a procedure is emitted with ample memory.
 
 ghost use Rattle.std.specs.Prelude.{◌≡◌, true, [], ◌∷◌, IfOk};
-ghost use Rattle.air_ir.specs.Forms.{is_offset};
-ghost use Rattle.a64_inst.specs.StepMemory.{access_bytes};
 ghost use Rattle.a64_emit.specs.Sample as sample;
 
-use crate::accesses::offset_access;
 use crate::emit;
+use crate::insts::push_inst;
+use crate::sites::push_inst_sites;
 use crate::switched::push_switch;
-use a64_inst::{AccessKind, Cond, Inst, Item, Labelled};
+use a64_inst::{AccessKind, BranchKind, Cond, Inst, Item, Labelled};
 use air_frame::layout;
 use air_ir::{
     AirBlock, AirBlocks, AirInst, AirInsts, AirOp, AirProc, Arg, Home, Operand, Operands, Role,
 };
 use b3_base::{Ids, NoMemory, Width, Words};
 use b3_ir::Reg;
-use stackmap::Returns;
+use stackmap::{Rep, Returns, SiteKind, Sites};
 use std::alloc::Global;
 use std::test::Fail;
 
@@ -28,6 +27,8 @@ const ABOVE_X1: Arg = Arg::Addr {
     base: Home::Reg(Reg(1)),
     offset: 8,
 };
+
+const X30: Arg = Arg::At(Home::Reg(Reg(30)));
 
 const SPILL_0: Arg = Arg::At(Home::Spill(0));
 
@@ -88,7 +89,15 @@ fn last(alloc: Global) -> Result<AirBlock, NoMemory>
     ensures { IfOk result (λ b. b ≡ sample.last) }
 {
     let mut insts = AirInsts::new(alloc);
-    insts.push(two(alloc, AirOp::Load, used(ABOVE_X1), made(X0))?)?;
+    let mut loaded = Operands::new(alloc);
+    loaded.push(used(ABOVE_X1))?;
+    loaded.push(made(X0))?;
+    insts.push(AirInst {
+        op: AirOp::Load,
+        operands: loaded,
+        value: 7,
+        traps: true,
+    })?;
     let mut operands = Operands::new(alloc);
     operands.push(used(X0))?;
     insts.push(AirInst {
@@ -103,7 +112,7 @@ fn last(alloc: Global) -> Result<AirBlock, NoMemory>
     })
 }
 
-/// 7 is put in a spill place and from there in a slot, and the second block loads it and returns it.
+/// 7 is put in a spill place and from there in a slot, and the second block loads it, where it may trap, and returns it.
 fn procedure(alloc: Global) -> Result<AirProc, NoMemory>
     ensures { IfOk result (λ p. p ≡ sample.procedure) }
 {
@@ -125,8 +134,8 @@ fn a_procedure_of_two_blocks_is_emitted(rt: HostRuntime) -> Result<(), Fail> {
     let p = procedure(rt.alloc())?;
     let frame = layout(rt.alloc(), &p)?;
     let emitted = emit(rt.alloc(), &p, &frame)?;
-    // three instructions enter and three leave; the jump to the next block takes none
-    assert_eq!(rt; emitted.code.len(), 14);
+    // three instructions enter and three leave; the jump to the next block takes none, and a mark stands before the load
+    assert_eq!(rt; emitted.code.len(), 15);
     assert_eq!(rt; *emitted.code.get(3), Item::Label(0));
     // the word is fetched from its spill place, and stored 8 bytes above x1
     let stores = Inst::Access {
@@ -143,43 +152,13 @@ fn a_procedure_of_two_blocks_is_emitted(rt: HostRuntime) -> Result<(), Fail> {
         rn: 1,
         units: 1,
     };
-    assert_eq!(rt; *emitted.code.get(10), Item::Plain(loads));
-    assert!(rt; emitted.sites.is_empty());
-    Ok(())
-}
-
-/// One access of x0 at an offset from x1.
-fn at(kind: AccessKind, offset: i64) -> Inst
-    requires { is_offset (access_bytes kind) offset ≡ true }
-{
-    offset_access(kind, 0, 1, offset)
-}
-
-fn scaled(kind: AccessKind, units: u32) -> Inst {
-    Inst::Access {
-        kind,
-        rt: 0,
-        rn: 1,
-        units,
-    }
-}
-
-fn near(kind: AccessKind, offset: i32) -> Inst {
-    Inst::AccessNear {
-        kind,
-        rt: 0,
-        rn: 1,
-        offset,
-    }
-}
-
-#[test]
-fn offsets_are_scaled_where_they_can_be(rt: HostRuntime) -> Result<(), Fail> {
-    assert_eq!(rt; at(AccessKind::Ldrb, 4095), scaled(AccessKind::Ldrb, 4095));
-    assert_eq!(rt; at(AccessKind::Strh, 8190), scaled(AccessKind::Strh, 4095));
-    assert_eq!(rt; at(AccessKind::LdrW, 4096), scaled(AccessKind::LdrW, 1024));
-    assert_eq!(rt; at(AccessKind::LdrX, 255), near(AccessKind::LdrX, 255));
-    assert_eq!(rt; at(AccessKind::StrX, -256), near(AccessKind::StrX, -256));
+    assert_eq!(rt; *emitted.code.get(10), Item::Mark(0));
+    assert_eq!(rt; *emitted.code.get(11), Item::Plain(loads));
+    assert_eq!(rt; emitted.sites.len(), 1);
+    let site = emitted.sites.get(0);
+    assert_eq!(rt; site.kind, SiteKind::Trap);
+    assert_eq!(rt; site.value, 7);
+    assert_eq!(rt; site.size, 1);
     Ok(())
 }
 
@@ -223,5 +202,89 @@ fn a_switch_is_a_search_in_the_order_of_words(rt: HostRuntime) -> Result<(), Fai
     assert_eq!(rt; *code.get(8), Item::Label(6));
     assert_eq!(rt; *code.get(9), compared(50));
     assert_eq!(rt; *code.get(10), Item::If(Cond::Eq, 1));
+    Ok(())
+}
+
+fn operand(role: Role, width: Width, arg: Arg) -> Operand {
+    Operand { role, width, arg }
+}
+
+#[test]
+fn a_call_reports_its_arguments(rt: HostRuntime) -> Result<(), Fail> {
+    let frame = layout(rt.alloc(), &procedure(rt.alloc())?)?;
+    let mut operands = Operands::new(rt.alloc());
+    operands.push(used(SPILL_0))?;
+    operands.push(used(X0))?;
+    operands.push(operand(Role::Use, Width::W32, X1))?;
+    operands.push(operand(Role::Clobber, Width::W64, X0))?;
+    operands.push(operand(Role::Clobber, Width::W64, X30))?;
+    operands.push(operand(Role::Def, Width::W32, X0))?;
+    let inst = AirInst {
+        op: AirOp::Call { typed: true },
+        operands,
+        value: 9,
+        traps: false,
+    };
+    let mut code = Labelled::new(rt.alloc());
+    push_inst(&mut code, &frame, 4, inst.traps, &inst.op, &inst.operands)?;
+    assert_eq!(rt; code.len(), 3);
+    assert_eq!(rt; *code.get(1), Item::Mark(4));
+    let calls = Inst::BranchReg {
+        kind: BranchKind::Blr,
+        rn: 15,
+    };
+    assert_eq!(rt; *code.get(2), Item::Plain(calls));
+    let mut sites = Sites::new(rt.alloc());
+    push_inst_sites(rt.alloc(), &mut sites, &frame, &inst)?;
+    assert_eq!(rt; sites.len(), 1);
+    let site = sites.get(0);
+    assert_eq!(rt; site.kind, SiteKind::Call);
+    assert_eq!(rt; site.value, 9);
+    assert_eq!(rt; site.reps.len(), 2);
+    assert_eq!(rt; site.reps.get(0).rep, Rep::Register(Reg(0)));
+    assert_eq!(rt; site.reps.get(1).width, Width::W32);
+    assert_eq!(rt; site.result, Some((Width::W32, Reg(0))));
+    assert!(rt; site.clobbers.contains(Reg(0)));
+    assert!(rt; site.clobbers.contains(Reg(30)));
+    assert!(rt; !site.clobbers.contains(Reg(1)));
+    Ok(())
+}
+
+#[test]
+fn a_patchpoint_reports_its_operands(rt: HostRuntime) -> Result<(), Fail> {
+    let frame = layout(rt.alloc(), &procedure(rt.alloc())?)?;
+    let mut operands = Operands::new(rt.alloc());
+    operands.push(operand(Role::LateUse, Width::W32, SPILL_0))?;
+    operands.push(used(Arg::Imm(5)))?;
+    operands.push(operand(Role::EarlyDef, Width::W64, X30))?;
+    operands.push(operand(Role::EarlyDef, Width::W64, X1))?;
+    let inst = AirInst {
+        op: AirOp::Patch {
+            size: 2,
+            typed: true,
+        },
+        operands,
+        value: 9,
+        traps: false,
+    };
+    let mut code = Labelled::new(rt.alloc());
+    push_inst(&mut code, &frame, 0, inst.traps, &inst.op, &inst.operands)?;
+    assert_eq!(rt; code.len(), 3);
+    assert_eq!(rt; *code.get(0), Item::Mark(0));
+    assert_eq!(rt; *code.get(1), Item::Plain(Inst::Break { imm: 2 }));
+    assert_eq!(rt; *code.get(2), Item::Plain(Inst::Break { imm: 2 }));
+    let mut sites = Sites::new(rt.alloc());
+    push_inst_sites(rt.alloc(), &mut sites, &frame, &inst)?;
+    assert_eq!(rt; sites.len(), 1);
+    let site = sites.get(0);
+    assert_eq!(rt; site.kind, SiteKind::Patchpoint);
+    assert_eq!(rt; site.size, 2);
+    assert_eq!(rt; site.reps.len(), 2);
+    assert_eq!(rt; site.reps.get(0).rep, Rep::Slot(*frame.spills.get(0)));
+    assert_eq!(rt; site.reps.get(1).rep, Rep::Constant(5));
+    // the last register is the result, which is none of those that are changed
+    assert_eq!(rt; site.result, Some((Width::W64, Reg(1))));
+    assert!(rt; site.clobbers.contains(Reg(30)));
+    assert!(rt; !site.clobbers.contains(Reg(1)));
     Ok(())
 }

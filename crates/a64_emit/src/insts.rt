@@ -1,17 +1,19 @@
 //! Instructions that don't end their block: operands are fetched, the op works on registers, and its result is put in
 //! its place.
 
-ghost use Rattle.std.specs.Prelude.{◌≡◌, ◌+◌, ◌++◌, ◌≤◌, length, OnOk};
-ghost use Rattle.a64_emit.specs.Code.{arg_at, compute_code, copy_code, copy_reg, bring, fetch, fetch_below, fetch_tested, inst_code, operand_at, put_result, result_at, result_reg, select_code, set_code, source_at, source_of, test_at, test_count, width_at};
-ghost use Rattle.a64_emit.specs.Fitting.{IsFitting, IsComputed, IsTested};
-ghost use Rattle.a64_emit.specs.Places.{plains};
+ghost use Rattle.std.specs.Prelude.{◌≡◌, ◌+◌, ◌++◌, ◌≤◌, true, [], ◌∷◌, length, OnOk};
+ghost use Rattle.a64_emit.specs.Code.{arg_at, breaks, call_inst, compute_code, copy_code, copy_reg, bring, fetch, fetch_below, fetch_tested, inner_items, operand_at, put_result, result_at, result_reg, select_code, set_code, source_at, source_of, test_at, test_count, width_at, with_mark};
+ghost use Rattle.a64_code.specs.Fitting.{IsComputed, IsTested};
+ghost use Rattle.a64_emit.specs.Fitting.{IsFitting};
+ghost use Rattle.a64_code.specs.Places.{plains};
 
 use crate::accesses::{push_frame_address, push_loaded, push_stored, slot_offset};
-use crate::computing::{computing, condition, move_reg, opposite, reg_of, takes_two, testing};
-use crate::constants::push_constant;
-use crate::places::{above_sp, push, push_load, push_store, spill_offset};
-use crate::source::Source;
-use a64_inst::{Inst, Labelled};
+use crate::sites::push_mark;
+use a64_code::{
+    Source, above_sp, computing, condition, move_reg, opposite, push, push_constant, push_load,
+    push_store, reg_of, spill_offset, takes_two, testing,
+};
+use a64_inst::{BranchKind, Inst, Labelled};
 use air_ir::{AirOp, Arg, Frame, Home, Operand, Operands, Role, Test};
 use b3_base::{NoMemory, Width};
 
@@ -284,16 +286,53 @@ fn push_select(
     push_result(code, frame, result_reg(to), to)
 }
 
-/// The code of an instruction that doesn't end its block.
-#[tactic(auto, unfolding(crate::specs::Code::inst_code))]
+// ---- calls and patchpoints
+
+/// A call of the function in operand 0, with a mark right before it.
+fn push_call(
+    code: &mut Labelled,
+    frame: &Frame,
+    mark: u32,
+    operands: &Operands,
+) -> Result<(), NoMemory>
+    ensures { OnOk result (code.new ≡ code.old
+        ++ with_mark true mark (fetch frame.now 15 (arg_at operands.now 0)) (call_inst operands.now ∷ [])) }
+{
+    push_fetch(code, frame, 15, operand_at(operands, 0).arg)?;
+    push_mark(code, true, mark)?;
+    let rn = reg_of(source_at(operands, 0, 15));
+    push(
+        code,
+        Inst::BranchReg {
+            kind: BranchKind::Blr,
+            rn,
+        },
+    )
+}
+
+/// So many words that are filled in later, with a mark right before them.
+fn push_patch(code: &mut Labelled, mark: u32, size: u32) -> Result<(), NoMemory>
+    ensures { OnOk result (code.new ≡ code.old ++ with_mark true mark [] (breaks size)) }
+{
+    push_mark(code, true, mark)?;
+    for _i in 0..size {
+        push(code, Inst::Break { imm: 2 })?;
+    }
+    Ok(())
+}
+
+/// The items of an instruction that doesn't end its block, where its mark has this number.
+#[tactic(auto, unfolding(crate::specs::Code::inner_items, crate::specs::Code::inst_code))]
 pub(crate) fn push_inst(
     code: &mut Labelled,
     frame: &Frame,
+    mark: u32,
+    traps: bool,
     op: &AirOp,
     operands: &Operands,
 ) -> Result<(), NoMemory>
     requires { IsFitting op.now operands.now }
-    ensures { OnOk result (code.new ≡ code.old ++ plains (inst_code frame.now op.now operands.now)) }
+    ensures { OnOk result (code.new ≡ code.old ++ inner_items frame.now mark traps op.now operands.now) }
 {
     match op {
         AirOp::Move => push_copy(
@@ -306,9 +345,13 @@ pub(crate) fn push_inst(
         AirOp::SetIf(test) => push_set(code, frame, *test, operands),
         AirOp::SelectIf(test) => push_select(code, frame, *test, operands),
         AirOp::Load8Z | AirOp::Load8S | AirOp::Load16Z | AirOp::Load16S | AirOp::Load => {
-            push_loaded(code, frame, op, operands)
+            push_loaded(code, frame, mark, traps, op, operands)
         }
-        AirOp::Store8 | AirOp::Store16 | AirOp::Store => push_stored(code, frame, op, operands),
+        AirOp::Store8 | AirOp::Store16 | AirOp::Store => {
+            push_stored(code, frame, mark, traps, op, operands)
+        }
+        AirOp::Call { .. } => push_call(code, frame, mark, operands),
+        AirOp::Patch { size, .. } => push_patch(code, mark, *size),
         AirOp::SlotAddress => {
             let bytes = slot_offset(frame, operand_at(operands, 0).arg);
             push_frame_address(code, frame, bytes, operand_at(operands, 1).arg)

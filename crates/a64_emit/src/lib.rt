@@ -3,14 +3,11 @@
 
 mod accesses;
 mod case;
-mod computing;
-mod constants;
 #[cfg(test)]
 mod emission_tests;
 mod insts;
-mod places;
 mod procedure;
-mod source;
+mod sites;
 mod switched;
 mod terminals;
 

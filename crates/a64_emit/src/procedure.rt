@@ -1,17 +1,18 @@
 //! The code of a procedure.
 
-ghost use Rattle.std.specs.Prelude.{◌≡◌, ◌+◌, ◌++◌, ◌<◌, ◌≤◌, ◌^◌, [], length, All, IfOk, OnOk};
+ghost use Rattle.std.specs.Prelude.{◌≡◌, ◌+◌, ◌++◌, ◌<◌, ◌≤◌, ◌^◌, length, All, IfOk, OnOk};
 ghost use Rattle.air_ir.specs.Weight.{weight};
-ghost use Rattle.air_ir.specs.WellFormed.{IsWellFormed};
+ghost use Rattle.air_ir.specs.WellFormed.{HasOneSiteEach, IsWellFormed};
 ghost use Rattle.air_frame.specs.Frames.{IsFrameOf};
 ghost use Rattle.a64_emit.specs.Built.{IsBuilt};
-ghost use Rattle.a64_emit.specs.Code.{block_labels, blocks_items, emitted, insts_items, own_labels};
+ghost use Rattle.a64_emit.specs.Code.{block_labels, block_marks, blocks_items, emitted, insts_items, own_labels};
 ghost use Rattle.a64_emit.specs.Emitted.{IsCodeOfAir};
 ghost use Rattle.a64_emit.specs.Fitting.{AreFitting, IsFittingBlock};
 
-use crate::places::push_prologue;
+use crate::sites::{own_marks, procedure_sites};
 use crate::switched::switch_labels;
 use crate::terminals::push_items;
+use a64_code::push_prologue;
 use a64_inst::{Item, Labelled};
 use air_ir::{AirBlock, AirOp, AirProc, Frame};
 use b3_base::NoMemory;
@@ -33,14 +34,12 @@ pub fn emit(alloc: Global, p: &AirProc, frame: &Frame) -> Result<Emitted, NoMemo
     requires frame { IsFrameOf p.now frame.now }
     requires short { weight p.now < 2 ^ 24 }
     requires built { IsBuilt p.now }
-    ensures code { IfOk result (λ e. IsCodeOfAir p.now frame.now e.code) }
-    ensures sites { IfOk result (λ e. e.sites ≡ []) }
+    requires one_site { HasOneSiteEach p.now }
+    ensures { IfOk result (λ e. IsCodeOfAir p.now frame.now e.code e.sites) }
 {
     let code = procedure_code(alloc, p, frame)?;
-    Ok(Emitted {
-        code,
-        sites: Sites::new(alloc),
-    })
+    let sites = procedure_sites(alloc, p, frame)?;
+    Ok(Emitted { code, sites })
 }
 
 /// The code of a procedure. It is refused for want of memory alone.
@@ -65,15 +64,17 @@ fn push_blocks(
 ) -> Result<(), NoMemory>
     requires fits { All IsFittingBlock p.now.blocks }
     requires labels { AreFitting p.now }
-    ensures { OnOk result (code.new ≡ code.old ++ blocks_items frame.now 0 (length p.now.blocks) p.now.blocks) }
+    ensures { OnOk result (code.new ≡ code.old ++ blocks_items frame.now 0 (length p.now.blocks) 0 p.now.blocks) }
 {
     let count = p.blocks.len() as u32;
     let mut label = count;
+    let mut mark = 0;
     for b in 0..count {
         let block = p.blocks.get(b as usize);
         code.push(Item::Label(b))?;
-        push_block(alloc, code, frame, b + 1, label, block)?;
+        push_block(alloc, code, frame, b + 1, label, mark, block)?;
         label += block_labels(block);
+        mark += block_marks(block);
     }
     Ok(())
 }
@@ -85,23 +86,22 @@ fn push_block(
     frame: &Frame,
     next: u32,
     label: u32,
+    mark: u32,
     block: &AirBlock,
 ) -> Result<(), NoMemory>
     requires fits { IsFittingBlock block.now }
     requires labels { label + block_labels block.now < 2 ^ 32 }
+    requires marks { mark + block_marks block.now < 2 ^ 32 }
     ensures { OnOk result (code.new ≡ code.old
-        ++ insts_items frame.now next label block.now.targets block.now.insts) }
+        ++ insts_items frame.now next label mark block.now.targets block.now.insts) }
 {
+    let mut own = label;
+    let mut number = mark;
     for k in 0..block.insts.len() {
-        push_items(
-            alloc,
-            code,
-            frame,
-            next,
-            label,
-            &block.targets,
-            block.insts.get(k),
-        )?;
+        let inst = block.insts.get(k);
+        push_items(alloc, code, frame, next, own, number, &block.targets, inst)?;
+        own += own_labels(&inst.op);
+        number += own_marks(&inst.op, inst.traps);
     }
     Ok(())
 }
@@ -125,6 +125,18 @@ fn block_labels(block: &AirBlock) -> u32
     let mut count = 0;
     for inst in block.insts.as_slice() {
         count += own_labels(&inst.op);
+    }
+    count
+}
+
+/// How many marks stand within the items of a block.
+fn block_marks(block: &AirBlock) -> u32
+    requires { block_marks block.now < 2 ^ 32 }
+    ensures { result ≡ block_marks block.now }
+{
+    let mut count = 0;
+    for inst in block.insts.as_slice() {
+        count += own_marks(&inst.op, inst.traps);
     }
     count
 }

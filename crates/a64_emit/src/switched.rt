@@ -3,15 +3,13 @@
 ghost use Rattle.std.specs.Prelude.{◌≡◌, ◌+◌, ◌^◌, ◌<◌, ◌++◌, length, IfOk, OnOk};
 ghost use Rattle.b3_base.specs.Arithmetic.{low};
 ghost use Rattle.b3_base.specs.Word.{bits};
-ghost use Rattle.a64_emit.specs.Places.{plains};
+ghost use Rattle.a64_code.specs.Places.{plains};
 ghost use Rattle.a64_emit.specs.Switched.{AreDifferent, AreSmall, case_items, cases_in_order, compare_word, search_items, switch_items, switch_labels};
 ghost use Rattle.a64_emit.specs.Trees.{node_count, tree};
 
 use crate::case::Case;
-use crate::computing::{is_sum_word, sum_with};
-use crate::constants::push_constant;
-use crate::places::push;
 use crate::terminals::{push_jump, target_at};
+use a64_code::{is_sum_word, push, push_constant, sum_with};
 use a64_inst::{Cond, Inst, Item, Labelled};
 use b3_base::{Ids, NoMemory, Width, Words};
 use std::alloc::Global;

@@ -2,14 +2,14 @@
 
 ghost use Rattle.std.specs.Prelude.{◌≡◌, ◌+◌, ◌++◌, ◌^◌, ◌<◌, get_or, OnOk};
 ghost use Rattle.a64_emit.specs.Code.{branch_code, branch_item, branches, compared, inst_items, own_labels, source_at, test_at, width_at};
-ghost use Rattle.a64_emit.specs.Fitting.{IsFitting, IsTested};
-ghost use Rattle.a64_emit.specs.Places.{plains};
+ghost use Rattle.a64_code.specs.Fitting.{IsTested};
+ghost use Rattle.a64_emit.specs.Fitting.{IsFitting};
+ghost use Rattle.a64_code.specs.Places.{plains};
 ghost use Rattle.a64_emit.specs.Switched.{jump_to};
 
-use crate::computing::{opposite, reg_of};
 use crate::insts::{operand_at, push_fetch, push_inst, push_tested, source_at, test_at};
-use crate::places::{push, push_epilogue};
 use crate::switched::push_switch;
+use a64_code::{opposite, push, push_epilogue, reg_of};
 use a64_inst::{Inst, Item, Labelled};
 use air_ir::{AirInst, AirOp, Frame, Operands, Test};
 use b3_base::{Ids, NoMemory, Width};
@@ -110,7 +110,7 @@ fn push_branch(
 }
 
 /// The items of an instruction of a block with these targets, before the block `next`. A Switch may use labels from
-/// `label` on.
+/// `label` on, and a mark has this number.
 #[tactic(auto, unfolding(crate::specs::Code::inst_items))]
 pub(crate) fn push_items(
     alloc: Global,
@@ -118,13 +118,14 @@ pub(crate) fn push_items(
     frame: &Frame,
     next: u32,
     label: u32,
+    mark: u32,
     targets: &Ids,
     inst: &AirInst,
 ) -> Result<(), NoMemory>
     requires fits { IsFitting inst.now.op inst.now.operands }
     requires labels { label + own_labels inst.now.op < 2 ^ 32 }
     ensures { OnOk result (code.new ≡ code.old
-        ++ inst_items frame.now next label targets.now inst.now.op inst.now.operands) }
+        ++ inst_items frame.now next label mark targets.now inst.now.traps inst.now.op inst.now.operands) }
 {
     match &inst.op {
         AirOp::BranchIf(test) => push_branch(code, frame, next, targets, *test, &inst.operands),
@@ -137,6 +138,6 @@ pub(crate) fn push_items(
         }
         AirOp::Return => push_epilogue(code, frame),
         AirOp::Oops => push(code, Inst::Break { imm: 3 }),
-        op => push_inst(code, frame, op, &inst.operands),
+        op => push_inst(code, frame, mark, inst.traps, op, &inst.operands),
     }
 }

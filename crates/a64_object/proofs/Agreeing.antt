@@ -2,46 +2,36 @@
 use Rattle.std.proofs.Common.{◌≡◌, ℕ, suc, ◌+◌, ◌*◌, ◌/◌, ◌<◌, ◌≤◌, List, [], ◌∷◌, Some, length, refl, sym, ap, ◌∙◌, subst, arith, not}
 use Rattle.std.specs.Prelude.{All, map, slice_get, sum_by}
 use Rattle.std.specs.List.{filter}
-use Rattle.std.proofs.lemmas.List.{length-map, nil_from_length}
+use Rattle.std.proofs.lemmas.List.{length-map}
 use Rattle.std.proofs.lemmas.List.Filters.{length-filter_both}
 use Rattle.std.proofs.lemmas.List.Sums.{sum_by-cons}
 use Rattle.b3_base.specs.Observed.{Answer, MachineStart}
 use Rattle.b3_base.specs.Ranged.{IsRangedAnswer}
-use Rattle.b3_ir.specs.Procedure.{Procedure, total}
+use Rattle.b3_ir.specs.Procedure.{AllFit, Procedure, total}
 use Rattle.b3_ir.specs.declared.procedure.SlotLine.{SlotLine}
+use Rattle.b3_rules.specs.Valid.{IsValidProcedure}
 use Rattle.stackmap.specs.declared.site.SavedRow.{SavedRow}
+use Rattle.stackmap.specs.declared.site.Site.{Site}
 use Rattle.stackmap.specs.declared.site.SlotRow.{SlotRow}
 use Rattle.exit_table.specs.declared.tables.FrameRow.{FrameRow}
-use Rattle.a64_inst.specs.declared.item.Item.{Item}
+use Rattle.exit_table.specs.declared.tables.SiteRow.{SiteRow}
 use Rattle.air_frame.specs.Frames.{row_of, rounded, slot_bytes, slot_rows}
 use Rattle.air_frame.specs.Needs.{callee_saved, writes}
 use Rattle.elf_obj.specs.declared.object.Object.{Object}
 use Rattle.elf_obj.specs.declared.object.Symbol.{Symbol}
-use Rattle.a64_layout.specs.Machine.{IsShortestText, RunsAsItems}
-use Rattle.a64_layout.specs.Run.{IsWellMarked}
-use Rattle.a64_layout.specs.Text.{IsWellLabelled, mark_count}
-use Rattle.a64_layout.specs.declared.text.Text.{Text}
 use Rattle.a64_run.specs.Agrees.{Agrees, AgreesFrom, word_count}
 use Rattle.a64_run.specs.Agrees as run
 use Rattle.a64_run.specs.Placement.{Places, slot_address, start_of}
-use Rattle.a64_object.specs.Made.{IsMadeOf}
-use Rattle.a64_object.proofs.Stepping.{HasText}
-use Rattle.a64_object.proofs.Items.{IsText, entry_at}
+use Rattle.a64_run.specs.Machine.{site_among}
+use Rattle.a64_emit.specs.Sites.{IsSiteIn}
+use Rattle.a64_object.specs.Made.{IsMadeOf, site_rows}
+use Rattle.a64_object.proofs.Lists.{one_in}
+use Rattle.a64_object.proofs.Sited.{HasSites, well_marked}
+use Rattle.a64_object.proofs.Subject.{IsText, Stands, Subject}
+use Rattle.a64_object.proofs.Blocks.{Serves}
+use Rattle.a64_object.proofs.SitesOf.{IsOne, is_one, one_sized}
 use Rattle.a64_object.proofs.Beginning.{is_set, start_ranged}
 use Rattle.a64_object.proofs.Agreement.{runs_alike}
-
--- ---- the text of code without marks
-no_marks : (code : List Item) → IsWellLabelled code → mark_count code ≡ 0 → IsWellMarked code
-no_marks code good none k mark there = let below = good.marks k mark there in absurd (omega arith)
-
-pub text_of : (code : List Item) (text : Text) → IsWellLabelled code → mark_count code ≡ 0 → (short : IsShortestText code text) → length text.marks ≡ 0 → IsText code short.0 text.words
-text_of code text good none short no_places = record {
-  good = good;
-  unmarked = none;
-  enough = short.1.enough;
-  words_are = short.3.words;
-  runs = subst (RunsAsItems code short.0 text.words) (nil_from_length text.marks no_places) (short.4 (no_marks code good none));
-}
 
 -- ---- slots
 pub rows_length : (offsets sizes : List ℕ) → length offsets ≡ length sizes → length (slot_rows offsets sizes) ≡ length sizes
@@ -56,7 +46,8 @@ rows_sizes [] (size ∷ sizes) same = absurd (omega arith)
 rows_sizes (offset ∷ offsets) [] same = absurd (omega arith)
 rows_sizes (offset ∷ offsets) (size ∷ sizes) same = ap (λ xs. size ∷ xs) (rows_sizes offsets sizes (omega arith))
 
-bytes_same : (slots : List SlotLine) → slot_bytes (map (λ (slot : SlotLine). slot.bytes) slots) ≡ sum_by (λ (slot : SlotLine). (slot.bytes + 15) / 16 * 16) slots
+bytes_same : (slots : List SlotLine)
+    → slot_bytes (map (λ (slot : SlotLine). slot.bytes) slots) ≡ sum_by (λ (slot : SlotLine). (slot.bytes + 15) / 16 * 16) slots
 bytes_same [] = refl
 bytes_same (slot ∷ slots) =
     sum_by-cons rounded slot.bytes (map (λ (slot : SlotLine). slot.bytes) slots)
@@ -67,39 +58,93 @@ pub ten_saved : length callee_saved ≡ 10
 unfolding callee_saved
 ten_saved = refl
 
--- ---- where the words stand in an object, at a symbol
-pub record HasCode (words : List ℕ) (o : Object) (symbol : Symbol) : Type 0 where
-  pub no_sites : o.tables.sites ≡ []
+-- ---- where the words stand in an object, at a symbol, with these sites
+pub record HasCode (words : List ℕ) (rows : List SiteRow) (o : Object) (symbol : Symbol) : Type 0 where
+  pub sites : (k : ℕ) → k < length words → site_among (symbol.offset + 4 * k) o.tables.sites ≡ site_among (4 * k) rows
   pub first : ℕ
   pub begins : symbol.offset ≡ 4 * first
   pub size : symbol.size ≡ 4 * length words
   pub text : (k w : ℕ) → slice_get words k ≡ Some w → slice_get o.text (first + k) ≡ Some w
   pub within : first + length words ≤ length o.text
 
-module _ (p : Procedure) (words : List ℕ) (row : FrameRow) (made : IsMadeOf p words row) (some : 0 < length p.blocks) where
+module _ (p : Procedure) (valid : IsValidProcedure p) (fit : AllFit p.blocks) (words : List ℕ) (row : FrameRow) (rows : List SiteRow)
+    (made : IsMadeOf p words row rows) where
   abbrev its_row : FrameRow
   its_row = row_of made.frame made.air.slots made.air.returns
 
-  is_text : IsText made.code made.is_text.0 made.text.words
-  is_text = text_of made.code made.text made.is_code.labelled made.is_code.unmarked made.is_text made.unmarked
+  abbrev pub IsOneOf : Site → Type 0
+  IsOneOf site = IsOne p valid fit made.air made.placed made.frame made.is_frame site
 
-  runs : (o : Object) (symbol : Symbol) → HasCode made.text.words o symbol → (m : MachineStart) (answers : List Answer) → Places o symbol its_row m → All IsRangedAnswer answers
+  -- what each site is
+  pub site_is : (k : ℕ) (site : Site) → slice_get made.sites k ≡ Some site → IsOneOf site
+  site_is k site there =
+      is_one p valid fit made.air made.placed made.frame made.is_frame site (one_in (IsSiteIn made.air made.frame) made.sites k site there made.is_code.made)
+
+  pub has_sites : HasSites made.code made.sites
+  has_sites = record {
+    good = made.is_code.labelled;
+    count = made.is_code.marks;
+    in_order = made.is_code.in_order;
+    suits = made.is_code.suits;
+    sized = λ m site there. one_sized p valid fit made.air made.placed made.frame made.is_frame site (site_is m site there);
+  }
+
+  is_text : IsText made.code made.sites made.is_text.0 made.text
+  is_text = record {
+    has_sites = has_sites;
+    enough = made.is_text.1.enough;
+    words_are = made.is_text.3.words;
+    tells = made.is_text.3.marks;
+    as_many = made.marked;
+    runs = made.is_text.4 (well_marked made.code made.sites has_sites);
+  }
+
+  subject_at : Object → Symbol → MachineStart → Subject
+  subject_at o symbol m = record {
+    air = made.air;
+    frame = made.frame;
+    code = made.code;
+    sites = made.sites;
+    long = made.is_text.0;
+    text = made.text;
+    object = o;
+    symbol = symbol;
+    start = m;
+  }
+
+  abbrev HasItsCode : Object → Symbol → Type 0
+  HasItsCode o symbol = HasCode made.text.words (site_rows made.text.marks made.sites) o symbol
+
+  runs : 0 < length p.blocks → (o : Object) (symbol : Symbol) → HasItsCode o symbol → (m : MachineStart) (answers : List Answer) → Places o symbol its_row m
+      → All IsRangedAnswer answers
       → AgreesFrom p o symbol its_row m answers
-  runs o symbol code m answers placed ranged =
-      let has : HasText (entry_at made.air made.frame o symbol m) made.text.words = record {
-        no_sites = code.no_sites;
-        base = code.first;
-        begins = code.begins;
-        text = code.text;
-        within = code.within;
-        ends = placed.code_ends;
-        returns_outside = placed.returns_outside;
+  unfolding subject_at
+  runs some o symbol code m answers placed ranged =
+      let x = subject_at o symbol m in
+      let stands : Stands x = record {
+        is_text = is_text;
+        has_text = record {
+          sites = code.sites;
+          base = code.first;
+          begins = code.begins;
+          text = code.text;
+          within = code.within;
+          ends = placed.code_ends;
+          returns_outside = placed.returns_outside;
+        };
       } in
-      let set = is_set made.air made.frame made.code made.is_text.0 made.text.words o symbol m is_text has answers placed in
+      let serves : Serves x = record {
+        stands = stands;
+        is = made.is_code;
+        well = made.placed.well;
+        set = is_set x stands placed;
+        least = made.is_frame.good.least;
+        some_block = omega (arith, made.placed.blocks, some);
+      } in
       let slots : length (map (slot_address m) its_row.slots) ≡ length p.slots =
-      length-map its_row.slots (slot_address m) ∙ rows_length made.frame.slots made.air.slots made.is_frame.slots ∙ ap length made.placed.slots ∙ length-map p.slots (λ (slot : SlotLine). slot.bytes) in
-      runs_alike p made.air made.frame made.code made.is_text.0 made.text.words o symbol m is_text has answers made.is_code made.placed.well set made.is_frame.good.least
-      (omega (arith, made.placed.blocks, some)) made.placed.blocks (omega (arith, code.size))
+      length-map its_row.slots (slot_address m) ∙ rows_length made.frame.slots made.air.slots made.is_frame.slots ∙ ap length made.placed.slots
+      ∙ length-map p.slots (λ (slot : SlotLine). slot.bytes) in
+      runs_alike p x serves answers ranged made.placed.blocks (omega (arith, code.size))
       (made.placed.same (start_of o its_row m) answers (start_ranged o symbol its_row m placed) ranged slots)
 
   frame_small : its_row.bytes ≤ 64 * total p + 8 * run.child_count p + run.slot_bytes p + 1024
@@ -113,9 +158,9 @@ module _ (p : Procedure) (words : List ℕ) (row : FrameRow) (made : IsMadeOf p 
       let named = made.placed.named in
       omega arith
 
-  agrees_by : (o : Object) (symbol : Symbol) → HasCode made.text.words o symbol → Agrees p o symbol its_row
-  agrees_by o symbol code = record {
-    runs = λ m answers placed ranged. runs o symbol code m answers placed ranged;
+  agrees_by : 0 < length p.blocks → (o : Object) (symbol : Symbol) → HasItsCode o symbol → Agrees p o symbol its_row
+  agrees_by some o symbol code = record {
+    runs = λ m answers placed ranged. runs some o symbol code m answers placed ranged;
     returns_32 = made.placed.returns_32;
     returns_64 = made.placed.returns_64;
     slots = rows_sizes made.frame.slots made.air.slots made.is_frame.slots ∙ made.placed.slots;
@@ -123,5 +168,8 @@ module _ (p : Procedure) (words : List ℕ) (row : FrameRow) (made : IsMadeOf p 
     bytes = frame_small;
   }
 
-  pub agrees : (o : Object) (symbol : Symbol) → HasCode words o symbol → Agrees p o symbol row
-  agrees o symbol code = subst (Agrees p o symbol) (sym made.row_is) (agrees_by o symbol (subst (λ ws. HasCode ws o symbol) made.words_are code))
+  pub agrees : 0 < length p.blocks → (o : Object) (symbol : Symbol) → HasCode words rows o symbol → Agrees p o symbol row
+  agrees some o symbol code =
+      subst (Agrees p o symbol) (sym made.row_is)
+      (agrees_by some o symbol
+      (subst (λ ws. HasCode ws (site_rows made.text.marks made.sites) o symbol) made.words_are (subst (λ rs. HasCode words rs o symbol) made.rows_are code)))

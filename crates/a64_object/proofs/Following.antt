@@ -4,7 +4,8 @@ use Rattle.std.proofs.Common.{◌≡◌, ℕ, zero, suc, ◌+◌, ◌-◌, ◌*�
 use Rattle.b3_base.specs.Run.{SimulatesFrom, iterate}
 use Rattle.b3_base.proofs.Run.{iterate-add, iterate-keeps, run_simulated_from}
 
-module _ {A B : Type 0} (up : A × List ℕ → A × List ℕ) (low : B → B) (R : A → B → Type 0) (P : A → B → Type 0) (Lost : A → Type 0) (place : A → ℕ) (b c : ℕ) where
+module _ {A B : Type 0} (up : A × List ℕ → A × List ℕ) (low : B → B) (R : A → B → Type 0) (P : A → B → Type 0) (Lost : A → Type 0) (place : A → ℕ)
+    (b c : ℕ) where
   -- one upper step, by some words, is a few lower ones
   pub record OneStep (a : A) (s : B) : Type 0 where
     pub words : List ℕ
@@ -63,7 +64,8 @@ module _ {A B : Type 0} (up : A × List ℕ → A × List ℕ) (low : B → B) (
     below_of (On x) s r = by.below x.upper x.lower x.related
 
     step_of : (a : Upper) (s : B) → IsOf a s
-        → (j : ℕ) × (j ≤ c) × (j ≡ 0 → place_of a < place_of (next_upper a)) × ((i : ℕ) → i < j → Holds (next_upper a) (iterate low i s)) × IsOf (next_upper a) (iterate low j s)
+        → (j : ℕ) × (j ≤ c) × (j ≡ 0 → place_of a < place_of (next_upper a)) × ((i : ℕ) → i < j → Holds (next_upper a) (iterate low i s))
+        × IsOf (next_upper a) (iterate low j s)
     unfolding next_upper next_both
     step_of Before s r = absurd r
     step_of (On x) s r =
@@ -109,7 +111,8 @@ module _ {A B : Type 0} (up : A × List ℕ → A × List ℕ) (low : B → B) (
         record {
           words = one.words ++ more.words;
           last = more.last;
-          is = λ rest. ap (λ ws. iterate up n (up (x.upper, ws))) (append_assoc one.words more.words rest) ∙ ap (iterate up n) (one.is (more.words ++ rest)) ∙ more.is rest;
+          is = λ rest. ap (λ ws. iterate up n (up (x.upper, ws))) (append_assoc one.words more.words rest) ∙ ap (iterate up n) (one.is (more.words ++ rest))
+              ∙ more.is rest;
           comes = more.comes;
         }
 
@@ -124,7 +127,8 @@ module _ {A B : Type 0} (up : A × List ℕ → A × List ℕ) (low : B → B) (
       pub proper : (i : ℕ) → i < steps → (mid : A) × P mid (iterate low i s₀) × (Lost mid → Lost next)
       pub related : R next (iterate low steps s₀)
 
-    passed : (n i : ℕ) (last : Both) → iterate next_upper n Before ≡ On last → (a : Upper) → Holds a (iterate low i s₀) → (IsLost a → IsLost (iterate next_upper n Before))
+    passed : (n i : ℕ) (last : Both) → iterate next_upper n Before ≡ On last → (a : Upper) → Holds a (iterate low i s₀)
+        → (IsLost a → IsLost (iterate next_upper n Before))
         → (mid : A) × P mid (iterate low i s₀) × (Lost mid → Lost last.upper)
     passed n i last comes Before holds later = absurd holds
     passed n i last comes (On x) holds later = (x.upper, holds, λ lost. subst IsLost comes (later lost))
@@ -135,7 +139,8 @@ module _ {A B : Type 0} (up : A × List ℕ → A × List ℕ) (low : B → B) (
 
     words_are : (n : ℕ) (list : Collected n first_both) (rest : List ℕ) → iterate up (suc n) (a₀, (first.words ++ list.words) ++ rest) ≡ (list.last.upper, rest)
     unfolding iterate first_both
-    words_are n list rest = ap (λ ws. iterate up n (up (a₀, ws))) (append_assoc first.words list.words rest) ∙ ap (iterate up n) (first.is (list.words ++ rest)) ∙ list.is rest
+    words_are n list rest = ap (λ ws. iterate up n (up (a₀, ws))) (append_assoc first.words list.words rest)
+        ∙ ap (iterate up n) (first.is (list.words ++ rest)) ∙ list.is rest
 
     pub followed : (n : ℕ) → 1 ≤ n → Followed n
     followed zero some_step = absurd (omega arith)

@@ -1,7 +1,10 @@
 -- The object of procedures' codes is good, and is their code.
-use Rattle.std.proofs.Common.{◌≡◌, ◌≢◌, ℕ, Some, subst, suc, ◌+◌, ◌*◌, ◌^◌, ◌<◌, ◌≤◌, List, [], ◌∷◌, length, refl, sym, ap, ◌∙◌, arith, length-append}
-use Rattle.std.specs.Prelude.{All, AllPairs, map, slice_get, sum_by}
+use Rattle.std.proofs.Common.{◌≡◌, ◌≢◌, ℕ, Option, Some, None, subst, suc, ◌+◌, ◌*◌, ◌/◌, ◌^◌, ◌<◌, ◌≤◌, ⊎_elim, List, [], ◌∷◌, length, refl, sym, ap, ◌∙◌, arith, length-append}
+use Rattle.std.specs.Prelude.{All, AllPairs, IsSomeAnd, map, slice_get, sum_by}
+use Rattle.std.specs.Option.{option_map}
 use Rattle.std.specs.List.{flat_map}
+use Rattle.std.proofs.lemmas.Bool.{cases_lt}
+use Rattle.std.proofs.lemmas.Option.{slice_get-map}
 use Rattle.std.proofs.lemmas.List.Elements.{All-cons, All-head, All-map, All-nil, All-tail, All-weaker}
 use Rattle.std.proofs.lemmas.List.{length-map}
 use Rattle.std.proofs.lemmas.List.Concat.{flat_map-cons}
@@ -13,41 +16,50 @@ use Rattle.b3_meaning.proofs.Keeping.{keeps_itself}
 use Rattle.b3_rules.specs.Valid.{Header, IsValid}
 use Rattle.b3_rules.specs.declared.rule.Rule.TheVariants as rule
 use Rattle.b3_supported.specs.Supported.{AreSupported, IsSupported}
-use Rattle.exit_table.specs.Good.{IsGoodFrame}
+use Rattle.stackmap.specs.declared.site.Place.{Place}
+use Rattle.stackmap.specs.declared.site.Site.{Site}
+use Rattle.exit_table.specs.Good.{HasFewPlaces, IsGoodFrame, IsGoodKind, IsGoodRep, IsGoodSite, StandsIn, start_of}
 use Rattle.exit_table.specs.declared.tables.FrameRow.{FrameRow}
 use Rattle.exit_table.specs.declared.tables.SiteRow.{SiteRow}
-use Rattle.elf_obj.specs.Good.{Fills, IsGood, names_of, sizes_of}
+use Rattle.elf_obj.specs.Good.{Fills, HasItsWord, IsGood, IsWordOf, names_of, sizes_of}
 use Rattle.elf_obj.specs.Size.{size_bound}
 use Rattle.elf_obj.specs.declared.object.Object.{Object}
 use Rattle.elf_obj.specs.declared.object.Symbol.{Symbol}
 use Rattle.a64_run.specs.Agrees.{Agrees}
-use Rattle.a64_run.specs.CodeOf.{IsCodeOf, IsCodeOfOne}
+use Rattle.a64_run.specs.CodeOf.{HasItsValue, IsCodeOf, IsCodeOfOne, StandsIn as InCode}
+use Rattle.a64_run.specs.Machine.{site_among}
 use Rattle.air_select.specs.Contract.{IsWithinLimits}
-use Rattle.a64_object.specs.Joined.{ArePartsOf, IsJoinedOf, IsPartOf, Part, object_of, row_in, symbol_at, symbols_from, words_in}
+use Rattle.a64_object.specs.Joined.{ArePartsOf, IsJoinedOf, IsPartOf, Part, object_of, row_in, sites_from, symbol_at, symbols_from, words_in}
 use Rattle.a64_object.specs.Taken.{AreWithinLimits, HasFewSlots, IsTaken}
 use Rattle.a64_object.proofs.Agreeing.{HasCode, agrees}
+use Rattle.a64_object.proofs.JoinedSites.{IsSiteAt, each_site, rows_in_order, site_in, size_in, sizes_are, start_in, starts_apart, symbol_is}
 use Rattle.a64_object.proofs.Joining.{bound_is, each_stands, text_short}
+use Rattle.a64_object.proofs.LocalSites.{IsLocal, local_row, local_value}
+use Rattle.a64_object.proofs.SiteBytes.{sites_small}
 use Rattle.a64_object.proofs.Making.{small_row, some_words, taken}
-use Rattle.a64_object.proofs.Placed.{one_in}
+use Rattle.a64_object.proofs.Lists.{one_in, same_some}
 
 row_good : (p : Procedure) (x : Part) → IsPartOf p x → IsGoodFrame x.row
 row_good p x of = subst IsGoodFrame (sym of.made.row_is) of.made.is_frame.good
 
 -- ---- all of them
-all_fill : (ps : List Procedure) (parts : List Part) (from to : ℕ) → ArePartsOf ps parts → to ≡ from + 4 * length (flat_map words_in parts) → Fills from to (symbols_from from parts)
+all_fill : (ps : List Procedure) (parts : List Part) (from to : ℕ) → ArePartsOf ps parts → to ≡ from + 4 * length (flat_map words_in parts)
+    → Fills from to (symbols_from from parts)
 unfolding ArePartsOf
 all_fill [] [] from to are end = omega (arith, end)
 all_fill [] (x ∷ parts) from to are end = absurd are
 all_fill (p ∷ ps) [] from to are end = absurd are
 all_fill (p ∷ ps) (x ∷ parts) from to are end =
-    let some = some_words p x.words x.row are.0.made in (
+    let some = some_words p x.words x.row x.sites are.0.made in (
       refl,
       omega arith,
       omega arith,
-      all_fill ps parts (from + 4 * length x.words) to are.1 (omega (arith, end, ap length (flat_map-cons words_in x parts), length-append x.words (flat_map words_in parts))),
+      all_fill ps parts (from + 4 * length x.words) to are.1
+          (omega (arith, end, ap length (flat_map-cons words_in x parts), length-append x.words (flat_map words_in parts))),
     )
 
-their_names : (offset : ℕ) (ps : List Procedure) (parts : List Part) → ArePartsOf ps parts → names_of (symbols_from offset parts) ≡ map (λ (p : Procedure). p.name) ps
+their_names : (offset : ℕ) (ps : List Procedure) (parts : List Part) → ArePartsOf ps parts
+    → names_of (symbols_from offset parts) ≡ map (λ (p : Procedure). p.name) ps
 unfolding ArePartsOf
 their_names offset [] [] are = refl
 their_names offset [] (x ∷ parts) are = absurd are
@@ -76,22 +88,105 @@ text_below ps parts all limits are =
     let children = limits.children in
     omega arith
 
-object_good : (ps : List Procedure) (parts : List Part) → AreSupported ps → AreWithinLimits ps → ArePartsOf ps parts → All (λ w. w < 2 ^ 32) (flat_map words_in parts) → IsGood (object_of parts)
-object_good ps parts all limits are narrow = record {
-  few_words = text_below ps parts all limits are;
-  narrow = narrow;
-  fills = all_fill ps parts 0 (4 * length (flat_map words_in parts)) are (omega arith);
-  names = subst (All IsName) (sym (their_names 0 ps parts are)) (All-map IsName (λ (p : Procedure). p.name) ps (All-weaker IsSupported (λ (p : Procedure). IsName p.name) (λ p built. built.name) ps all.each));
-  distinct = subst (AllPairs (λ a b. a ≢ b)) (sym (their_names 0 ps parts are)) all.distinct;
-  tables = record {
-    count = length-map parts row_in ∙ sym (as_many 0 parts);
-    frames = rows_good ps parts are;
-    order = tt;
-    sites = All-nil _;
-  };
-  few_places = All-nil _;
-  words = All-nil _;
-}
+pub all_taken : (ps : List Procedure) → AreSupported ps → AreWithinLimits ps → All IsTaken ps
+all_taken ps all limits = by ps all.each limits.each limits.slots
+  where
+    by : (qs : List Procedure) → All IsSupported qs → All IsWithinLimits qs → All HasFewSlots qs → All IsTaken qs
+    by [] built within slots = All-nil _
+    by (q ∷ qs) built within slots =
+        All-cons IsTaken q qs (taken q (All-head IsSupported q qs built) (All-head IsWithinLimits q qs within) (All-head HasFewSlots q qs slots))
+        (by qs (All-tail IsSupported q qs built) (All-tail IsWithinLimits q qs within) (All-tail HasFewSlots q qs slots))
+
+-- ---- its sites
+module _ (ps : List Procedure) (parts : List Part) (taken : All IsTaken ps) where
+  -- a row of the object is one of a part
+  abbrev IsAt : SiteRow → Type 0
+  IsAt row = IsSiteAt ps parts 0 row
+
+  its_local : (row : SiteRow) (s : IsAt row) → IsLocal s.part.words s.part.row s.local
+  its_local row s = local_row s.p (one_in IsTaken ps s.k s.p s.p_there taken) s.part.words s.part.row s.part.sites s.of.made s.j s.local s.local_there
+
+  no_more_bytes : (n : ℕ) → 0 + n ≡ n
+  no_more_bytes n = omega arith
+
+  -- where it stands
+  pub stands_at : (row : SiteRow) (s : IsAt row) → (row.pc ≡ start_in parts s.k + s.local.pc) × (row.site ≡ s.local.site)
+  stands_at row s = (ap (λ (r : SiteRow). r.pc) s.is ∙ ap (λ n. n + s.local.pc) (no_more_bytes (start_in parts s.k)), ap (λ (r : SiteRow). r.site) s.is)
+
+  site_good : (row : SiteRow) → IsAt row → IsGoodSite (sizes_of (symbols_from 0 parts)) (map row_in parts) row
+  site_good row s =
+      let local = its_local row s in
+      let at = stands_at row s in
+      let size_there : slice_get (sizes_of (symbols_from 0 parts)) s.k ≡ Some (size_in s.part) =
+      ap (λ ns. slice_get ns s.k) (sizes_are 0 parts) ∙ slice_get-map size_in parts s.k ∙ ap (option_map size_in) s.part_there in
+      let frame_there : slice_get (map row_in parts) s.k ≡ Some s.part.row = slice_get-map row_in parts s.k ∙ ap (option_map row_in) s.part_there in
+      let start : start_of (sizes_of (symbols_from 0 parts)) s.k ≡ start_in parts s.k = ap (λ ns. start_of ns s.k) (sizes_are 0 parts) in
+      let ends = local.ends in
+      let size : row.site.size ≡ s.local.site.size = ap (λ (x : Site). x.size) at.1 in
+      let pc = at.0 in
+      let its_pc = local.pc in
+      let stands : StandsIn (start_of (sizes_of (symbols_from 0 parts)) s.k) (size_in s.part) s.part.row row = record {
+        begins = omega arith;
+        ends = omega arith;
+        value = subst (λ (x : Site). x.value < 2 ^ 32) (sym at.1) local.value;
+        kind = subst (λ (x : Site). IsGoodKind x.kind x) (sym at.1) local.kind;
+        places = subst (λ (x : Site). All (λ (place : Place). IsGoodRep s.part.row place.width place.rep) x.reps) (sym at.1) local.places;
+      } in
+      record {
+        procedure = s.k;
+        stands = some_and (λ n. IsSomeAnd (slice_get (map row_in parts) s.k) (λ frame. StandsIn (start_of (sizes_of (symbols_from 0 parts)) s.k) n frame row))
+            size_there
+            (some_and (λ frame. StandsIn (start_of (sizes_of (symbols_from 0 parts)) s.k) (size_in s.part) frame row) frame_there stands);
+      }
+    where
+      some_and : {X : Type 0} {o : Option X} {x : X} (P : X → Type 0) → o ≡ Some x → P x → IsSomeAnd o P
+      some_and P is holds = subst (λ o. IsSomeAnd o P) (sym is) holds
+
+  site_few : (row : SiteRow) → IsAt row → HasFewPlaces row
+  site_few row s = subst (λ (x : Site). length x.reps < 2 ^ 32) (sym (stands_at row s).1) (its_local row s).few
+
+  site_word : (row : SiteRow) → IsAt row → HasItsWord (flat_map words_in parts) row
+  site_word row s =
+      let local = its_local row s in
+      let at = stands_at row s in
+      let pc = at.0 in
+      let its_pc = local.pc in
+      let starts = s.starts in
+      let index : row.pc / 4 ≡ s.before + local.mark = omega arith in
+      let kind : row.site.kind ≡ s.local.site.kind = ap (λ (x : Site). x.kind) at.1 in
+      by (slice_get s.part.words local.mark) refl index kind local.word
+    where
+      by : (o : Option ℕ) → slice_get s.part.words (its_local row s).mark ≡ o → row.pc / 4 ≡ s.before + (its_local row s).mark
+          → row.site.kind ≡ s.local.site.kind → IsSomeAnd o (IsWordOf s.local.site.kind)
+          → HasItsWord (flat_map words_in parts) row
+      by (Some w) there index kind is =
+          let in_text : slice_get (flat_map words_in parts) (row.pc / 4) ≡ Some w = ap (slice_get (flat_map words_in parts)) index
+          ∙ s.text (its_local row s).mark w there in
+          subst (λ o. IsSomeAnd o (IsWordOf row.site.kind)) (sym in_text) (subst (λ k. IsWordOf k w) (sym kind) is)
+      by None there index kind is = absurd is
+
+object_good : (ps : List Procedure) (parts : List Part) → AreSupported ps → AreWithinLimits ps → ArePartsOf ps parts
+    → All (λ w. w < 2 ^ 32) (flat_map words_in parts) → IsGood (object_of parts)
+object_good ps parts all limits are narrow =
+    let taken = all_taken ps all limits in
+    let sites = each_site ps parts 0 are in
+    record {
+      few_words = text_below ps parts all limits are;
+      narrow = narrow;
+      fills = all_fill ps parts 0 (4 * length (flat_map words_in parts)) are (omega arith);
+      names = subst (All IsName) (sym (their_names 0 ps parts are))
+          (All-map IsName (λ (p : Procedure). p.name) ps (All-weaker IsSupported (λ (p : Procedure). IsName p.name) (λ p built. built.name) ps all.each));
+      distinct = subst (AllPairs (λ a b. a ≢ b)) (sym (their_names 0 ps parts are)) all.distinct;
+      tables = record {
+        count = length-map parts row_in ∙ sym (as_many 0 parts);
+        frames = rows_good ps parts are;
+        order = rows_in_order ps parts 0 taken are refl;
+        sites = All-weaker (IsSiteAt ps parts 0) (IsGoodSite (sizes_of (symbols_from 0 parts)) (map row_in parts)) (site_good ps parts taken)
+            (sites_from 0 parts) sites;
+      };
+      few_places = All-weaker (IsSiteAt ps parts 0) HasFewPlaces (site_few ps parts taken) (sites_from 0 parts) sites;
+      words = All-weaker (IsSiteAt ps parts 0) (HasItsWord (flat_map words_in parts)) (site_word ps parts taken) (sites_from 0 parts) sites;
+    }
 
 -- ---- the file of the object is small
 frames_small : (ps : List Procedure) (parts : List Part) → All IsTaken ps → ArePartsOf ps parts
@@ -101,11 +196,12 @@ frames_small [] [] are_taken are = omega arith
 frames_small [] (x ∷ parts) are_taken are = absurd are
 frames_small (p ∷ ps) [] are_taken are = absurd are
 frames_small (p ∷ ps) (x ∷ parts) are_taken are =
-    let first = small_row p x.words x.row are.0.made (All-head IsTaken p ps are_taken) in
+    let first = small_row p x.words x.row x.sites are.0.made (All-head IsTaken p ps are_taken) in
     let rest = frames_small ps parts (All-tail IsTaken p ps are_taken) are.1 in
     omega (arith, sum_by-cons (λ (frame : FrameRow). 16 + 8 * length frame.slots + 8 * length frame.saved) x.row (map row_in parts))
 
-symbols_small : (offset : ℕ) (ps : List Procedure) (parts : List Part) → All IsSupported ps → ArePartsOf ps parts → sum_by (λ (symbol : Symbol). 25 + length symbol.name) (symbols_from offset parts) ≤ length ps * 280
+symbols_small : (offset : ℕ) (ps : List Procedure) (parts : List Part) → All IsSupported ps → ArePartsOf ps parts
+    → sum_by (λ (symbol : Symbol). 25 + length symbol.name) (symbols_from offset parts) ≤ length ps * 280
 unfolding ArePartsOf
 symbols_small offset [] [] built are = omega arith
 symbols_small offset [] (x ∷ parts) built are = absurd are
@@ -116,17 +212,19 @@ symbols_small offset (p ∷ ps) (x ∷ parts) built are =
     let first = sum_by-cons (λ (symbol : Symbol). 25 + length symbol.name) (symbol_at offset x) (symbols_from (offset + 4 * length x.words) parts) in
     omega (arith, symbols_small (offset + 4 * length x.words) ps parts (All-tail IsSupported p ps built) are.1)
 
-pub all_taken : (ps : List Procedure) → AreSupported ps → AreWithinLimits ps → All IsTaken ps
-all_taken ps all limits = by ps all.each limits.each limits.slots
-  where
-    by : (qs : List Procedure) → All IsSupported qs → All IsWithinLimits qs → All HasFewSlots qs → All IsTaken qs
-    by [] built within slots = All-nil _
-    by (q ∷ qs) built within slots =
-        All-cons IsTaken q qs (taken q (All-head IsSupported q qs built) (All-head IsWithinLimits q qs within) (All-head HasFewSlots q qs slots))
-        (by qs (All-tail IsSupported q qs built) (All-tail IsWithinLimits q qs within) (All-tail HasFewSlots q qs slots))
-
 small_by : (ps : List Procedure) (parts : List Part) → AreSupported ps → AreWithinLimits ps → ArePartsOf ps parts → size_bound (object_of parts) ≤ 134_217_728
-small_by ps parts all limits are = omega (arith, text_below ps parts all limits are, all.few, frames_small ps parts (all_taken ps all limits) are, symbols_small 0 ps parts all.each are)
+small_by ps parts all limits are =
+    let values = limits.values in
+    let children = limits.children in
+    let text = text_short ps parts are in
+    omega (
+      arith,
+      bound_is ps,
+      all.few,
+      frames_small ps parts (all_taken ps all limits) are,
+      sites_small ps parts 0 (all_taken ps all limits) are,
+      symbols_small 0 ps parts all.each are,
+    )
 
 pub object_small : (ps : List Procedure) (o : Object) → AreSupported ps → AreWithinLimits ps → IsJoinedOf ps o → size_bound o ≤ 134_217_728
 object_small ps o all limits joined = subst (λ (x : Object). size_bound x ≤ 134_217_728) (sym joined.2) (small_by ps joined.0 all limits joined.1)
@@ -135,45 +233,81 @@ object_small ps o all limits joined = subst (λ (x : Object). size_bound x ≤ 1
 no_more : (n : ℕ) → 0 + n ≡ n
 no_more n = omega arith
 
-same_some : {X : Type 0} (x y : X) → Some x ≡ Some y → x ≡ y
-same_some x y e = cc
-
-nothing_listed : (j : ℕ) (row : SiteRow) → slice_get [] j ≡ Some row → ⊥
-nothing_listed j row e = cc
-
 some_block : (p : Procedure) → IsSupported p → 0 < length p.blocks
 some_block p built = let some : 0 < length p.blocks = built.valid rule.Endings Header tt in some
 
-each_code : (ps : List Procedure) (parts : List Part) → AreSupported ps → ArePartsOf ps parts → (k : ℕ) (p q : Procedure) (symbol : Symbol) (frame : FrameRow)
+-- a site that stands in the code of a procedure is one of its text
+its_value : (ps : List Procedure) (parts : List Part) → All IsTaken ps → ArePartsOf ps parts → (k : ℕ) (p : Procedure) (symbol : Symbol)
+    → slice_get ps k ≡ Some p → slice_get (symbols_from 0 parts) k ≡ Some symbol
+    → (row : SiteRow) → IsSiteAt ps parts 0 row → InCode symbol row → HasItsValue p row
+its_value ps parts taken are k p symbol there its row s within =
+    let local = its_local ps parts taken row s in
+    let at = stands_at ps parts taken row s in
+    let own = symbol_is 0 parts k symbol its in
+    let begins : symbol.offset ≡ start_in parts k = ap (λ (x : Symbol). x.offset) own.2 ∙ no_more (start_in parts k) in
+    let size : symbol.size ≡ size_in own.0 = ap (λ (x : Symbol). x.size) own.2 in
+    let pc = at.0 in
+    let its_pc = local.pc in
+    let ends = local.ends in
+    let some = local.some in
+    let low = within.0 in
+    let high = within.1 in
+    let same : s.k ≡ k =
+    ⊎_elim
+    (λ less. let apart = starts_apart parts s.k k s.part s.part_there less in absurd (omega arith))
+    (λ ge. ⊎_elim (λ more. let apart = starts_apart parts k s.k own.0 own.1 more in absurd (omega arith)) (λ le. omega arith) (cases_lt k s.k))
+    (cases_lt s.k k) in
+    let same_p : s.p ≡ p = same_some s.p p (sym s.p_there ∙ ap (slice_get ps) same ∙ there) in
+    let value : HasItsValue s.p s.local =
+    local_value s.p (one_in IsTaken ps s.k s.p s.p_there taken) s.part.words s.part.row s.part.sites s.of.made s.j s.local s.local_there in
+    subst (λ q. HasItsValue q row) same_p (moved row s.local s.p at.1 value)
+  where
+    moved : (a b : SiteRow) (q : Procedure) → a.site ≡ b.site → HasItsValue q b → HasItsValue q a
+    moved a b q same value = subst (λ site. HasItsValue q (record { pc = a.pc; site = site })) (sym same) value
+
+each_code : (ps : List Procedure) (parts : List Part) → AreSupported ps → AreWithinLimits ps → ArePartsOf ps parts
+    → (k : ℕ) (p q : Procedure) (symbol : Symbol) (frame : FrameRow)
     → slice_get ps k ≡ Some p → slice_get ps k ≡ Some q → slice_get (symbols_from 0 parts) k ≡ Some symbol → slice_get (map row_in parts) k ≡ Some frame
     → IsCodeOfOne p q (object_of parts) symbol frame
-each_code ps parts all are k p q symbol frame there also its own =
+each_code ps parts all limits are k p q symbol frame there also its own =
+    let taken = all_taken ps all limits in
     let stands = each_stands ps parts 0 0 k p symbol frame are refl there its own in
     let same : p ≡ q = same_some p q (sym there ∙ also) in
-    let code : HasCode stands.part.words (object_of parts) symbol = record {
-      no_sites = refl;
+    let part = symbol_is 0 parts k symbol its in
+    let begins : symbol.offset ≡ 0 + start_in parts k = ap (λ (x : Symbol). x.offset) part.2 in
+    let same_part : part.0 ≡ stands.part = same_some part.0 stands.part (sym part.1 ∙ stands.there) in
+    let code : HasCode stands.part.words stands.part.sites (object_of parts) symbol = record {
+      sites = λ i lt.
+          ap (λ n. site_among (n + 4 * i) (sites_from 0 parts)) begins
+          ∙ site_in ps parts 0 [] k i stands.part taken are (All-nil _) stands.there lt;
       first = stands.before;
       begins = stands.begins ∙ ap (λ n. 4 * n) (no_more stands.before);
       size = stands.size;
       text = stands.text;
       within = stands.within;
     } in
+    let its_taken = one_in IsTaken ps k p there taken in
     record {
       agrees = subst (Agrees p (object_of parts) symbol) stands.its_row
-          (agrees p stands.part.words stands.part.row stands.of.made (some_block p (one_in IsSupported ps k p there all.each)) (object_of parts) symbol code);
+          (agrees p its_taken.valid its_taken.fit stands.part.words stands.part.row stands.part.sites stands.of.made
+          (some_block p (one_in IsSupported ps k p there all.each)) (object_of parts) symbol code);
       keeps = subst (λ x. Keeps p x) same (keeps_itself p);
-      sites = λ j row listed within. absurd (nothing_listed j row listed);
+      sites = λ j row listed within. subst (λ x. HasItsValue x row) same
+          (its_value ps parts taken are k p symbol there its row (one_in (IsSiteAt ps parts 0) (sites_from 0 parts) j row listed (each_site ps parts 0 are))
+          within);
     }
 
-code_by : (ps : List Procedure) (parts : List Part) → IsValid ps → AreSupported ps → AreWithinLimits ps → ArePartsOf ps parts → All (λ w. w < 2 ^ 32) (flat_map words_in parts) → IsCodeOf ps ps (object_of parts)
+code_by : (ps : List Procedure) (parts : List Part) → IsValid ps → AreSupported ps → AreWithinLimits ps → ArePartsOf ps parts
+    → All (λ w. w < 2 ^ 32) (flat_map words_in parts) → IsCodeOf ps ps (object_of parts)
 code_by ps parts valid all limits are narrow = record {
   valid = valid;
   good = object_good ps parts all limits are narrow;
   names = their_names 0 ps parts are;
   count = refl;
-  each = each_code ps parts all are;
+  each = each_code ps parts all limits are;
 }
 
-pub object_is_code : (ps : List Procedure) (o : Object) → IsValid ps → AreSupported ps → AreWithinLimits ps → IsJoinedOf ps o → All (λ w. w < 2 ^ 32) o.text → IsCodeOf ps ps o
+pub object_is_code : (ps : List Procedure) (o : Object) → IsValid ps → AreSupported ps → AreWithinLimits ps → IsJoinedOf ps o → All (λ w. w < 2 ^ 32) o.text
+    → IsCodeOf ps ps o
 object_is_code ps o valid all limits joined narrow =
     subst (IsCodeOf ps ps) (sym joined.2) (code_by ps joined.0 valid all limits joined.1 (subst (λ (x : Object). All (λ w. w < 2 ^ 32) x.text) joined.2 narrow))

@@ -1,5 +1,5 @@
 -- What the passes of a procedure that is taken may ask, and what is known of its words and its frame.
-use Rattle.std.proofs.Common.{◌≡◌, ℕ, zero, suc, ◌+◌, ◌*◌, ◌^◌, ◌<◌, ◌≤◌, Bool, true, false, not, List, [], ◌∷◌, ◌++◌, Some, length, refl, sym, ap, ◌∙◌, subst, arith, take, take-suc}
+use Rattle.std.proofs.Common.{◌≡◌, ℕ, ◌+◌, ◌*◌, ◌^◌, ◌<◌, ◌≤◌, Bool, true, false, not, List, [], ◌∷◌, ◌++◌, Some, length, refl, sym, ap, ◌∙◌, subst, arith, take}
 use Rattle.std.specs.Prelude.{All, map, slice_get, sum_by}
 use Rattle.std.specs.List.{filter, flat_map}
 use Rattle.std.proofs.lemmas.Bool.{and_parts}
@@ -8,7 +8,7 @@ use Rattle.std.proofs.lemmas.List.Elements.{All-cons, All-map, All-nil, All-weak
 use Rattle.std.proofs.lemmas.List.Concat.{flat_map-cons}
 use Rattle.std.proofs.lemmas.List.Filters.{length-filter_both}
 use Rattle.std.proofs.lemmas.List.Sums.{sum_by-cons}
-use Rattle.std.proofs.lemmas.Option.{get_or_from_slice_get, slice_get-map, slice_get-get_or, slice_get_within}
+use Rattle.std.proofs.lemmas.Option.{slice_get-map, slice_get-get_or, slice_get_within}
 use Rattle.std.specs.Option.{option_map}
 use Rattle.b3_ir.specs.Procedure.{Block, Kept, Procedure, empty_kept, procedures, total}
 use Rattle.b3_ir.specs.declared.opcode.Opcode.{Opcode}
@@ -22,61 +22,31 @@ use Rattle.b3_supported.specs.Supported.{IsSupported}
 use Rattle.stackmap.specs.declared.site.SavedRow.{SavedRow}
 use Rattle.stackmap.specs.declared.site.SlotRow.{SlotRow}
 use Rattle.exit_table.specs.declared.tables.FrameRow.{FrameRow}
+use Rattle.exit_table.specs.declared.tables.SiteRow.{SiteRow}
 use Rattle.air_ir.specs.declared.procedure.AirProc.{AirProc}
 use Rattle.air_ir.specs.Weight.{weight}
 use Rattle.air_frame.specs.Frames.{HaveRoom, rounded, slot_bytes, slot_rows}
 use Rattle.air_frame.specs.Needs.{callee_saved, spill_count, writes}
 use Rattle.a64_run.specs.Agrees.{child_count}
-use Rattle.air_select.specs.Contract.{IsWithinLimits, is_built, procedure_at}
+use Rattle.air_select.specs.Contract.{IsWithinLimits, procedure_at}
 use Rattle.a64_object.specs.Made.{IsMadeOf, IsPlacedOf}
-use Rattle.a64_object.specs.Taken.{HasFewSlots, IsTaken, bytes_in}
-use Rattle.a64_object.proofs.Agreeing.{rows_length, ten_saved, text_of}
-use Rattle.a64_object.proofs.Items.{IsText}
+use Rattle.a64_object.specs.Taken.{HasFewSlots, IsTaken, bytes_in, is_check}
+use Rattle.a64_object.proofs.Agreeing.{rows_length, ten_saved}
 use Rattle.a64_layout.proofs.Words.{words_length}
-use Rattle.a64_object.proofs.Placed.{all_of, one_in}
-
--- ---- lists
-pub get_front : {X : Type 0} (a b : List X) (n : ℕ) (x : X) → slice_get a n ≡ Some x → slice_get (a ++ b) n ≡ Some x
-get_front [] b n x e = cc
-get_front (y ∷ a) b zero x e = e
-get_front (y ∷ a) b (suc n) x e = get_front a b n x e
-
-pub get_behind : {X : Type 0} (a b : List X) (n : ℕ) → slice_get (a ++ b) (length a + n) ≡ slice_get b n
-get_behind [] b n = ap (slice_get b) (omega arith)
-get_behind (x ∷ a) b n = let e : length (x ∷ a) + n ≡ suc (length a + n) = omega arith in ap (slice_get (x ∷ (a ++ b))) e ∙ get_behind a b n
-
-pub take_more : {X : Type 0} (xs : List X) (at : ℕ) (x : X) → slice_get xs at ≡ Some x → take (at + 1) xs ≡ take at xs ++ x ∷ []
-take_more xs at x there =
-    ap (λ n. take n xs) (next at) ∙ take-suc xs at x (slice_get_within xs at x there) ∙ ap (λ y. take at xs ++ y ∷ []) (get_or_from_slice_get xs at x x there)
-  where
-    next : (n : ℕ) → n + 1 ≡ suc n
-    next n = omega arith
-
-all_front : {X : Type 0} (P : X → Type 0) (a b : List X) → All P (a ++ b) → All P a
-all_front P a b all = all_of P a (λ k x there. one_in P (a ++ b) k x (get_front a b k x there) all)
-
-all_behind : {X : Type 0} (P : X → Type 0) (a b : List X) → All P (a ++ b) → All P b
-all_behind P a b all = all_of P b (λ k x there. one_in P (a ++ b) (length a + k) x (get_behind a b k ∙ there) all)
+use Rattle.air_fold.proofs.Places.{take_item}
+use Rattle.air_spill.proofs.Members.{all_left, all_right}
+use Rattle.a64_object.proofs.Lists.{all_of}
 
 -- ---- what is supported is taken
-code_built : (op : Opcode) → opcode_has_code op ≡ true → is_built op ≡ true
-code_built opcode.CCall e = cc
-code_built opcode.Patchpoint e = cc
-code_built opcode.Check e = cc
-code_built opcode.CheckAdd e = cc
-code_built opcode.CheckSub e = cc
-code_built opcode.CheckMul e = cc
-code_built _ e = refl
+code_unchecked : (op : Opcode) → opcode_has_code op ≡ true → is_check op ≡ false
+code_unchecked opcode.Check e = cc
+code_unchecked opcode.CheckAdd e = cc
+code_unchecked opcode.CheckSub e = cc
+code_unchecked opcode.CheckMul e = cc
+code_unchecked _ e = refl
 
-not_false : (b : Bool) → not b ≡ true → b ≡ false
-not_false true e = cc
-not_false false e = refl
-
-value_built : (v : Value) → HasCode v → is_built v.kind.opcode ≡ true
-value_built v has = code_built v.kind.opcode (and_parts (opcode_has_code v.kind.opcode) (not v.kind.traps) has).0
-
-value_untrapped : (v : Value) → HasCode v → v.kind.traps ≡ false
-value_untrapped v has = not_false v.kind.traps (and_parts (opcode_has_code v.kind.opcode) (not v.kind.traps) has).1
+value_unchecked : (v : Value) → HasCode v → is_check v.kind.opcode ≡ false
+value_unchecked v has = code_unchecked v.kind.opcode has
 
 -- what holds of each value that has code holds of all, block by block
 module _ (P : Value → Type 0) (each : (v : Value) → HasCode v → P v) where
@@ -86,16 +56,18 @@ module _ (P : Value → Type 0) (each : (v : Value) → HasCode v → P v) where
       let rest = flat_map (λ (x : Block). x.values) blocks in
       let parts : All HasCode (b.values ++ rest) = subst (All HasCode) (flat_map-cons (λ (x : Block). x.values) b blocks) all in
       All-cons (λ (x : Block). All P x.values) b blocks
-      (All-weaker HasCode P each b.values (all_front HasCode b.values rest parts))
-      (in_blocks blocks (all_behind HasCode b.values rest parts))
+      (All-weaker HasCode P each b.values (all_left HasCode b.values rest parts))
+      (in_blocks blocks (all_right HasCode b.values rest parts))
 
 sizes_of : (p : Procedure) → IsValidProcedure p → All (λ (slot : SlotLine). 1 ≤ slot.bytes) p.slots
-sizes_of p valid = all_of (λ (slot : SlotLine). 1 ≤ slot.bytes) p.slots (λ k slot there. let keeps : (slot.number ≡ k) × (0 < slot.bytes) = valid rule.Slots (SlotAt k slot) there in omega (arith, keeps.1))
+sizes_of p valid = all_of (λ (slot : SlotLine). 1 ≤ slot.bytes) p.slots
+    (λ k slot there. let keeps : (slot.number ≡ k) × (0 < slot.bytes) = valid rule.Slots (SlotAt k slot) there in omega (arith, keeps.1))
 
 pub taken : (p : Procedure) → IsSupported p → IsWithinLimits p → HasFewSlots p → IsTaken p
 taken p is limits slots = record {
-  built = in_blocks (λ (v : Value). is_built v.kind.opcode ≡ true) value_built p.blocks is.forms.values;
-  untrapped = in_blocks (λ (v : Value). v.kind.traps ≡ false) value_untrapped p.blocks is.forms.values;
+  valid = is.valid;
+  fit = is.fit;
+  unchecked = in_blocks (λ (v : Value). is_check v.kind.opcode ≡ false) value_unchecked p.blocks is.forms.values;
   sizes = sizes_of p is.valid;
   limits = limits;
   slots = slots;
@@ -117,7 +89,13 @@ rounded_up n = omega arith
 slots_rounded : (slots : List SlotLine) → slot_bytes (map (λ (slot : SlotLine). slot.bytes) slots) ≤ sum_by bytes_in slots + 15 * length slots
 slots_rounded [] = omega arith
 slots_rounded (slot ∷ slots) =
-    omega (arith, sum_by-cons rounded slot.bytes (map (λ (s : SlotLine). s.bytes) slots), sum_by-cons bytes_in slot slots, rounded_up slot.bytes, slots_rounded slots)
+    omega (
+      arith,
+      sum_by-cons rounded slot.bytes (map (λ (s : SlotLine). s.bytes) slots),
+      sum_by-cons bytes_in slot slots,
+      rounded_up slot.bytes,
+      slots_rounded slots,
+    )
 
 pub room_asked : (p : Procedure) (air : AirProc) → IsTaken p → IsPlacedOf p air → HaveRoom air.slots (spill_count air)
 room_asked p air is placed =
@@ -148,20 +126,22 @@ rows_append (x ∷ offsets) (y ∷ sizes) offset size same = ap (λ rows. row_at
 
 -- one row more
 pub rows_more : (offsets sizes : List ℕ) (k offset size : ℕ) (rows next : List SlotRow) → length offsets ≡ length sizes
-    → slice_get offsets k ≡ Some offset → slice_get sizes k ≡ Some size → rows ≡ slot_rows (take k offsets) (take k sizes) → next ≡ rows ++ row_at offset size ∷ []
+    → slice_get offsets k ≡ Some offset → slice_get sizes k ≡ Some size → rows ≡ slot_rows (take k offsets) (take k sizes)
+    → next ≡ rows ++ row_at offset size ∷ []
     → next ≡ slot_rows (take (k + 1) offsets) (take (k + 1) sizes)
 rows_more offsets sizes k offset size rows next same at its so_far more =
-    let few : length (take k offsets) ≡ length (take k sizes) = omega (arith, length-take k offsets, length-take k sizes, slice_get_within offsets k offset at, same) in
+    let few : length (take k offsets) ≡ length (take k sizes) =
+    omega (arith, length-take k offsets, length-take k sizes, slice_get_within offsets k offset at, same) in
     more ∙ ap (λ (rs : List SlotRow). rs ++ row_at offset size ∷ []) so_far ∙ sym (rows_append (take k offsets) (take k sizes) offset size few)
-    ∙ ap (λ xs. slot_rows xs (take k sizes ++ size ∷ [])) (sym (take_more offsets k offset at)) ∙ ap (slot_rows (take (k + 1) offsets)) (sym (take_more sizes k size its))
+    ∙ ap (λ xs. slot_rows xs (take k sizes ++ size ∷ [])) (sym (take_item offsets k offset at))
+    ∙ ap (slot_rows (take (k + 1) offsets)) (sym (take_item sizes k size its))
 
 -- ---- what is known of the words
-module _ (p : Procedure) (words : List ℕ) (row : FrameRow) (made : IsMadeOf p words row) where
+module _ (p : Procedure) (words : List ℕ) (row : FrameRow) (rows : List SiteRow) (made : IsMadeOf p words row rows) where
   pub some_words : 1 ≤ length words
   some_words =
-      let text : IsText made.code made.is_text.0 made.text.words = text_of made.code made.text made.is_code.labelled made.is_code.unmarked made.is_text made.unmarked in
       let behind = made.is_code.behind made.is_text.0 0 made.placed.well.entry in
-      let count = ap length text.words_are ∙ words_length made.code made.is_text.0 (length made.code) in
+      let count = ap length made.is_text.3.words ∙ words_length made.code made.is_text.0 (length made.code) in
       let same = ap length made.words_are in
       omega arith
 

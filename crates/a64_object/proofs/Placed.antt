@@ -1,20 +1,22 @@
 -- A procedure that is selected and rewritten is placed.
-use Rattle.std.proofs.Common.{◌≡◌, ℕ, suc, ◌+◌, ◌*◌, ◌≤◌, true, false, List, [], ◌∷◌, Some, length, refl, sym, ap, ◌∙◌, subst, arith}
-use Rattle.std.specs.Prelude.{All, map, slice_get}
+use Rattle.std.proofs.Common.{◌≡◌, ℕ, ◌+◌, ◌*◌, ◌≤◌, true, Some, length, sym, ap, ◌∙◌, arith}
+use Rattle.std.specs.Prelude.{All, map}
 use Rattle.std.proofs.lemmas.List.{length-map}
-use Rattle.std.proofs.lemmas.List.Elements.{All-cons, All-get_or, All-nil, All-weaker}
-use Rattle.std.proofs.lemmas.Option.{get_or_from_slice_get, slice_get_within}
-use Rattle.b3_ir.specs.Procedure.{Procedure, total}
+use Rattle.std.proofs.lemmas.List.Elements.{All-weaker}
+use Rattle.b3_ir.specs.Naming.{value_named}
+use Rattle.b3_ir.specs.Procedure.{AllFit, Procedure, total}
 use Rattle.b3_ir.specs.declared.opcode.Ty.TheVariants.{Int32, Int64}
 use Rattle.b3_ir.specs.declared.procedure.SlotLine.{SlotLine}
+use Rattle.b3_ir.specs.declared.value.Value.{Value}
+use Rattle.b3_rules.specs.Valid.{IsValidProcedure}
 use Rattle.stackmap.specs.declared.site.Returns.TheVariants.{W32, W64}
-use Rattle.air_ir.specs.Kinds.{Kind, Copies, Computes, Loads, Stores, SlotAddresses, FramePointers, Branches, Jumps, Switches, Returns, Fails, kind_of}
+use Rattle.air_ir.specs.Expressed.{IsExpressed}
+use Rattle.air_ir.specs.Kinds.{kind_of, makes_site}
 use Rattle.air_ir.specs.Run.{BlocksThrough, HasBlocksOf, HasSameBlocks}
 use Rattle.air_ir.specs.Weight.{weight}
-use Rattle.air_ir.specs.WellFormed.{IsSpillBelow, IsWellFormed, NamesSpillsBelow, SpillsBelow, StandsAt}
+use Rattle.air_ir.specs.WellFormed.{HasOneSiteEach, IsSpillBelow, IsWellFormed, NamesSpillsBelow, SpillsBelow, StandsAt}
 use Rattle.air_ir.specs.declared.assignment.Assignment.{Assignment}
 use Rattle.air_ir.specs.declared.op.AirOp.{AirOp}
-use Rattle.air_ir.specs.declared.op.AirOp.TheVariants.{Shuffle}
 use Rattle.air_ir.specs.declared.operand.Arg.{Arg}
 use Rattle.air_ir.specs.declared.operand.Arg.TheVariants.{At, Addr, Index}
 use Rattle.air_ir.specs.declared.operand.Home.{Home}
@@ -25,10 +27,12 @@ use Rattle.air_ir.specs.declared.procedure.AirInst.{AirInst}
 use Rattle.air_ir.specs.declared.procedure.AirProc.{AirProc}
 use Rattle.air_frame.specs.Counts.{CountsBelow, NamesCounted}
 use Rattle.air_spill.specs.Rewritten.{home_by, rewritten, rewritten_block}
-use Rattle.air_spill.specs.Stays.{ComesFrom, ComesFromEach}
-use Rattle.air_select.specs.Contract.{IsFew, IsSelected, IsUntrapped, ReturnsType, child_count, is_selected, is_selected_kind}
-use Rattle.a64_emit.specs.Built.{IsBuilt, is_built, is_built_kind}
-use Rattle.a64_object.specs.Made.{IsPlacedOf}
+use Rattle.air_spill.specs.Stays.{ComesFromEach}
+use Rattle.air_select.specs.Contract.{AreExpressed, AreMadeFor, IsFew, ReturnsType, child_count, has_stackmap}
+use Rattle.a64_emit.specs.Built.{IsBuilt}
+use Rattle.a64_object.specs.Made.{IsExpressedEach, IsPlacedOf}
+use Rattle.a64_object.proofs.Lists.{one_in}
+use Rattle.a64_object.proofs.Values.{named_in, placeable}
 
 -- ---- spill places
 home_below : (m n : ℕ) → m ≤ n → (h : Home) → IsSpillBelow m h → IsSpillBelow n h
@@ -46,62 +50,46 @@ spills_below m n p le below =
     All-weaker
     (λ (b : AirBlock). All (λ (i : AirInst). All (λ (o : Operand). SpillsBelow m o.arg) i.operands) b.insts)
     (λ (b : AirBlock). All (λ (i : AirInst). All (λ (o : Operand). SpillsBelow n o.arg) i.operands) b.insts)
-    (λ b. All-weaker (λ (i : AirInst). All (λ (o : Operand). SpillsBelow m o.arg) i.operands) (λ (i : AirInst). All (λ (o : Operand). SpillsBelow n o.arg) i.operands)
+    (λ b. All-weaker (λ (i : AirInst). All (λ (o : Operand). SpillsBelow m o.arg) i.operands)
+    (λ (i : AirInst). All (λ (o : Operand). SpillsBelow n o.arg) i.operands)
     (λ i. All-weaker (λ (o : Operand). SpillsBelow m o.arg) (λ (o : Operand). SpillsBelow n o.arg) (λ o. arg_below m n le o.arg) i.operands) b.insts)
     p.blocks below
 
 -- ---- ops
-pub all_of : {X : Type 0} (P : X → Type 0) (xs : List X) → ((k : ℕ) (x : X) → slice_get xs k ≡ Some x → P x) → All P xs
-all_of P [] each = All-nil P
-all_of P (x ∷ xs) each = All-cons P x xs (each 0 x refl) (all_of P xs (λ k y there. each (suc k) y there))
-
-pub one_in : {X : Type 0} (P : X → Type 0) (xs : List X) (k : ℕ) (x : X) → slice_get xs k ≡ Some x → All P xs → P x
-one_in P xs k x there all = subst P (get_or_from_slice_get xs k x x there) (All-get_or P xs k x (slice_get_within xs k x there) all)
-
--- what is selected and doesn't trap is emitted
-kind_built : (k : Kind) → is_selected_kind k ≡ true → is_built_kind k false ≡ true
-kind_built Copies is = refl
-kind_built Computes is = refl
-kind_built (Loads extent extends) is = refl
-kind_built (Stores extent) is = refl
-kind_built SlotAddresses is = refl
-kind_built FramePointers is = refl
-kind_built (Branches test) is = refl
-kind_built Jumps is = refl
-kind_built (Switches cases) is = refl
-kind_built Returns is = refl
-kind_built Fails is = refl
-kind_built _ is = absurd cc
-
-op_built : (o : AirOp) → is_selected o ≡ true → is_built o false ≡ true
-op_built Shuffle is = absurd cc
-op_built o is = kind_built (kind_of o) is
-
--- an instruction that comes from one that is selected and doesn't trap
-inst_built : (i j : AirInst) → ComesFrom i j → is_selected i.op ≡ true → i.traps ≡ false → is_built j.op j.traps ≡ true
-inst_built i j from op traps =
-    subst (λ o. is_built o j.traps ≡ true) (sym from.op) (subst (λ t. is_built i.op t ≡ true) (sym (from.traps ∙ traps)) (op_built i.op op))
-
 -- what holds of each instruction of a procedure holds of one of them
-inst_at : (P : AirInst → Type 0) (q : AirProc) (block place : ℕ) (i : AirInst) → All (λ (b : AirBlock). All P b.insts) q.blocks → StandsAt q block place i → P i
+pub inst_at : (P : AirInst → Type 0) (q : AirProc) (block place : ℕ) (i : AirInst) → All (λ (b : AirBlock). All P b.insts) q.blocks → StandsAt q block place i → P i
 inst_at P q block place i all at = one_in P at.of.insts place i at.inst_there (one_in (λ (b : AirBlock). All P b.insts) q.blocks block at.of at.block_there all)
 
-built_of : (q r : AirProc) → ComesFromEach q r → IsSelected q → IsUntrapped q → IsBuilt r
-built_of q r comes selected untrapped =
-    all_of (λ (b : AirBlock). All (λ (i : AirInst). is_built i.op i.traps ≡ true) b.insts) r.blocks
-    (λ n block block_there. all_of (λ (i : AirInst). is_built i.op i.traps ≡ true) block.insts
-    (λ k j inst_there.
-    let from = comes n k j (record { of = block; block_there = block_there; inst_there = inst_there }) in
-    inst_built from.1 j from.3 (inst_at (λ (x : AirInst). is_selected x.op ≡ true) q n from.0 from.1 selected from.2)
-    (inst_at (λ (x : AirInst). x.traps ≡ false) q n from.0 from.1 untrapped from.2)))
+-- ---- sites
+-- what is rewritten of what is expressed is that in places, and obeys
+expressed_each : (p : Procedure) (q r : AirProc) → IsValidProcedure p → AllFit p.blocks → AreExpressed p q → ComesFromEach q r → IsExpressedEach p r
+expressed_each p q r valid fit expressed comes block place j at is =
+    let from = comes block place j at in
+    let i = from.1 in
+    let same : has_stackmap (kind_of i.op) ≡ true = ap (λ (o : AirOp). has_stackmap (kind_of o)) (sym from.3.op) ∙ is in
+    let of = expressed block from.0 i from.2 same in
+    let named = named_in p fit i.value of.0 of.1 in
+    let rules = placeable p valid named.block named.place of.0 named.there of.2.stackmap of.2.carries in
+    (of.0, ap (value_named p) from.3.value ∙ of.1, from.3.obeys p of.0 named.fits rules of.2)
+
+-- and what makes a site makes it for the value that it did
+made_for_each : (p : Procedure) (q r : AirProc) → AreMadeFor p q → ComesFromEach q r → AreMadeFor p r
+made_for_each p q r made comes block place j at is =
+    let from = comes block place j at in
+    let i = from.1 in
+    let same : makes_site (kind_of i.op) i.traps ≡ true =
+    ap (λ (o : AirOp). makes_site (kind_of o) i.traps) (sym from.3.op) ∙ ap (makes_site (kind_of j.op)) (sym from.3.traps) ∙ is in
+    let of = made block from.0 i from.2 same in
+    (of.0, ap (value_named p) from.3.value ∙ of.1)
 
 -- ---- all of it
-pub placed_of : (p : Procedure) (q r : AirProc) (a : Assignment) → BlocksThrough → CountsBelow → NamesCounted
+pub placed_of : (p : Procedure) (q r : AirProc) (a : Assignment) → IsValidProcedure p → AllFit p.blocks → BlocksThrough → CountsBelow → NamesCounted
     → HasBlocksOf p q → weight q ≤ 120 * total p + 32 * child_count p + 256 → IsFew p q → q.slots ≡ map (λ (slot : SlotLine). slot.bytes) p.slots
-    → (q.returns ≡ W32 → ReturnsType p Int32) → (q.returns ≡ W64 → ReturnsType p Int64) → IsSelected q → IsUntrapped q
+    → (q.returns ≡ W32 → ReturnsType p Int32) → (q.returns ≡ W64 → ReturnsType p Int64) → IsBuilt r → AreMadeFor p q → AreExpressed p q
     → r ≡ rewritten q a → HasSameBlocks q r → IsWellFormed r → r.tmps ≡ 0 → (r.slots ≡ q.slots) × (r.returns ≡ q.returns)
-    → NamesSpillsBelow (56 + q.tmps) r → weight r ≤ weight q → ComesFromEach q r → IsPlacedOf p r
-placed_of p q r a through counts named blocks light few slots returns_32 returns_64 selected untrapped is same well no_tmps kept spills lighter comes =
+    → NamesSpillsBelow (56 + q.tmps) r → weight r ≤ weight q → HasOneSiteEach q → (HasOneSiteEach q → HasOneSiteEach r) → ComesFromEach q r → IsPlacedOf p r
+placed_of p q r a valid fit through counts named blocks light few slots returns_32 returns_64 built made expressed is same well no_tmps kept spills
+    lighter sites sites_kept comes =
     let count = counts (56 + q.tmps) r spills in
     let names = named r in
     let tmps = few.tmps in
@@ -110,7 +98,10 @@ placed_of p q r a through counts named blocks light few slots returns_32 returns
       same = through p q r blocks same;
       well = well;
       no_tmps = no_tmps;
-      built = built_of q r comes selected untrapped;
+      built = built;
+      one_site = sites_kept sites;
+      made_for = made_for_each p q r made comes;
+      expressed = expressed_each p q r valid fit expressed comes;
       blocks = ap (λ (x : AirProc). length x.blocks) is ∙ length-map q.blocks (rewritten_block (home_by a)) ∙ few.blocks;
       light = omega arith;
       spills = omega arith;

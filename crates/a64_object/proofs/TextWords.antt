@@ -69,7 +69,8 @@ module _ (items : List Item) (good : IsWellLabelled items) (long : Set) (enough 
   plain_word k zero inst there lt = by_word k 0 (Plain inst) inst there refl (good.insts k inst there) (inl there)
   plain_word k (suc i) inst there lt = absurd (omega arith)
 
-  goes_to : (k label : ℕ) → k ≤ length items → label_place items long label < 2 ^ 24 → IsWellFormed (Branch (distance (place items long k) (label_place items long label)))
+  goes_to : (k label : ℕ) → k ≤ length items → label_place items long label < 2 ^ 24
+      → IsWellFormed (Branch (distance (place items long k) (label_place items long label)))
   goes_to k label le far = jump_good (place items long k) (label_place items long label) (place_short items good long k le) far
 
   jump_words : (k i label : ℕ) → slice_get items k ≡ Some (Jump label) → i < 1 → HasWord items long words k i
@@ -126,7 +127,8 @@ module _ (items : List Item) (good : IsWellLabelled items) (long : Set) (enough 
   has_word k i lt = word_in k i (slice_get items k) refl lt
 
   -- and the word of an instruction
-  pub plain_at : (k : ℕ) (inst : Inst) → slice_get items k ≡ Some (Plain inst) → (slice_get words (place items long k) ≡ Some (word inst)) × (decode (word inst) ≡ Some inst)
+  pub plain_at : (k : ℕ) (inst : Inst) → slice_get items k ≡ Some (Plain inst) → (slice_get words (place items long k) ≡ Some (word inst))
+      × (decode (word inst) ≡ Some inst)
   plain_at k inst there =
       let e : place items long k ≡ place items long k + 0 = omega arith in (
         ap (slice_get words) e ∙ ap (λ ws. slice_get ws (place items long k + 0)) words_are ∙ word_at items long k 0 (Plain inst) (word inst) there refl,

@@ -1,19 +1,21 @@
 //! The object of a module.
 
-ghost use Rattle.std.specs.Prelude.{◌≡◌, ◌<◌, ◌≤◌, ◌^◌, ◌++◌, length, All, IfOk, OnOk};
+ghost use Rattle.std.specs.Prelude.{◌≡◌, ◌*◌, ◌<◌, ◌≤◌, ◌^◌, ◌++◌, length, map, All, IfOk, OnOk};
 ghost use Rattle.b3_ir.specs.Procedure.{procedures};
 ghost use Rattle.b3_supported.specs.Supported.{AreSupported};
 ghost use Rattle.elf_obj.specs.Size.{size_bound};
 ghost use Rattle.a64_run.specs.CodeOf.{IsCodeOf};
 ghost use Rattle.air_select.specs.Contract.{procedure_at};
-ghost use Rattle.a64_object.specs.Joined.{IsJoinedOf, IsPartOf, Part, with_part};
+ghost use Rattle.a64_object.specs.Joined.{IsJoinedOf, IsPartOf, Part, site_from, with_part};
+ghost use Rattle.a64_object.specs.Made.{site_rows};
 ghost use Rattle.a64_object.specs.Taken.{AreWithinLimits, IsTaken};
 
 use crate::procedure::procedure_text;
-use b3_base::{CodeWords, Name, NoMemory};
+use b3_base::{CodeWords, Ids, Name, NoMemory};
 use b3_validate::Valid;
 use elf_obj::{Object, Symbol, Symbols};
-use exit_table::{FrameRows, SiteRows, Tables};
+use exit_table::{FrameRows, SiteRow, SiteRows, Tables};
+use stackmap::{Site, Sites};
 use std::alloc::Global;
 
 /// The object of a valid module's procedures with their code, one after the other; its file has at most 134,217,728
@@ -60,7 +62,8 @@ fn push_procedure(
     requires there { at < length valid.now }
     requires taken { IsTaken (procedure_at valid.now at) }
     requires short { length object.old.text < 2 ^ 24 }
-    ensures { OnOk result ((part : Part) × IsPartOf (procedure_at valid.now at) part × (object.new ≡ with_part object.old part)) }
+    ensures { OnOk result ((part : Part) × IsPartOf (procedure_at valid.now at) part
+        × (object.new ≡ with_part object.old part)) }
 {
     let made = procedure_text(alloc, valid, at)?;
     let symbol = Symbol {
@@ -68,10 +71,55 @@ fn push_procedure(
         offset: 4 * object.text.len() as u32,
         size: 4 * made.words.len() as u32,
     };
+    let first = object.text.len() as u32;
+    push_sites(
+        alloc,
+        &mut object.tables.sites,
+        first,
+        &made.marks,
+        &made.sites,
+    )?;
     push_words(&mut object.text, &made.words)?;
     object.symbols.push(symbol)?;
     object.tables.frames.push(made.row)?;
     Ok(())
+}
+
+/// The sites of a text at the end of these rows, where so many words stand before the text: each begins at the word of
+/// its mark.
+fn push_sites(
+    alloc: Global,
+    rows: &mut SiteRows,
+    first: u32,
+    marks: &Ids,
+    sites: &Sites,
+) -> Result<(), NoMemory>
+    requires each { length marks.now ≡ length sites.now }
+    requires within { All (λ mark. mark < 2 ^ 24) marks.now }
+    requires short { first < 2 ^ 24 }
+    ensures { OnOk result (rows.new ≡ rows.old ++ map (site_from (4 * first)) (site_rows marks.now sites.now)) }
+{
+    for k in 0..marks.len() {
+        rows.push(SiteRow {
+            pc: 4 * (first + *marks.get(k)),
+            site: copied(alloc, sites.get(k))?,
+        })?;
+    }
+    Ok(())
+}
+
+/// A site like this one.
+fn copied(alloc: Global, site: &Site) -> Result<Site, NoMemory>
+    ensures { IfOk result (λ other. other ≡ site.now) }
+{
+    Ok(Site {
+        kind: site.kind,
+        value: site.value,
+        size: site.size,
+        reps: site.reps.copy(alloc)?,
+        result: site.result,
+        clobbers: site.clobbers,
+    })
 }
 
 /// Words at the end of a text.
@@ -82,4 +130,57 @@ fn push_words(text: &mut CodeWords, words: &CodeWords) -> Result<(), NoMemory>
         text.push(*words.get(k))?;
     }
     Ok(())
+}
+
+#[cfg(test)]
+mod tests {
+    use super::*;
+    use b3_ir::RegSet;
+    use stackmap::{Place, Places, Rep, SiteKind};
+    use std::test::Fail;
+
+    /// An exit of a value that reports one constant.
+    fn exit(alloc: Global, value: u32) -> Result<Site, NoMemory>
+        ensures { IfOk result (λ site. site.value ≡ value) }
+    {
+        let mut reps = Places::new(alloc);
+        reps.push(Place {
+            width: b3_base::Width::W32,
+            rep: Rep::Constant(5),
+        })?;
+        Ok(Site {
+            kind: SiteKind::Exit,
+            value,
+            size: 1,
+            reps,
+            result: None,
+            clobbers: RegSet::new(),
+        })
+    }
+
+    #[test]
+    fn sites_stand_where_their_marks_do_behind_the_text_before(
+        rt: HostRuntime,
+    ) -> Result<(), Fail> {
+        let mut marks = Ids::new(rt.alloc());
+        marks.push(1)?;
+        marks.push(5)?;
+        let mut sites = Sites::new(rt.alloc());
+        sites.push(exit(rt.alloc(), 7)?)?;
+        sites.push(exit(rt.alloc(), 9)?)?;
+        let mut rows = SiteRows::new(rt.alloc());
+        push_sites(rt.alloc(), &mut rows, 0, &marks, &sites)?;
+        push_sites(rt.alloc(), &mut rows, 10, &marks, &sites)?;
+        let mut told = Ids::new(rt.alloc());
+        for row in rows.as_slice() {
+            told.push(row.pc)?;
+            told.push(row.site.value)?;
+            told.push(row.site.size)?;
+        }
+        assert_eq!(rt;
+            told.as_slice(),
+            [4, 7, 1, 20, 9, 1, 44, 7, 1, 60, 9, 1].as_slice()
+        );
+        Ok(())
+    }
 }

@@ -1,6 +1,6 @@
 //! The passes of one procedure, one after the other.
 
-ghost use Rattle.std.specs.Prelude.{◌≡◌, ◌^◌, ◌<◌, ◌≤◌, length, IfOk};
+ghost use Rattle.std.specs.Prelude.{◌≡◌, ◌^◌, ◌<◌, ◌≤◌, length, All, IfOk};
 ghost use Rattle.air_ir.specs.Weight.{weight};
 ghost use Rattle.air_ir.specs.WellFormed.{IsWellFormed};
 ghost use Rattle.air_flow.specs.Proper.{IsProper};
@@ -9,7 +9,7 @@ ghost use Rattle.air_graph.specs.declared.interference.Interference.{Interferenc
 ghost use Rattle.air_colour.specs.Assigned.{IsColouringOf};
 ghost use Rattle.air_frame.specs.Frames as frames;
 ghost use Rattle.air_select.specs.Contract.{procedure_at};
-ghost use Rattle.a64_object.specs.Made.{IsColouredOf, IsMadeOf, IsPlacedOf};
+ghost use Rattle.a64_object.specs.Made.{IsColouredOf, IsMadeOf, IsPlacedOf, site_rows};
 ghost use Rattle.a64_object.specs.Taken.{IsTaken};
 
 use a64_emit::emit;
@@ -25,14 +25,16 @@ use b3_base::{CodeWords, Ids, NoMemory};
 use b3_validate::Valid;
 use exit_table::FrameRow;
 use flow_live::live;
-use stackmap::{Returns, SlotRow, SlotRows};
+use stackmap::{Returns, Sites, SlotRow, SlotRows};
 use std::alloc::Global;
 
-/// The words of a procedure's code, and the row of its frame.
+/// The words of a procedure's code, the row of its frame, and its sites: each begins at the word of its mark.
 #[derive(Drop)]
 pub struct ProcedureText {
     pub words: CodeWords,
     pub row: FrameRow,
+    pub marks: Ids,
+    pub sites: Sites,
 }
 
 /// Registers for the temporaries of a procedure, by colouring its interference graph. It is refused for want of memory
@@ -69,12 +71,14 @@ pub fn placed_procedure(alloc: Global, valid: &Valid, proc: usize) -> Result<Air
     Ok(placed)
 }
 
-/// The text of a procedure of a valid module, by its place: it is selected, rewritten, laid out, emitted and resolved. It
-/// is refused for want of memory alone.
+/// The text of a procedure of a valid module, by its place: it is selected, rewritten, laid out, emitted and resolved.
+/// It is refused for want of memory alone.
 pub fn procedure_text(alloc: Global, valid: &Valid, proc: usize) -> Result<ProcedureText, NoMemory>
     requires there { proc < length valid.now }
     requires taken { IsTaken (procedure_at valid.now proc) }
-    ensures made { IfOk result (λ t. IsMadeOf (procedure_at valid.now proc) t.words t.row) }
+    ensures made { IfOk result (λ t. IsMadeOf (procedure_at valid.now proc) t.words t.row (site_rows t.marks t.sites)) }
+    ensures marks { IfOk result (λ t. length t.marks ≡ length t.sites) }
+    ensures within { IfOk result (λ t. All (λ mark. mark < 2 ^ 24) t.marks) }
 {
     let placed = placed_procedure(alloc, valid, proc)?;
     let frame = layout(alloc, &placed)?;
@@ -84,6 +88,8 @@ pub fn procedure_text(alloc: Global, valid: &Valid, proc: usize) -> Result<Proce
     Ok(ProcedureText {
         words: text.words,
         row,
+        marks: text.marks,
+        sites: emitted.sites,
     })
 }
 

@@ -321,7 +321,7 @@ module _ (p : Procedure) (t : Tables) (start : Start) (v : Value) (h : Here p t 
           (load_means Done e ∙ ap (gives_word s.world) (loaded_is extends bytes found w g))
           (writes_use width at (def_at width to ∷ []) ∙ writes_def width to))))
       load_by (Trap first) e =
-          let ended = one_end start load_inst s junk ((width_of v.ty, address) ∷ []) (Trapped v.id first) load_words (load_means (Trap first) e) in (
+          let ended = one_end start load_inst s junk ((width_of v.ty, address) ∷ []) s.world (Trapped v.id first) load_words (load_means (Trap first) e) in (
             Trapped v.id first,
             ended.0,
             ended.1,
@@ -380,7 +380,8 @@ module _ (p : Procedure) (t : Tables) (start : Start) (v : Value) (h : Here p t 
             store_related,
           )
       store_by (Trap first) e =
-          let ended = one_end start store_inst s junk ((width, word) ∷ (width, address) ∷ []) (Trapped v.id first) store_words (store_means (Trap first) e) in (
+          let ended = one_end start store_inst s junk ((width, word) ∷ (width, address) ∷ []) s.world (Trapped v.id first) store_words
+          (store_means (Trap first) e) in (
             Trapped v.id first,
             ended.0,
             ended.1,

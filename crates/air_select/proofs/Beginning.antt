@@ -30,7 +30,7 @@ use Rattle.air_select.specs.Temporaries.{argument}
 use Rattle.air_select.proofs.Does.{HasArguments}
 use Rattle.air_select.proofs.Instructions.{at_home, one_leave, one_word, reads_def, reads_none, reads_use, steps_last, with_home, writes_def, writes_none, writes_use}
 use Rattle.air_select.proofs.Related.{Related, holds_word, put_here, put_there}
-use Rattle.air_select.proofs.SameBlocks.{Alike, AllBuilt, NamesNone, block_alike, runs_alike, seen_alike}
+use Rattle.air_select.proofs.SameBlocks.{Alike, AllPlaced, NamesNone, block_alike, runs_alike, seen_alike}
 use Rattle.air_select.proofs.Setting.{IsSound}
 
 module _ (t : Tables) (vs : List Value) (start : Start) (ranged : IsRangedStart start) (value : ℕ) (s₀ : State) (junk : List ℕ)
@@ -129,7 +129,7 @@ module _ (t : Tables) (vs : List Value) (start : Start) (ranged : IsRangedStart 
         moves.2,
       )
 
-module _ (p : Procedure) (valid : IsKept p) (t : Tables) (sound : IsSound p t) (built : AllBuilt p) (names_none : NamesNone p) (has_arguments : HasArguments p)
+module _ (p : Procedure) (valid : IsKept p) (t : Tables) (sound : IsSound p t) (placed : AllPlaced p) (names_none : NamesNone p) (has_arguments : HasArguments p)
     (q : AirProc) (blocks_are : q.blocks ≡ entry_of t.index (values_of p 0) ∷ map (block_code t) p.blocks) where
   module _ (start : Start) (answers : List Answer) (started : IsStarted p start answers) where
     first_state : State
@@ -166,25 +166,25 @@ module _ (p : Procedure) (valid : IsKept p) (t : Tables) (sound : IsSound p t) (
     unfolding iterate b3_state
     first_reached = run_sound p valid start answers started 0
 
-    after_first : (junk : List ℕ) → Alike p valid t sound built names_none has_arguments start answers started junk
+    after_first : (junk : List ℕ) → Alike p valid t sound placed names_none has_arguments start answers started
         (b3.block_step p start (b3.first start answers)) (run_step (meaning start) q (first start answers, junk))
     unfolding run_step b3_state
     after_first junk =
         let entry = entered_at junk in
         let reached = first_reached in
-        subst (λ (x : Config × List ℕ). Alike p valid t sound built names_none has_arguments start answers started junk
+        subst (λ (x : Config × List ℕ). Alike p valid t sound placed names_none has_arguments start answers started
         (b3.block_step p start (b3.first start answers)) (block_step (meaning start) q x)) (sym entry.1)
-        (block_alike p valid t sound built names_none has_arguments start answers started q (entry_of t.index (values_of p 0))
+        (block_alike p valid t sound placed names_none has_arguments start answers started q (entry_of t.index (values_of p 0))
         blocks_are junk 0 b3_state entry.0 entry.2 reached.0 reached.1)
 
     same_after : (junk : List ℕ) (n : ℕ) → ¬ (IsUndefined (b3.b3_run p start answers n)) → air_run q start answers junk n ≡ b3.b3_run p start answers n
     unfolding iterate
     same_after junk zero defined = refl
     same_after junk (suc n) defined =
-        seen_alike p valid t sound built names_none has_arguments start answers started junk
+        seen_alike p valid t sound placed names_none has_arguments start answers started
         (iterate (b3.block_step p start) n (b3.block_step p start (b3.first start answers)))
         (iterate (run_step (meaning start) q) n (run_step (meaning start) q (first start answers, junk)))
-        (runs_alike p valid t sound built names_none has_arguments start answers started q (entry_of t.index (values_of p 0)) blocks_are junk n
+        (runs_alike p valid t sound placed names_none has_arguments start answers started q (entry_of t.index (values_of p 0)) blocks_are n
         (b3.block_step p start (b3.first start answers))
         (run_step (meaning start) q (first start answers, junk)) (after_first junk))
         defined

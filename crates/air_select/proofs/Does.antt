@@ -68,6 +68,10 @@ Does p t start v junk (b3.End (b3.Over seen)) o =
     (status : Status) × (s : State) × (rest : List ℕ) × (o ≡ (Goes (Some (Over status)) s, rest)) × (seen_as s.world status ≡ seen)
 Does p t start v junk (b3.End config) o = Unit {0}
 
+-- the same, whatever junk is left
+abbrev pub DoesSome : Procedure → Tables → Start → Value → b3.Effect → Ran × List ℕ → Type 0
+DoesSome p t start v e o = (rest : List ℕ) × Does p t start v rest e o
+
 module _ (p : Procedure) (t : Tables) (start : Start) (v : Value) (h : Here p t start v) where
   pub at : StandsAfter p h.block h.before v
   at = (h.rest, h.stands)

@@ -1,8 +1,11 @@
 -- The instructions of each value have the operands that their ops take.
-use Rattle.std.proofs.Common.{◌≡◌, ◌≢◌, ℕ, ℤ, pos, negsuc, ◌^◌, ◌<◌, ◌⊎◌, inl, inr, Bool, true, false, ◌&&◌, ◌||◌, List, [], ◌∷◌, ◌++◌, map, Option, Some, None, refl, sym, ap, ◌∙◌, subst, arith}
+use Rattle.std.proofs.Common.{◌≡◌, ◌≢◌, ℕ, ℤ, suc, pos, negsuc, ◌+◌, ◌^◌, ◌<◌, ◌≤◌, ◌⊎◌, inl, inr, Bool, true, false, ◌&&◌, ◌||◌, List, [], ◌∷◌, ◌++◌, drop, length, map, Option, Some, None, refl, sym, ap, ◌∙◌, subst, arith}
 use Rattle.std.specs.Prelude.{All, AllPairs, Contains, if◌then◌else◌, slice_get}
 use Rattle.std.specs.Int.{cast_unsigned, w64}
 use Rattle.std.proofs.lemmas.Int.{ints}
+use Rattle.std.proofs.Math.ListN.{drop_of_length-le}
+use Rattle.std.proofs.lemmas.Bool.{lt-ltb}
+use Rattle.std.proofs.lemmas.List.{append-nil, append_assoc, length-map}
 use Rattle.std.proofs.lemmas.List.Elements.{All-append, All-nil}
 use Rattle.b3_base.specs.Word.{bits}
 use Rattle.b3_base.specs.declared.word.Width.{Width}
@@ -15,7 +18,7 @@ use Rattle.b3_ir.specs.declared.opcode.Opcode.{Opcode}
 use Rattle.b3_ir.specs.declared.opcode.Opcode.TheVariants as opcode
 use Rattle.b3_ir.specs.declared.opcode.Ty.{Ty}
 use Rattle.b3_ir.specs.declared.opcode.Ty.TheVariants.{Void, Int32, Int64}
-use Rattle.b3_ir.specs.declared.table.More.TheVariants.{NoMore}
+use Rattle.b3_ir.specs.declared.table.More.TheVariants.{Arguments, NoMore}
 use Rattle.b3_ir.specs.declared.table.Takes.{Takes as Taken}
 use Rattle.b3_ir.specs.declared.table.Takes.TheVariants.{Alike, Any, This}
 use Rattle.b3_ir.specs.declared.value.Body.{Body}
@@ -37,7 +40,7 @@ use Rattle.b3_sound.proofs.FromValid.{is_kept}
 use Rattle.b3_sound.proofs.Kept.{IsKept}
 use Rattle.b3_sound.proofs.Rows.{IsRow, row_by_role}
 use Rattle.stackmap.specs.declared.site.Returns.{Returns}
-use Rattle.air_ir.specs.Forms.{AllFit, AreThese, DifferIn, Fits, HasOperands, Immediates, NoImmediate, AnyWord, OfSum, OnlyZero, IsAddress, IsWord, Takes, Word, Address, Slot, Result, is_offset, load, returned, store, takes, test_takes}
+use Rattle.air_ir.specs.Forms.{AllFit, AreThese, DifferIn, Fits, HasOperands, Immediates, NoImmediate, AnyWord, OfSum, OnlyZero, IsAddress, IsWord, Takes, Word, Address, Slot, Result, argument_home, arguments_from, call_clobbers, is_offset, load, operand_in, returned, spills_changed, store, takes, test_takes}
 use Rattle.air_ir.specs.Kinds.{extent_bytes}
 use Rattle.air_ir.specs.declared.op.AirOp.{AirOp}
 use Rattle.air_ir.specs.declared.op.AirOp.TheVariants as op
@@ -45,13 +48,15 @@ use Rattle.air_ir.specs.declared.operand.Arg.{Arg}
 use Rattle.air_ir.specs.declared.operand.Arg.TheVariants.{Addr, At, FrameSlot, Imm}
 use Rattle.air_ir.specs.declared.operand.Home.{Home}
 use Rattle.air_ir.specs.declared.operand.Operand.{Operand}
+use Rattle.air_ir.specs.declared.operand.Role.TheVariants.{Clobber}
 use Rattle.air_ir.specs.declared.procedure.AirInst.{AirInst}
-use Rattle.air_select.specs.Contract.{is_built}
+use Rattle.air_stackmap.specs.Laws.{has_stackmap as has_map}
 use Rattle.air_fold.specs.Foldable.{constant_fits, first_immediates, is_add, is_index, is_pointer, pointers, sum_fits, value_fits, is_bit_test, is_comparison, second_immediates}
-use Rattle.air_select.specs.Selected.{Condition, Tables, access, address_of, arg_of, before_access, cases_in, chosen_rest, code_of, condition_of, def_at, far_sum, folds, frame_of, home_address, inst, load_of, negative_amount, op_of, phi_in, quotient_of, register, register_in, rest_into, result_of, return_of, returns_by, returns_child, returns_type, rotate_by, slot_in, slot_of, store_of, sum_address, turned, use_at, use_of}
+use Rattle.air_select.specs.Selected.{Condition, Tables, access, address_of, arg_of, arguments_at, before_access, call_of, call_to, cases_in, chosen_rest, code_of, condition_of, def_at, far_sum, folds, frame_of, home_address, inst, load_of, negative_amount, op_of, phi_in, quotient_of, register, register_in, rest_into, result_into, result_of, return_of, returns_by, returns_child, returns_type, rotate_by, slot_in, slot_of, store_of, sum_address, turned, use_at, use_of}
 use Rattle.air_select.specs.Temporaries.{argument, first_extra, home, location, second_extra}
 use Rattle.air_fold.specs.Values.{Index, child, known, known_in, offset_in, width_at, word_in}
 use Rattle.air_fold.specs.declared.known.Known.{Known}
+use Rattle.air_select.proofs.CallCode.{behind_count, behind_first, call_all}
 use Rattle.air_select.proofs.Facts.{body_below}
 use Rattle.air_select.proofs.Forms as forms
 use Rattle.air_select.proofs.Forms.{any_fits, fit_four, fit_none, fit_one, fit_three, fit_two, home_fits, result_fits}
@@ -59,8 +64,28 @@ use Rattle.air_select.proofs.Operands.{one_of, three_of, two_of}
 use Rattle.air_select.proofs.Pointers.{PointerAt, load16s_at, load16z_at, load8s_at, load8z_at, load_at, store16_at, store8_at, store_at, sum_is_address}
 use Rattle.air_select.proofs.Returned.{contains_at, in_all}
 use Rattle.air_select.proofs.Setting.{IsSound}
+use Rattle.air_select.proofs.SiteForms.{site_child}
 use Rattle.air_select.proofs.Sites.{all_one, all_three, all_two}
 use Rattle.air_select.proofs.Tested.{IsTested, condition_tested}
+
+-- the operands of a call, as its form lists them
+joined : (a c s r : List Operand) → s ≡ [] → a ++ (c ++ r) ≡ a ++ c ++ s ++ r
+joined a c s r e = rw e (simp (append_assoc, append-nil) refl)
+
+uses_are : (t : Tables) (cs : List ℕ) (n : ℕ) → n + length cs ≤ 8 → arguments_at t n cs ≡ arguments_from n (map (width_at t.index) cs)
+uses_are t [] n le = refl
+uses_are t (c ∷ cs) n le =
+    let here : argument_home n ≡ register n = rw (lt-ltb n 8 (omega (arith, le))) refl in
+    let next : n + 1 ≡ suc n = omega arith in
+    let width = width_at t.index c in
+    ap (λ (l : List Operand). use_at width (At (register n)) ∷ l) (uses_are t cs (suc n) (omega (arith, le)))
+    ∙ ap (λ (a : Home). use_at width (At a) ∷ arguments_from (suc n) (map (width_at t.index) cs)) (sym here)
+    ∙ ap (λ m. use_at width (At (argument_home n)) ∷ arguments_from m (map (width_at t.index) cs)) (sym next)
+
+callee_there : (ty : ℕ → Ty) (a : Ty) (cs : List ℕ) → AreTaken a (This Int64 ∷ []) Arguments (map ty cs)
+    → (slice_get cs 0 ≡ Some (child cs 0)) × (ty (child cs 0) ≡ Int64)
+callee_there ty a [] taken = absurd taken
+callee_there ty a (c ∷ cs) taken = (refl, taken.0)
 
 fit_append : (ts us : List Takes) (os ps : List Operand) → AllFit ts os → AllFit us ps → AllFit (ts ++ us) (os ++ ps)
 unfolding AllFit
@@ -543,85 +568,119 @@ module _ (p : Procedure) (valid : IsValidProcedure p) (fit : ValuesFit p.blocks)
         (fit_two (Word (width_of ty) OnlyZero) (Address (width_of ty) (extent_bytes extent (width_of ty))) (use_of t from) (use_at (width_at t.index from) at)
         stored (refl, width, subst (λ n. IsAddress n at) counted (address_is o is 1 bytes pointed pointer there typed in_range)))))
 
+    -- ---- calls
+
+    call_is : (cs : List ℕ) → length cs ≤ 8 → (callee : ℕ) → type_of p callee ≡ Int64 → Fits (Word (width_of (type_of p callee)) NoImmediate) (use_of t callee)
+        → Has (call_to t v callee cs)
+    call_is cs few callee typed fits =
+        let widths = map (width_at t.index) cs in
+        let changed : List Operand = map (operand_in Clobber W64) call_clobbers in
+        let count : length widths ≤ 8 = omega (arith, few, length-map cs (width_at t.index)) in
+        let none : spills_changed 0 (drop 8 widths) ≡ [] = ap (spills_changed 0) (drop_of_length-le widths count) in
+        record {
+          callee = use_of t callee;
+          widths = widths;
+          width = width_of v.ty;
+          few = count;
+          parts = ap (λ (l : List Operand). use_of t callee ∷ (l ++ (changed ++ result_into v 0))) (uses_are t cs 0 (omega (arith, few)))
+              ∙ ap (λ (l : List Operand). use_of t callee ∷ l)
+              (joined (arguments_from 0 widths) changed (spills_changed 0 (drop 8 widths)) (result_into v 0) none);
+          fits = subst (λ (ty : Ty). Fits (Word (width_of ty) NoImmediate) (use_of t callee)) typed fits;
+        }
+
+    call_has : v.kind.opcode ≡ opcode.CCall → All Has (call_of t v)
+    call_has is =
+        let h = row opcode.CCall is in
+        let callee = callee_there (type_of p) h.alike v.children h.children in
+        let few = behind_count v.children 8 ((valid rule.Sizes (ValueAt b j v) at).0 is) in
+        call_all t v Has
+        (λ k c there.
+        let fits = site_child p kept t sound b v here opcode.CCall is refl (suc k) c (behind_first v.children k c there) in
+        move_has (width_at t.index c) (arg_of t c) (register (0 + k)) (home_word (width_of (type_of p c)) c fits AnyWord (width_at t.index c)))
+        (call_is (drop 1 v.children) few (child v.children 0) callee.1
+        (site_child p kept t sound b v here opcode.CCall is refl 0 (child v.children 0) callee.0))
+        (move_has (width_of v.ty) (At (register 0)) (home t.index v.id) tt)
+
     its_known : known t.index v.id ≡ known_in b v
     its_known = sound.is_known b v here
 
     module _ (un : folds t v.id ≡ false) where
-      pub code_has : (o : Opcode) → v.kind.opcode ≡ o → is_built o ≡ true → All Has (code_of t o v)
-      code_has opcode.Nop is built = All-nil Has
-      code_has opcode.Const32 is built =
+      pub code_has : (o : Opcode) → v.kind.opcode ≡ o → has_map o ≡ false → All Has (code_of t o v)
+      code_has opcode.Nop is plain = All-nil Has
+      code_has opcode.Const32 is plain =
           one_move (width_of v.ty) (Imm (word_in v.body)) (home t.index v.id) (constant_word opcode.Const32 is (role_row opcode.Const32 is))
-      code_has opcode.Const64 is built =
+      code_has opcode.Const64 is plain =
           one_move (width_of v.ty) (Imm (word_in v.body)) (home t.index v.id) (constant_word opcode.Const64 is (role_row opcode.Const64 is))
-      code_has opcode.ArgumentReg is built = one_move W64 (At (argument t.index (register_in v.body))) (home t.index v.id) tt
-      code_has opcode.Trunc is built =
+      code_has opcode.ArgumentReg is plain = one_move W64 (At (argument t.index (register_in v.body))) (home t.index v.id) tt
+      code_has opcode.Trunc is plain =
           let h = row opcode.Trunc is in
           let one = one_of (type_of p) h.alike (This Int64) v.children h.children in
           one_move W32 (arg_of t (child v.children 0)) (home t.index v.id)
           (moved_child opcode.Trunc is (one.0, one.1, λ e. long_some (sym one.2 ∙ e)) refl ((λ k. refl), refl) W32)
-      code_has opcode.Upsilon is built =
+      code_has opcode.Upsilon is plain =
           one_move (width_at t.index (child v.children 0)) (arg_of t (child v.children 0)) (location t.index (phi_in v.body))
           (moved_child opcode.Upsilon is (any_child (row opcode.Upsilon is).alike (row opcode.Upsilon is).children) refl ((λ k. refl), refl)
           (width_at t.index (child v.children 0)))
-      code_has opcode.Phi is built = one_move (width_of v.ty) (At (location t.index v.id)) (home t.index v.id) tt
-      code_has opcode.FramePointer is built =
+      code_has opcode.Phi is plain = one_move (width_of v.ty) (At (location t.index v.id)) (home t.index v.id) tt
+      code_has opcode.FramePointer is plain =
           all_one Has (frame_of t v)
           (W64, W64, fit_one (Result W64) (result_of t v) (refl, ap width_of (role_row opcode.FramePointer is), tt))
-      code_has opcode.SlotBase is built =
+      code_has opcode.SlotBase is plain =
           all_one Has (slot_of t v) (
             W64,
             W64,
             fit_two Slot (Result W64) (use_at W64 (FrameSlot (slot_in v.body))) (result_of t v) (refl, refl, tt)
                 (refl, ap width_of (role_row opcode.SlotBase is).0, tt),
           )
-      code_has opcode.Load8Z is built =
+      code_has opcode.Load8Z is plain =
           load_has opcode.Load8Z op.Load8Z Byte Int32 1 is refl (row opcode.Load8Z is).gives refl (load8z_at p t v b its_known)
           (λ ty ts a. a.children) (λ os f. (W32, W32, f))
-      code_has opcode.Load8S is built =
+      code_has opcode.Load8S is plain =
           load_has opcode.Load8S op.Load8S Byte Int32 1 is refl (row opcode.Load8S is).gives refl (load8s_at p t v b its_known)
           (λ ty ts a. a.children) (λ os f. (W32, W32, f))
-      code_has opcode.Load16Z is built =
+      code_has opcode.Load16Z is plain =
           load_has opcode.Load16Z op.Load16Z Half Int32 2 is refl (row opcode.Load16Z is).gives refl (load16z_at p t v b its_known) (λ ty ts a. a.children)
           (λ os f. (W32, W32, f))
-      code_has opcode.Load16S is built =
+      code_has opcode.Load16S is plain =
           load_has opcode.Load16S op.Load16S Half Int32 2 is refl (row opcode.Load16S is).gives refl (load16s_at p t v b its_known) (λ ty ts a. a.children)
           (λ os f. (W32, W32, f))
-      code_has opcode.Load is built =
+      code_has opcode.Load is plain =
           load_has opcode.Load op.Load Whole v.ty (extent_bytes Whole (width_of v.ty)) is refl refl refl (load_at p t v b its_known) (λ ty ts a. a.children)
           (λ os f. (width_of v.ty, W64, whole_load (width_of v.ty) os f))
-      code_has opcode.Store8 is built =
+      code_has opcode.Store8 is plain =
           store_has opcode.Store8 op.Store8 Byte (This Int32) is refl refl ((λ k. refl), refl) (store8_at p t v b its_known) (λ ty ts a. a.children)
           (λ alike ty e void. int_some (sym e ∙ void)) (λ alike ty e os f. (W32, W32, subst (λ (u : Ty). AllFit (store (width_of u) 1) os) e f))
-      code_has opcode.Store16 is built =
+      code_has opcode.Store16 is plain =
           store_has opcode.Store16 op.Store16 Half (This Int32) is refl refl ((λ k. refl), refl) (store16_at p t v b its_known) (λ ty ts a. a.children)
           (λ alike ty e void. int_some (sym e ∙ void)) (λ alike ty e os f. (W32, W32, subst (λ (u : Ty). AllFit (store (width_of u) 2) os) e f))
-      code_has opcode.Store is built =
+      code_has opcode.Store is plain =
           store_has opcode.Store op.Store Whole Any is refl refl ((λ k. refl), refl) (store_at p t v b its_known) (λ ty ts a. a.children) (λ alike ty e. e)
           (λ alike ty e os f. (width_of ty, W64, whole_store (width_of ty) os f))
-      code_has opcode.Mod is built =
+      code_has opcode.CCall is plain = call_has is
+      code_has opcode.Mod is plain =
           let h = row opcode.Mod is in
           let d = split opcode.Mod is refl ((λ k. refl), refl) ((λ k. refl), refl) h.alike h.typed refl h.children h.gives in
           remainder_has op.Div (λ w os f. (w, w, f)) d.dividend d.divisor v.kind.chill
-      code_has opcode.UMod is built =
+      code_has opcode.UMod is plain =
           let h = row opcode.UMod is in
           let d = split opcode.UMod is refl ((λ k. refl), refl) ((λ k. refl), refl) h.alike h.typed refl h.children h.gives in
           remainder_has op.UDiv (λ w os f. (w, w, f)) d.dividend d.divisor v.kind.chill
-      code_has opcode.RotL is built = rotated (row opcode.RotL is) is
-      code_has opcode.Select is built =
+      code_has opcode.RotL is plain = rotated (row opcode.RotL is) is
+      code_has opcode.Select is plain =
           let h = row opcode.Select is in
           all_one Has (inst v (op.SelectIf (condition_of t (child v.children 0)).test)
           ((condition_of t (child v.children 0)).over ++ use_of t (child v.children 1) ∷ use_of t (child v.children 2) ∷ result_of t v ∷ []))
           (select_has is h.alike h.typed h.gives h.children)
-      code_has opcode.Jump is built = all_one Has (inst v op.Jump []) (W64, W64, fit_none)
-      code_has opcode.Oops is built = all_one Has (inst v op.Oops []) (W64, W64, fit_none)
-      code_has opcode.Branch is built =
+      code_has opcode.Jump is plain = all_one Has (inst v op.Jump []) (W64, W64, fit_none)
+      code_has opcode.Oops is plain = all_one Has (inst v op.Oops []) (W64, W64, fit_none)
+      code_has opcode.Branch is plain =
           all_one Has (inst v (op.BranchIf (condition_of t (child v.children 0)).test) (condition_of t (child v.children 0)).over)
           (branch_has is (any_child (row opcode.Branch is).alike (row opcode.Branch is).children))
-      code_has opcode.Switch is built =
+      code_has opcode.Switch is plain =
           all_one Has (inst v (op.Switch (cases_in v.body)) (use_of t (child v.children 0) ∷ []))
           (switch_has is (any_child (row opcode.Switch is).alike (row opcode.Switch is).children))
-      code_has opcode.Return is built = return_has is v.children refl
-      code_has opcode.Add is built =
+      code_has opcode.Return is plain = return_has is v.children refl
+      code_has opcode.Add is plain =
           let h = row opcode.Add is in
           let free : is_pointer t.index (pointers p) v.id ≡ false = sound.pointer b v here (ap is_add is) ∙ un in
           one_has op.Add (
@@ -629,41 +688,41 @@ module _ (p : Procedure) (valid : IsValidProcedure p) (fit : ValuesFit p.blocks)
             W64,
             pair opcode.Add is refl ((λ k. refl), refl) ((λ k. ap (λ c. c && is_index t.index k) free), free) h.alike h.alike h.typed h.children h.gives,
           )
-      code_has opcode.Sub is built = let h = row opcode.Sub is in one_has op.Sub
+      code_has opcode.Sub is plain = let h = row opcode.Sub is in one_has op.Sub
           (width_of h.alike, W64, pair opcode.Sub is refl ((λ k. refl), refl) ((λ k. refl), refl) h.alike h.alike h.typed h.children h.gives)
-      code_has opcode.Mul is built = let h = row opcode.Mul is in one_has op.Mul
+      code_has opcode.Mul is plain = let h = row opcode.Mul is in one_has op.Mul
           (width_of h.alike, W64, pair opcode.Mul is refl ((λ k. refl), refl) ((λ k. refl), refl) h.alike h.alike h.typed h.children h.gives)
-      code_has opcode.BitAnd is built = let h = row opcode.BitAnd is in one_has op.And
+      code_has opcode.BitAnd is plain = let h = row opcode.BitAnd is in one_has op.And
           (width_of h.alike, W64, pair opcode.BitAnd is refl ((λ k. refl), refl) ((λ k. refl), refl) h.alike h.alike h.typed h.children h.gives)
-      code_has opcode.BitOr is built = let h = row opcode.BitOr is in one_has op.Or
+      code_has opcode.BitOr is plain = let h = row opcode.BitOr is in one_has op.Or
           (width_of h.alike, W64, pair opcode.BitOr is refl ((λ k. refl), refl) ((λ k. refl), refl) h.alike h.alike h.typed h.children h.gives)
-      code_has opcode.BitXor is built = let h = row opcode.BitXor is in one_has op.Xor
+      code_has opcode.BitXor is plain = let h = row opcode.BitXor is in one_has op.Xor
           (width_of h.alike, W64, pair opcode.BitXor is refl ((λ k. refl), refl) ((λ k. refl), refl) h.alike h.alike h.typed h.children h.gives)
-      code_has opcode.Div is built = let h = row opcode.Div is in one_has op.Div
+      code_has opcode.Div is plain = let h = row opcode.Div is in one_has op.Div
           (width_of h.alike, W64, pair opcode.Div is refl ((λ k. refl), refl) ((λ k. refl), refl) h.alike h.alike h.typed h.children h.gives)
-      code_has opcode.UDiv is built = let h = row opcode.UDiv is in one_has op.UDiv
+      code_has opcode.UDiv is plain = let h = row opcode.UDiv is in one_has op.UDiv
           (width_of h.alike, W64, pair opcode.UDiv is refl ((λ k. refl), refl) ((λ k. refl), refl) h.alike h.alike h.typed h.children h.gives)
-      code_has opcode.Shl is built = let h = row opcode.Shl is in one_has op.Lsl
+      code_has opcode.Shl is plain = let h = row opcode.Shl is in one_has op.Lsl
           (width_of h.alike, W64, amount opcode.Shl is refl ((λ k. refl), refl) ((λ k. refl), refl) h.alike h.typed h.children h.gives)
-      code_has opcode.SShr is built = let h = row opcode.SShr is in one_has op.Asr
+      code_has opcode.SShr is plain = let h = row opcode.SShr is in one_has op.Asr
           (width_of h.alike, W64, amount opcode.SShr is refl ((λ k. refl), refl) ((λ k. refl), refl) h.alike h.typed h.children h.gives)
-      code_has opcode.ZShr is built = let h = row opcode.ZShr is in one_has op.Lsr
+      code_has opcode.ZShr is plain = let h = row opcode.ZShr is in one_has op.Lsr
           (width_of h.alike, W64, amount opcode.ZShr is refl ((λ k. refl), refl) ((λ k. refl), refl) h.alike h.typed h.children h.gives)
-      code_has opcode.RotR is built = let h = row opcode.RotR is in one_has op.Ror
+      code_has opcode.RotR is plain = let h = row opcode.RotR is in one_has op.Ror
           (width_of h.alike, W64, amount opcode.RotR is refl ((λ k. refl), refl) ((λ k. refl), refl) h.alike h.typed h.children h.gives)
-      code_has opcode.Neg is built = let h = row opcode.Neg is in one_has op.Neg
+      code_has opcode.Neg is plain = let h = row opcode.Neg is in one_has op.Neg
           (width_of h.alike, W64, single opcode.Neg is refl ((λ k. refl), refl) ((λ k. refl), refl) h.alike h.typed h.children h.gives)
-      code_has opcode.Clz is built = let h = row opcode.Clz is in one_has op.Clz
+      code_has opcode.Clz is plain = let h = row opcode.Clz is in one_has op.Clz
           (width_of h.alike, W64, single opcode.Clz is refl ((λ k. refl), refl) ((λ k. refl), refl) h.alike h.typed h.children h.gives)
-      code_has opcode.SExt8 is built = let h = row opcode.SExt8 is in one_has op.SExt8
+      code_has opcode.SExt8 is plain = let h = row opcode.SExt8 is in one_has op.SExt8
           (W64, W64, from opcode.SExt8 is refl ((λ k. refl), refl) ((λ k. refl), refl) h.alike Int32 Int32 int_some h.children h.gives)
-      code_has opcode.SExt16 is built = let h = row opcode.SExt16 is in one_has op.SExt16
+      code_has opcode.SExt16 is plain = let h = row opcode.SExt16 is in one_has op.SExt16
           (W64, W64, from opcode.SExt16 is refl ((λ k. refl), refl) ((λ k. refl), refl) h.alike Int32 Int32 int_some h.children h.gives)
-      code_has opcode.SExt32 is built = let h = row opcode.SExt32 is in one_has op.SExt32
+      code_has opcode.SExt32 is plain = let h = row opcode.SExt32 is in one_has op.SExt32
           (W64, W64, from opcode.SExt32 is refl ((λ k. refl), refl) ((λ k. refl), refl) h.alike Int32 Int64 int_some h.children h.gives)
-      code_has opcode.ZExt32 is built = let h = row opcode.ZExt32 is in one_has op.ZExt32
+      code_has opcode.ZExt32 is plain = let h = row opcode.ZExt32 is in one_has op.ZExt32
           (W64, W64, from opcode.ZExt32 is refl ((λ k. refl), refl) ((λ k. refl), refl) h.alike Int32 Int64 int_some h.children h.gives)
-      code_has opcode.Identity is built =
+      code_has opcode.Identity is plain =
           let h = row opcode.Identity is in
           one_has op.Move (
             width_of h.alike,
@@ -671,28 +730,28 @@ module _ (p : Procedure) (valid : IsValidProcedure p) (fit : ValuesFit p.blocks)
             moved (width_of h.alike) (map (use_of t) v.children) (result_of t v)
                 (single opcode.Identity is refl ((λ k. refl), refl) ((λ k. refl), refl) h.alike h.typed h.children h.gives),
           )
-      code_has opcode.Equal is built = let h = row opcode.Equal is in one_has (op_of opcode.Equal)
+      code_has opcode.Equal is plain = let h = row opcode.Equal is in one_has (op_of opcode.Equal)
           (width_of h.alike, W64, pair opcode.Equal is refl ((λ k. refl), refl) ((λ k. refl), refl) h.alike Int32 h.typed h.children h.gives)
-      code_has opcode.NotEqual is built = let h = row opcode.NotEqual is in one_has (op_of opcode.NotEqual)
+      code_has opcode.NotEqual is plain = let h = row opcode.NotEqual is in one_has (op_of opcode.NotEqual)
           (width_of h.alike, W64, pair opcode.NotEqual is refl ((λ k. refl), refl) ((λ k. refl), refl) h.alike Int32 h.typed h.children h.gives)
-      code_has opcode.LessThan is built = let h = row opcode.LessThan is in one_has (op_of opcode.LessThan)
+      code_has opcode.LessThan is plain = let h = row opcode.LessThan is in one_has (op_of opcode.LessThan)
           (width_of h.alike, W64, pair opcode.LessThan is refl ((λ k. refl), refl) ((λ k. refl), refl) h.alike Int32 h.typed h.children h.gives)
-      code_has opcode.GreaterThan is built = let h =
+      code_has opcode.GreaterThan is plain = let h =
           row opcode.GreaterThan is in one_has (op_of opcode.GreaterThan)
           (width_of h.alike, W64, pair opcode.GreaterThan is refl ((λ k. refl), refl) ((λ k. refl), refl) h.alike Int32 h.typed h.children h.gives)
-      code_has opcode.LessEqual is built = let h = row opcode.LessEqual is in one_has (op_of opcode.LessEqual)
+      code_has opcode.LessEqual is plain = let h = row opcode.LessEqual is in one_has (op_of opcode.LessEqual)
           (width_of h.alike, W64, pair opcode.LessEqual is refl ((λ k. refl), refl) ((λ k. refl), refl) h.alike Int32 h.typed h.children h.gives)
-      code_has opcode.GreaterEqual is built = let h =
+      code_has opcode.GreaterEqual is plain = let h =
           row opcode.GreaterEqual is in one_has (op_of opcode.GreaterEqual)
           (width_of h.alike, W64, pair opcode.GreaterEqual is refl ((λ k. refl), refl) ((λ k. refl), refl) h.alike Int32 h.typed h.children h.gives)
-      code_has opcode.Above is built = let h = row opcode.Above is in one_has (op_of opcode.Above)
+      code_has opcode.Above is plain = let h = row opcode.Above is in one_has (op_of opcode.Above)
           (width_of h.alike, W64, pair opcode.Above is refl ((λ k. refl), refl) ((λ k. refl), refl) h.alike Int32 h.typed h.children h.gives)
-      code_has opcode.Below is built = let h = row opcode.Below is in one_has (op_of opcode.Below)
+      code_has opcode.Below is plain = let h = row opcode.Below is in one_has (op_of opcode.Below)
           (width_of h.alike, W64, pair opcode.Below is refl ((λ k. refl), refl) ((λ k. refl), refl) h.alike Int32 h.typed h.children h.gives)
-      code_has opcode.AboveEqual is built = let h =
+      code_has opcode.AboveEqual is plain = let h =
           row opcode.AboveEqual is in one_has (op_of opcode.AboveEqual)
           (width_of h.alike, W64, pair opcode.AboveEqual is refl ((λ k. refl), refl) ((λ k. refl), refl) h.alike Int32 h.typed h.children h.gives)
-      code_has opcode.BelowEqual is built = let h =
+      code_has opcode.BelowEqual is plain = let h =
           row opcode.BelowEqual is in one_has (op_of opcode.BelowEqual)
           (width_of h.alike, W64, pair opcode.BelowEqual is refl ((λ k. refl), refl) ((λ k. refl), refl) h.alike Int32 h.typed h.children h.gives)
-      code_has _ is built = absurd cc
+      code_has _ is plain = absurd cc

@@ -105,19 +105,44 @@ module _ (start : Start) where
       → steps (meaning start) (i ∷ []) s junk ≡ o
   steps_last i s junk o e = steps-one (meaning start) i s junk ∙ e
 
-  -- it ends the run, and what it writes takes junk
-  pub one_end : (i : AirInst) (s : State) (junk : List ℕ) (ws : List Read) (status : Status)
-      → words s.homes i.operands ≡ Some ws → meaning start (operation i) ws s.world ≡ ends s.world status
-      → (after : State) × (rest : List ℕ) × (step (meaning start) i s junk ≡ (Goes (Some (Over status)) after, rest)) × (after.world ≡ s.world)
+  -- the first of some instructions goes on, having taken some junk
+  pub steps_next : (i : AirInst) (is : List AirInst) (s next : State) (junk rest : List ℕ) → step (meaning start) i s junk ≡ (Goes None next, rest)
+      → steps (meaning start) (i ∷ is) s junk ≡ steps (meaning start) is next rest
+  unfolding steps
+  steps_next i is s next junk rest e = rw e refl
+
+  -- the first of some instructions leaves
+  pub steps_gone : (i : AirInst) (is : List AirInst) (s next : State) (exit : Exit) (junk rest : List ℕ)
+      → step (meaning start) i s junk ≡ (Goes (Some exit) next, rest) → steps (meaning start) (i ∷ is) s junk ≡ (Goes (Some exit) next, rest)
+  unfolding steps
+  steps_gone i is s next exit junk rest e = rw e refl
+
+  -- it ends the run, in this world, and what it writes takes junk
+  pub one_end : (i : AirInst) (s : State) (junk : List ℕ) (ws : List Read) (w : World) (status : Status)
+      → words s.homes i.operands ≡ Some ws → meaning start (operation i) ws s.world ≡ ends w status
+      → (after : State) × (rest : List ℕ) × (step (meaning start) i s junk ≡ (Goes (Some (Over status)) after, rest)) × (after.world ≡ w)
   unfolding step
-  one_end i s junk ws status e f =
+  one_end i s junk ws w status e f =
       let ts = targets i.operands in
       let n = length ts - 0 in (
-        record { homes = put_all ts (junk_words n junk ++ []) s.homes; world = s.world },
+        record { homes = put_all ts (junk_words n junk ++ []) s.homes; world = w },
         drop n junk,
         ap (after_reading (meaning start) i s junk) e ∙ ap (carried_out s junk ts) f,
         refl,
       )
+
+  -- it gives words for the last of the homes that are written, in this world, and those before take junk
+  pub one_giving : (i : AirInst) (s : State) (junk : List ℕ) (ws : List Read) (w : World) (results : List ℕ) (ts : List Target)
+      → words s.homes i.operands ≡ Some ws → meaning start (operation i) ws s.world ≡ gives w results → targets i.operands ≡ ts
+      → step (meaning start) i s junk
+      ≡ (
+        Goes None (record { homes = put_all ts (junk_words (length ts - length results) junk ++ results) s.homes; world = w }),
+        drop (length ts - length results) junk,
+      )
+  unfolding step
+  one_giving i s junk ws w results ts e f g =
+      ap (after_reading (meaning start) i s junk) e ∙ ap (λ (us : List Target). carried_out s junk us (meaning start (operation i) ws s.world)) g
+      ∙ ap (carried_out s junk ts) f
 
   -- it changes the world alone
   pub one_quiet : (i : AirInst) (s : State) (junk : List ℕ) (ws : List Read) (w : World)

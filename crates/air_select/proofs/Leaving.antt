@@ -2,7 +2,6 @@
 use Rattle.std.proofs.Common.{◌≡◌, ℕ, zero, suc, ◌+◌, ◌^◌, ◌<◌, ◌⊎◌, inl, inr, Bool, true, false, ◌||◌, List, [], ◌∷◌, ◌++◌, map, length, Option, Some, None, nat_eq, refl, sym, ap, ◌∙◌, subst, arith, append-nil}
 use Rattle.std.specs.Prelude.{Contains, if◌then◌else◌, not, slice_get}
 use Rattle.std.specs.Option.{option_map}
-use Rattle.std.proofs.lemmas.Bool.{eq-eqb}
 use Rattle.std.proofs.lemmas.Option.{slice_get-map}
 use Rattle.b3_base.specs.Arithmetic.{low}
 use Rattle.b3_base.specs.Observed.{Event, Memory, Start}
@@ -32,7 +31,7 @@ use Rattle.b3_sound.proofs.Lists.{contains_head}
 use Rattle.air_ir.specs.Blocks.{seen_as}
 use Rattle.air_ir.specs.Meaning as air
 use Rattle.air_ir.specs.Meaning.{Over, To, World, case_number, leaves, meaning, operation}
-use Rattle.air_ir.specs.Operands.{Holds, Homes, Read, put, read, targets, word_of, words}
+use Rattle.air_ir.specs.Operands.{Holds, Read, read, targets, word_of, words}
 use Rattle.air_ir.specs.Steps.{Goes, Outcome as Ran, steps}
 use Rattle.air_ir.specs.Words.{Tested, select_if, test}
 use Rattle.air_ir.specs.declared.op.AirOp.TheVariants as op
@@ -52,7 +51,7 @@ use Rattle.air_select.proofs.Does.{Does, Here, allows, are_words, at, gives_does
 use Rattle.air_select.proofs.Facts.{child_ran}
 use Rattle.air_select.proofs.Instructions.{at_home, one_leave, one_word, reads_def, reads_none, reads_use, steps_first, steps_last, with_home, writes_def, writes_none, writes_use}
 use Rattle.air_select.proofs.Plain.{computing}
-use Rattle.air_select.proofs.Related.{holds_word}
+use Rattle.air_select.proofs.Related.{holds_word, register_here}
 use Rattle.air_select.proofs.Remainders.{child_in}
 use Rattle.air_select.proofs.Shapes.{one_child, one_here, three_children, three_here}
 
@@ -275,14 +274,10 @@ module _ (p : Procedure) (t : Tables) (start : Start) (v : Value) (h : Here p t 
   unfolding meaning
   return_word value word width w = refl
 
-  same_seen : (status : Status) → seen_as h.s.world status ≡ b3.seen_as h.st status
+  pub same_seen : (status : Status) → seen_as h.s.world status ≡ b3.seen_as h.st status
   same_seen status =
       ap (λ (m : Memory). record { status = status; events = h.s.world.events; memory = m }) h.related.memory
       ∙ ap (λ (l : List Event). record { status = status; events = l; memory = h.st.memory }) h.related.events
-
-  put_register : (homes : Homes) (r : ℕ) (width : Width) (w : ℕ) → put homes (register r) (Holds width w) (register r) ≡ Holds width w
-  unfolding put
-  put_register homes r width w = rw (eq-eqb r r refl) refl
 
   returns_nothing : (ws : List ℕ) → ws ≡ [] → Does p t start v junk (b3.returns h.st ws) (steps (meaning start) (return_of t v []) h.s junk)
   returns_nothing ws e =
@@ -311,7 +306,7 @@ module _ (p : Procedure) (t : Tables) (start : Start) (v : Value) (h : Here p t 
             ∙ steps_last start last after junk (Goes (Some (Over (Returned (Some w)))) after, junk)
             (one_leave start last after junk ((width, w) ∷ []) (Over (Returned (Some w)))
             (reads_use after.homes width (At (register 0)) [] w []
-            (at_home after.homes width (register 0) w (ap (read width) (put_register h.s.homes 0 width w) ∙ holds_word width w small))
+            (at_home after.homes width (register 0) w (ap (read width) (register_here h.s.homes 0 (Holds width w)) ∙ holds_word width w small))
             (reads_none after.homes))
             (return_word v.id w width after.world) (writes_use width (At (register 0)) [] ∙ writes_none)),
         same_seen (Returned (Some w)),

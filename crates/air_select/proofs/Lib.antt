@@ -1,6 +1,9 @@
 pub mod Accesses
 pub mod Addresses
+pub mod Asking
 pub mod Beginning
+pub mod CallCode
+pub mod Calls
 pub mod Children
 pub mod Coded
 pub mod Copied
@@ -14,6 +17,8 @@ pub mod Forms
 pub mod Good
 pub mod Instructions
 pub mod Leaving
+pub mod MapCode
+pub mod MapFacts
 pub mod Named
 pub mod OneOp
 pub mod Opcodes
@@ -33,6 +38,8 @@ pub mod Sample
 pub mod Selecting
 pub mod Setting
 pub mod Shapes
+pub mod SiteForms
+pub mod SiteRuns
 pub mod Sites
 pub mod Sound
 pub mod Sources

@@ -1,8 +1,11 @@
 -- The operands of what is selected name temporaries of the procedure, and registers that values may stand in.
-use Rattle.std.proofs.Common.{◌≡◌, ℕ, pos, zero, suc, ◌+◌, ◌*◌, ◌<◌, ◌≤◌, inl, Bool, true, false, ◌||◌, List, [], ◌∷◌, ◌++◌, map, length, refl, arith}
-use Rattle.std.specs.Prelude.{All, ◌==◌, if◌then◌else◌}
+use Rattle.std.proofs.Common.{◌≡◌, ℕ, pos, zero, suc, ◌+◌, ◌*◌, ◌<◌, ◌≤◌, ◌≢◌, inl, ◌&&◌, Bool, true, false, ◌||◌, List, [], ◌∷◌, ◌++◌, drop, map, length, refl, sym, ap, ◌∙◌, arith}
+use Rattle.std.specs.Prelude.{All, ◌==◌, if◌then◌else◌, nat_eq, nat_le, not}
 use Rattle.std.specs.Int.{cast_unsigned, w64}
+use Rattle.std.specs.List.{list_all}
+use Rattle.std.proofs.lemmas.Bool.{and_parts, leb-true}
 use Rattle.std.proofs.lemmas.List.Elements.{All-append, All-cons, All-map, All-nil}
+use Rattle.std.proofs.lemmas.Option.{slice_get_within}
 use Rattle.b3_base.specs.declared.word.Width.{Width}
 use Rattle.b3_base.specs.declared.word.Width.TheVariants.{W32, W64}
 use Rattle.b3_ir.specs.Procedure.{place_among}
@@ -12,9 +15,9 @@ use Rattle.b3_ir.specs.declared.opcode.Opcode.TheVariants as opcode
 use Rattle.b3_ir.specs.declared.value.Value.{Value}
 use Rattle.b3_meaning.specs.declared.role.Extent.{Extent}
 use Rattle.b3_meaning.specs.declared.role.Extent.TheVariants.{Byte, Half, Whole}
-use Rattle.air_ir.specs.Forms.{is_offset}
+use Rattle.air_ir.specs.Forms.{call_clobbers, is_offset, operand_in}
 use Rattle.air_ir.specs.Kinds.{extent_bytes}
-use Rattle.air_ir.specs.declared.operand.Role.TheVariants.{Use}
+use Rattle.air_ir.specs.declared.operand.Role.TheVariants.{Clobber, Use}
 use Rattle.air_ir.specs.declared.op.AirOp.{AirOp}
 use Rattle.air_ir.specs.declared.op.AirOp.TheVariants as op
 use Rattle.air_ir.specs.declared.op.Test.TheVariants.{Bit, Compare, NonZero}
@@ -27,9 +30,12 @@ use Rattle.air_ir.specs.declared.procedure.AirProc.{AirProc}
 use Rattle.air_ir.specs.WellFormed.{NamesOwn}
 use Rattle.air_fold.specs.Foldable.{bit_of, is_comparison, is_constant, whole}
 use Rattle.air_fold.specs.declared.known.Known.{Known}
-use Rattle.air_select.specs.Selected.{Condition, Tables, access, address_of, arg_of, argument_move, argument_moves, before_access, cases_in, chosen_rest, code_of, computes, condition, condition_of, def_at, entry_of, far_sum, folded_condition, folds, frame_of, home_address, indexed_by, inst, last_id, load_of, names_argument, negative_amount, op_of, phi_in, quotient_of, register, register_in, rest_into, result_of, return_of, rotate_by, select_on, slot_in, slot_of, store_of, sum_address, turned, use_at, use_of, value_code}
+use Rattle.air_select.specs.Selected.{Condition, Tables, access, address_of, arg_of, argument_move, argument_moves, before_access, call_of, cases_in, chosen_rest, code_of, computes, condition, condition_of, def_at, entry_of, far_sum, folded_condition, folds, frame_of, home_address, indexed_by, inst, last_id, load_of, names_argument, negative_amount, op_of, phi_in, quotient_of, register, register_in, rest_into, result_of, return_of, rotate_by, select_on, slot_in, slot_of, store_of, sum_address, turned, use_at, use_of, value_code}
 use Rattle.air_select.specs.Temporaries.{argument, first_extra, home, second_extra, tmp_count}
 use Rattle.air_fold.specs.Values.{child, known, offset_in, place, width_at}
+use Rattle.air_stackmap.specs.Laws.{has_stackmap as has_map}
+use Rattle.air_select.proofs.CallCode.{behind_count, call_all, operands_all}
+use Rattle.air_select.proofs.MapCode.{pick}
 use Rattle.air_select.proofs.Sites.{all_of, all_one, all_three, all_two}
 
 place_most : (ids : List ℕ) (id : ℕ) → place_among ids id ≤ length ids
@@ -40,6 +46,24 @@ place_most (n ∷ ns) id = by (n == id) (place_most ns id)
     by true le = omega arith
     by false le = omega (arith, le)
 
+-- the registers that an instruction may change
+abbrev is_changeable : ℕ → Bool
+is_changeable r = nat_le r 30 && not (nat_eq r 29)
+
+abbrev IsChangeable : ℕ → Type 0
+IsChangeable r = (r ≤ 30) × (r ≢ 29)
+
+changeable : (r : ℕ) → is_changeable r ≡ true → IsChangeable r
+changeable r e =
+    let both = and_parts (nat_le r 30) (not (nat_eq r 29)) e in
+    (leb-true r 30 both.0, λ same. let bad : true ≡ false = sym both.1 ∙ ap (λ k. not (nat_eq k 29)) same in cc)
+
+each_changeable : (rs : List ℕ) → list_all is_changeable rs ≡ true → All IsChangeable rs
+each_changeable [] e = All-nil IsChangeable
+each_changeable (r ∷ rs) e =
+    let both = and_parts (is_changeable r) (list_all is_changeable rs) e in
+    All-cons IsChangeable r rs (changeable r both.0) (each_changeable rs both.1)
+
 module _ (q : AirProc) (t : Tables) (tmps : q.tmps ≡ tmp_count t.index) where
   abbrev pub IsOwn : Operand → Type 0
   IsOwn o = NamesOwn q o.role o.arg
@@ -47,7 +71,7 @@ module _ (q : AirProc) (t : Tables) (tmps : q.tmps ≡ tmp_count t.index) where
   below : (id k : ℕ) → k ≤ 2 → 3 * place t.index id + k < q.tmps
   below id k le = let most = place_most t.index.ids id in omega (arith, most, tmps, le)
 
-  home_below : (id : ℕ) → 3 * place t.index id < q.tmps
+  pub home_below : (id : ℕ) → 3 * place t.index id < q.tmps
   home_below id = let most = place_most t.index.ids id in omega (arith, most, tmps)
 
   choice_own : (b : Bool) (width : Width) (word n : ℕ) → n < q.tmps → IsOwn (use_at width (if b then Imm word else At (Tmp n)))
@@ -57,15 +81,11 @@ module _ (q : AirProc) (t : Tables) (tmps : q.tmps ≡ tmp_count t.index) where
   arg_own : (width : Width) (id : ℕ) → IsOwn (use_at width (arg_of t id))
   arg_own width id = choice_own (folds t id) width (known t.index id).word (3 * place t.index id) (home_below id)
 
-  use_own : (id : ℕ) → IsOwn (use_of t id)
+  pub use_own : (id : ℕ) → IsOwn (use_of t id)
   use_own id = arg_own (width_at t.index id) id
 
   one_own : (id : ℕ) → All IsOwn (use_of t id ∷ [])
   one_own id = all_one IsOwn (use_of t id) (use_own id)
-
-  pick : {X : Type 0} (P : X → Type 0) (b : Bool) (x y : X) → P x → P y → P (if b then x else y)
-  pick P true x y p q = p
-  pick P false x y p q = q
 
   abbrev IsOwnCondition : Condition → Type 0
   IsOwnCondition c = All IsOwn c.over
@@ -87,8 +107,14 @@ module _ (q : AirProc) (t : Tables) (tmps : q.tmps ≡ tmp_count t.index) where
   abbrev pub IsOwnInst : AirInst → Type 0
   IsOwnInst i = All IsOwn i.operands
 
+  -- a call changes no register that isn't one of x0 to x30, and x29 neither
+  clobbers_own : All (λ r. IsOwn (operand_in Clobber W64 r)) call_clobbers
+  unfolding call_clobbers
+  clobbers_own = each_changeable call_clobbers refl
+
   module _ (v : Value) (argued : v.kind.opcode ≡ opcode.ArgumentReg → register_in v.body < 8)
-      (slotted : v.kind.opcode ≡ opcode.SlotBase → slot_in v.body < length q.slots) where
+      (slotted : v.kind.opcode ≡ opcode.SlotBase → slot_in v.body < length q.slots)
+      (called : v.kind.opcode ≡ opcode.CCall → length v.children ≤ 9) (plain : has_map v.kind.opcode ≡ false) where
     here_below : (k : ℕ) → k ≤ 2 → 3 * place t.index v.id + k < q.tmps
     here_below k le = below v.id k le
 
@@ -219,6 +245,23 @@ module _ (q : AirProc) (t : Tables) (tmps : q.tmps ≡ tmp_count t.index) where
         All-append IsOwnInst (before_access t v pointer bytes) (last ∷ []) (before_own pointer bytes)
         (all_one IsOwnInst last (all_two IsOwn (use_of t from) at (use_own from) (address_own width pointer bytes)))
 
+    -- ---- calls
+
+    call_own : length v.children ≤ 9 → All IsOwnInst (call_of t v)
+    call_own le =
+        let cs = drop 1 v.children in
+        let few = behind_count v.children 8 le in
+        call_all t v IsOwnInst
+        (λ k c at. let lt = slice_get_within cs k c at in
+        all_two IsOwn (use_at (width_at t.index c) (arg_of t c)) (def_at (width_at t.index c) (register (0 + k)))
+        (arg_own (width_at t.index c) c) (inl (omega (arith, lt, few))))
+        (operands_all t v IsOwn (child v.children 0) cs (use_own (child v.children 0))
+        (λ k c at. let lt = slice_get_within cs k c at in inl (omega (arith, lt, few))) clobbers_own (inl (omega arith)))
+        (all_two IsOwn (use_at (width_of v.ty) (At (register 0))) (def_at (width_of v.ty) (home t.index v.id)) (inl (omega arith)) (home_below v.id))
+
+    has_none : (o : Opcode) → v.kind.opcode ≡ o → has_map o ≡ true → ⊥
+    has_none o is has = let bad : false ≡ true = sym plain ∙ ap has_map is ∙ has in cc
+
     code_own : (o : Opcode) → v.kind.opcode ≡ o → All IsOwnInst (code_of t o v)
     code_own opcode.Nop is = All-nil IsOwnInst
     code_own opcode.Const32 is = move_own (width_of v.ty) (Imm _) (3 * place t.index v.id) tt (home_below v.id)
@@ -242,6 +285,12 @@ module _ (q : AirProc) (t : Tables) (tmps : q.tmps ≡ tmp_count t.index) where
     code_own opcode.Store8 is = store_own op.Store8 Byte
     code_own opcode.Store16 is = store_own op.Store16 Half
     code_own opcode.Store is = store_own op.Store Whole
+    code_own opcode.CCall is = call_own (called is)
+    code_own opcode.Patchpoint is = absurd (has_none opcode.Patchpoint is refl)
+    code_own opcode.Check is = absurd (has_none opcode.Check is refl)
+    code_own opcode.CheckAdd is = absurd (has_none opcode.CheckAdd is refl)
+    code_own opcode.CheckSub is = absurd (has_none opcode.CheckSub is refl)
+    code_own opcode.CheckMul is = absurd (has_none opcode.CheckMul is refl)
     code_own opcode.Mod is = remainder_own op.Div v.kind.chill
     code_own opcode.UMod is = remainder_own op.UDiv v.kind.chill
     code_own opcode.RotL is = rotate_left_own (folds t (child v.children 1))

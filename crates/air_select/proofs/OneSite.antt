@@ -1,32 +1,49 @@
--- At most one instruction makes a site for a value: the access of a load or a store.
-use Rattle.std.proofs.Common.{◌≡◌, ℕ, zero, suc, ◌+◌, inl, inr, Bool, true, false, List, [], ◌∷◌, ◌++◌, Option, Some, None, length, take, refl, sym, ap, ◌∙◌, subst, arith, length-append}
+-- At most one instruction makes a site for a value: the access of a load or a store, the call, the patchpoint or the check;
+-- and patchpoints and checks are expressed for their values.
+use Rattle.std.proofs.Common.{◌≡◌, ℕ, zero, suc, ◌+◌, ◌-◌, inl, inr, Bool, true, false, List, [], ◌∷◌, ◌++◌, Option, Some, None, drop, length, take, refl, sym, ap, ◌∙◌, subst, arith, append_assoc}
 use Rattle.std.specs.Prelude.{All, if◌then◌else◌, slice_get}
 use Rattle.std.specs.List.{flat_map}
 use Rattle.std.specs.Option.{option_map}
 use Rattle.std.proofs.lemmas.Bool.{cases_lt}
-use Rattle.std.proofs.lemmas.List.Elements.{All-nil, All-weaker}
-use Rattle.std.proofs.lemmas.Option.{get_or_from_slice_get, slice_get-map, slice_get_within}
-use Rattle.b3_ir.specs.Procedure.{Block, Procedure, StandsAt, no_block, values_of}
+use Rattle.std.proofs.lemmas.List.Elements.{All-append, All-nil, All-weaker}
+use Rattle.std.proofs.lemmas.Option.{get_or_from_slice_get, slice_get-map}
+use Rattle.b3_ir.specs.Naming.{value_named}
+use Rattle.b3_ir.specs.Procedure.{AllFit as ValuesFit, Block, Procedure, StandsAt, no_block, values_of}
 use Rattle.b3_ir.specs.Types.{width_of}
 use Rattle.b3_ir.specs.declared.opcode.Opcode.{Opcode}
 use Rattle.b3_ir.specs.declared.opcode.Opcode.TheVariants as opcode
+use Rattle.b3_ir.specs.declared.value.Reg.{Reg as Register}
 use Rattle.b3_ir.specs.declared.value.Value.{Value}
+use Rattle.stackmap.specs.Placing.{result_register}
 use Rattle.b3_meaning.specs.declared.role.Extent.{Extent}
 use Rattle.b3_meaning.specs.declared.role.Extent.TheVariants.{Byte, Half, Whole}
 use Rattle.b3_rules.specs.Valid.{IsValidProcedure, ValueAt}
 use Rattle.b3_rules.specs.declared.rule.Rule.TheVariants as rule
-use Rattle.air_ir.specs.Kinds.{extent_bytes, kind_of, makes_site}
+use Rattle.b3_sound.proofs.Distinct.{value_of_id}
+use Rattle.b3_sound.proofs.FromValid.{is_kept}
+use Rattle.air_select.proofs.Returned.{contains_at}
+use Rattle.air_ir.specs.Expressed.{IsExpressed}
+use Rattle.air_ir.specs.Kinds.{Kind, Checks, ChecksResult, Patches, extent_bytes, kind_of, makes_site}
 use Rattle.air_ir.specs.WellFormed as air
 use Rattle.air_ir.specs.declared.op.AirOp.{AirOp}
 use Rattle.air_ir.specs.declared.op.AirOp.TheVariants as op
 use Rattle.air_ir.specs.declared.procedure.AirBlock.{AirBlock}
+use Rattle.air_ir.specs.declared.operand.Operand.{Operand}
 use Rattle.air_ir.specs.declared.procedure.AirInst.{AirInst}
+use Rattle.air_stackmap.specs.SiteCode.{child_moves, patch_op, patch_results, site_code, site_inst}
 use Rattle.air_fold.specs.Values.{child, width_at}
-use Rattle.air_fold.proofs.Places.{get_within}
+use Rattle.air_fold.proofs.Places.{get_behind, get_within}
 use Rattle.air_select.specs.Selected as code
-use Rattle.air_select.specs.Selected.{Tables, address_of, before_access, block_code, code_of, entry_of, folds, load_of, result_of, selected, selected_by, store_of, tables, use_at, use_of, value_code}
+use Rattle.air_select.specs.Selected.{Tables, address_of, arguments_into, before_access, block_code, call_of, call_to, code_of, entry_of, folds, load_of, condition_of, patched_from, patchpoint_of, reported_behind, result_from, result_of, selected, selected_by, store_of, tables, use_at, use_of, value_code}
+use Rattle.air_select.specs.Contract.{AreExpressed, AreMadeFor, has_stackmap, is_arithmetic_kind}
+use Rattle.air_stackmap.specs.Laws.{has_stackmap as has_map}
+use Rattle.air_select.specs.Sited.{touches}
+use Rattle.air_select.proofs.CallCode.{call_all}
+use Rattle.air_select.proofs.MapCode.{IsChildOf, are_children, child_moves_all, pick}
+use Rattle.air_select.proofs.MapFacts.{site_expressed}
 use Rattle.air_select.proofs.Pieces.{IsFor, flat_found, made_for}
-use Rattle.air_select.proofs.Sites.{All-slice, IsPlain, IsQuiet, all_one, before_plain, code_plain, entry_plain, makes_none}
+use Rattle.air_select.proofs.Sites.{All-slice, IsPlain, IsQuiet, all_one, arguments_plain, before_plain, code_plain, entry_plain, kind_arithmetic, makes_none, result_plain}
+use Rattle.air_select.proofs.Sound.{sound}
 
 -- no two instructions of a list make a site
 abbrev pub HasOneSite : List AirInst → Type 0
@@ -39,18 +56,29 @@ not_both b e f = let bad : true ≡ false = sym e ∙ f in cc
 quiet_one : (is : List AirInst) → All IsQuiet is → HasOneSite is
 quiet_one is quiet k l i j at other made also = absurd (not_both (makes_site (kind_of i.op) i.traps) made (All-slice IsQuiet is k i quiet at))
 
--- where all but the last make none
-at_end : (is : List AirInst) (last : AirInst) → All IsQuiet is → (k : ℕ) (i : AirInst) → slice_get (is ++ last ∷ []) k ≡ Some i
+-- where all but one make none
+at_middle : (is js : List AirInst) (one : AirInst) → All IsQuiet is → All IsQuiet js → (k : ℕ) (i : AirInst) → slice_get (is ++ one ∷ js) k ≡ Some i
     → makes_site (kind_of i.op) i.traps ≡ true → k ≡ length is
-at_end is last quiet k i at made =
+at_middle is js one quiet behind k i at made =
     elim (cases_lt k (length is)) [
       | inl less ↦
-          absurd (not_both (makes_site (kind_of i.op) i.traps) made (All-slice IsQuiet is k i quiet (get_within is (last ∷ []) k i less at)))
-      | inr past ↦ let within = slice_get_within (is ++ last ∷ []) k i at in omega (arith, within, past, length-append is (last ∷ []))
+          absurd (not_both (makes_site (kind_of i.op) i.traps) made (All-slice IsQuiet is k i quiet (get_within is (one ∷ js) k i less at)))
+      | inr past ↦
+          let m : ℕ = k - length is in
+          let split : length is + m ≡ k = omega arith in
+          by m split (sym (get_behind is (one ∷ js) m) ∙ ap (slice_get (is ++ one ∷ js)) split ∙ at)
     ]
+  where
+    by : (m : ℕ) → length is + m ≡ k → slice_get (one ∷ js) m ≡ Some i → k ≡ length is
+    by zero split there = omega (arith, split)
+    by (suc m) split there = absurd (not_both (makes_site (kind_of i.op) i.traps) made (All-slice IsQuiet js m i behind there))
+
+middle_one : (is js : List AirInst) (one : AirInst) → All IsQuiet is → All IsQuiet js → HasOneSite (is ++ one ∷ js)
+middle_one is js one quiet behind k l i j at other made also =
+    at_middle is js one quiet behind k i at made ∙ sym (at_middle is js one quiet behind l j other also)
 
 last_one : (is : List AirInst) (last : AirInst) → All IsQuiet is → HasOneSite (is ++ last ∷ [])
-last_one is last quiet k l i j at other made also = at_end is last quiet k i at made ∙ sym (at_end is last quiet l j other also)
+last_one is last quiet = middle_one is [] last quiet (All-nil IsQuiet)
 
 module _ (t : Tables) (v : Value) where
   before_quiet : (pointer bytes : ℕ) → All IsQuiet (before_access t v pointer bytes)
@@ -73,6 +101,31 @@ module _ (t : Tables) (v : Value) where
       last_one (before_access t v pointer bytes) (code.access v air_op (use_of t from ∷ use_at width (address_of t v pointer bytes) ∷ []))
       (before_quiet pointer bytes)
 
+  call_one : HasOneSite (call_of t v)
+  call_one =
+      let cs = drop 1 v.children in
+      middle_one (arguments_into t v 0 cs) (result_from t v 0) (call_to t v (child v.children 0) cs)
+      (All-weaker IsPlain IsQuiet makes_none (arguments_into t v 0 cs) (arguments_plain t v 0 cs))
+      (All-weaker IsPlain IsQuiet makes_none (result_from t v 0) (result_plain t v 0))
+
+  moves_quiet : (n : ℕ) → All IsQuiet (child_moves v (reported_behind t n v))
+  moves_quiet n = child_moves_all v (IsChildOf t) IsQuiet (λ c reg is. refl) (reported_behind t n v) (are_children t (drop n v.children))
+
+  map_one : (o : AirOp) (inputs : List Operand) (n : ℕ) (results : List Operand) → HasOneSite (site_code v o inputs (reported_behind t n v) results)
+  map_one o inputs n results = last_one (child_moves v (reported_behind t n v)) (site_inst v o inputs (reported_behind t n v) results) (moves_quiet n)
+
+  patched_quiet : (r : Option Register) → All IsQuiet (patched_from t v r)
+  patched_quiet (Some reg) = all_one IsQuiet _ refl
+  patched_quiet None = All-nil IsQuiet
+
+  patch_one : HasOneSite (patchpoint_of t v)
+  patch_one =
+      let cs = reported_behind t 0 v in
+      let site = site_inst v (patch_op v) [] cs (patch_results v) in
+      let more = patched_from t v (result_register v) in
+      subst HasOneSite (sym (append_assoc (child_moves v cs) (site ∷ []) more))
+      (middle_one (child_moves v cs) more site (moves_quiet 0) (patched_quiet (result_register v)))
+
   weakly : (o : Opcode) → All IsPlain (code_of t o v) → HasOneSite (code_of t o v)
   weakly o plain = quiet_one (code_of t o v) (All-weaker IsPlain IsQuiet makes_none (code_of t o v) plain)
 
@@ -87,6 +140,14 @@ module _ (t : Tables) (v : Value) where
   code_one opcode.Store8 = store_one op.Store8 Byte
   code_one opcode.Store16 = store_one op.Store16 Half
   code_one opcode.Store = store_one op.Store Whole
+  code_one opcode.CCall = call_one
+  code_one opcode.Patchpoint = patch_one
+  code_one opcode.Check =
+      let c = condition_of t (child v.children 0) in
+      map_one (op.CheckIf c.test) c.over 1 []
+  code_one opcode.CheckAdd = map_one op.CheckAdd (use_of t (child v.children 0) ∷ use_of t (child v.children 1) ∷ []) 2 (result_of t v ∷ [])
+  code_one opcode.CheckSub = map_one op.CheckSub (use_of t (child v.children 0) ∷ use_of t (child v.children 1) ∷ []) 2 (result_of t v ∷ [])
+  code_one opcode.CheckMul = map_one op.CheckMul (use_of t (child v.children 0) ∷ use_of t (child v.children 1) ∷ []) 2 (result_of t v ∷ [])
   code_one o = weakly o (code_plain t v o refl)
 
   value_one : HasOneSite (value_code t v)
@@ -96,6 +157,59 @@ module _ (t : Tables) (v : Value) where
       by : (b : Bool) → HasOneSite (if b then [] else code_of t v.kind.opcode v)
       by true = quiet_one [] (All-nil IsQuiet)
       by false = code_one v.kind.opcode
+
+-- ---- stackmaps
+
+abbrev IsMapless : AirInst → Type 0
+IsMapless i = has_stackmap (kind_of i.op) ≡ false
+
+arithmetic_mapless : (k : Kind) → is_arithmetic_kind k ≡ true → has_stackmap k ≡ false
+arithmetic_mapless (Patches typed) e = absurd cc
+arithmetic_mapless (Checks test) e = absurd cc
+arithmetic_mapless (ChecksResult checked) e = absurd cc
+arithmetic_mapless _ e = refl
+
+plain_mapless : (i : AirInst) → IsPlain i → IsMapless i
+plain_mapless i plain = arithmetic_mapless (kind_of i.op) (kind_arithmetic i.op plain.arithmetic)
+
+module _ (t : Tables) (v : Value) where
+  before_mapless : (pointer bytes : ℕ) → All IsMapless (before_access t v pointer bytes)
+  before_mapless pointer bytes = All-weaker IsPlain IsMapless plain_mapless (before_access t v pointer bytes) (before_plain t v pointer bytes)
+
+  load_mapless : (air_op : AirOp) (extent : Extent) → has_stackmap (kind_of air_op) ≡ false → All IsMapless (load_of t v air_op extent)
+  load_mapless air_op extent is =
+      let pointer = child v.children 0 in
+      let bytes = extent_bytes extent (width_of v.ty) in
+      All-append IsMapless (before_access t v pointer bytes) _ (before_mapless pointer bytes) (all_one IsMapless _ is)
+
+  store_mapless : (air_op : AirOp) (extent : Extent) → has_stackmap (kind_of air_op) ≡ false → All IsMapless (store_of t v air_op extent)
+  store_mapless air_op extent is =
+      let pointer = child v.children 1 in
+      let bytes = extent_bytes extent (width_at t.index (child v.children 0)) in
+      All-append IsMapless (before_access t v pointer bytes) _ (before_mapless pointer bytes) (all_one IsMapless _ is)
+
+  plainly : (o : Opcode) → touches o ≡ false → All IsMapless (code_of t o v)
+  plainly o e = All-weaker IsPlain IsMapless plain_mapless (code_of t o v) (code_plain t v o e)
+
+  -- no other value has an instruction with a stackmap
+  code_mapless : (o : Opcode) → has_map o ≡ false → All IsMapless (code_of t o v)
+  code_mapless opcode.Patchpoint e = absurd cc
+  code_mapless opcode.Check e = absurd cc
+  code_mapless opcode.CheckAdd e = absurd cc
+  code_mapless opcode.CheckSub e = absurd cc
+  code_mapless opcode.CheckMul e = absurd cc
+  code_mapless opcode.CCall e = call_all t v IsMapless (λ k c at. refl) refl refl
+  code_mapless opcode.FramePointer e = all_one IsMapless _ refl
+  code_mapless opcode.SlotBase e = all_one IsMapless _ refl
+  code_mapless opcode.Load8Z e = load_mapless op.Load8Z Byte refl
+  code_mapless opcode.Load8S e = load_mapless op.Load8S Byte refl
+  code_mapless opcode.Load16Z e = load_mapless op.Load16Z Half refl
+  code_mapless opcode.Load16S e = load_mapless op.Load16S Half refl
+  code_mapless opcode.Load e = load_mapless op.Load Whole refl
+  code_mapless opcode.Store8 e = store_mapless op.Store8 Byte refl
+  code_mapless opcode.Store16 e = store_mapless op.Store16 Half refl
+  code_mapless opcode.Store e = store_mapless op.Store Whole refl
+  code_mapless o e = plainly o refl
 
 mapped : {X Y : Type 0} (f : X → Y) (o : Option X) (y : Y) → option_map f o ≡ Some y → (x : X) × (o ≡ Some x) × (f x ≡ y)
 mapped f (Some x) y e = let same : f x ≡ y = cc in (x, refl, same)
@@ -144,6 +258,38 @@ module _ (p : Procedure) (valid : IsValidProcedure p) where
         is = piece.is ∙ ap (λ (vs : List Value). length (flat_map (value_code t) (take piece.at vs)) + piece.within) (sym values);
       }
 
+  -- each patchpoint and each check is expressed for the value that it names
+  site_of_map : (k : Kind) (traps : Bool) → has_stackmap k ≡ true → makes_site k traps ≡ true
+  site_of_map (Patches typed) traps e = refl
+  site_of_map (Checks test) traps e = refl
+  site_of_map (ChecksResult checked) traps e = refl
+  site_of_map _ traps e = absurd cc
+
+  module _ (fit : ValuesFit p.blocks) where
+    abbrev Expresses : Value → AirInst → Type 0
+    Expresses v i = has_stackmap (kind_of i.op) ≡ true → IsExpressed p v i
+
+    value_expressed : (b j : ℕ) (v : Value) → StandsAt p b j v → All (Expresses v) (value_code (tables p) v)
+    unfolding value_code
+    value_expressed b j v at =
+        pick (All (Expresses v)) (folds (tables p) v.id) [] (code_of (tables p) v.kind.opcode v) (All-nil (Expresses v)) (by (has_map v.kind.opcode) refl)
+      where
+        by : (map : Bool) → has_map v.kind.opcode ≡ map → All (Expresses v) (code_of (tables p) v.kind.opcode v)
+        by true has = site_expressed p valid fit b j v at (tables p) (sound p valid) has
+        by false plain =
+            All-weaker IsMapless (Expresses v) (λ i none e. absurd (not_both (has_stackmap (kind_of i.op)) e none)) (code_of (tables p) v.kind.opcode v)
+            (code_mapless (tables p) v v.kind.opcode plain)
+
+    pub are_expressed : AreExpressed p (selected p)
+    are_expressed b k i at has =
+        let x = made_at b k i at (site_of_map (kind_of i.op) i.traps has) in
+        let v = x.value in
+        let all = value_expressed x.block x.at v x.stands in (
+          v,
+          ap (value_named p) x.made ∙ value_of_id p (is_kept p valid fit).distinct x.block v (contains_at (values_of p x.block) x.at v x.stands),
+          All-slice (Expresses v) (value_code (tables p) v) x.within i all x.here has,
+        )
+
   -- two values with one id stand at one place
   one_place : (b j c m : ℕ) (v w : Value) → StandsAt p b j v → StandsAt p c m w → v.id ≡ w.id → (b ≡ c) × (j ≡ m)
   one_place b j c m v w at other same =
@@ -183,3 +329,10 @@ module _ (p : Procedure) (valid : IsValidProcedure p) where
             ∙ ap (λ n. length (flat_map (value_code (tables p)) (take n (values_of p y.block))) + x.within) place.1
             ∙ ap (λ n. length (flat_map (value_code (tables p)) (take y.at (values_of p y.block))) + n) within ∙ sym y.is,
       )
+
+  -- and it is one of the value's that it names
+  pub all_made_for : ValuesFit p.blocks → AreMadeFor p (selected p)
+  all_made_for fit b k i at made =
+      let x = made_at b k i at made in
+      let named = value_of_id p (is_kept p valid fit).distinct x.block x.value (contains_at (values_of p x.block) x.at x.value x.stands) in
+      (x.value, ap (value_named p) x.made ∙ named)

@@ -17,16 +17,19 @@ use Rattle.air_ir.specs.declared.op.AirOp.TheVariants as op
 use Rattle.b3_meaning.specs.declared.role.Role.{Role}
 use Rattle.b3_meaning.specs.declared.role.Role.TheVariants as role
 use Rattle.b3_rules.specs.Rules.{types_of}
+use Rattle.stackmap.specs.Rules.{IsPlaceable}
 use Rattle.air_ir.specs.Meaning.{meaning}
 use Rattle.air_ir.specs.Steps.{Outcome as Ran, steps}
-use Rattle.air_select.specs.Contract.{is_built}
 use Rattle.air_fold.specs.Foldable.{is_add, is_and, is_bit, is_constant, is_shl}
 use Rattle.air_select.specs.Selected.{Tables, code_of, folds, value_code}
 use Rattle.air_fold.specs.Values.{child, known, known_in}
 use Rattle.air_select.proofs.Accesses.{frame_does, load_does, slot_does, store_does}
+use Rattle.air_select.proofs.Calls.{call_does}
 use Rattle.air_select.proofs.Copied.{argument_does, constant_does, identity_does, phi_does, row_of_role}
 use Rattle.air_select.proofs.Deciding.{comparison_row}
-use Rattle.air_select.proofs.Does.{Does, Here, effect_is, gives_does, here, named, words_here}
+use Rattle.air_select.proofs.Does.{Does, DoesSome, Here, effect_is, gives_does, here, named, words_here}
+use Rattle.air_stackmap.specs.Laws.{has_stackmap as has_map}
+use Rattle.air_select.specs.Sited.{is_site}
 use Rattle.air_select.proofs.Facts.{constant_role}
 use Rattle.air_select.proofs.Instructions.{steps_none}
 use Rattle.air_select.proofs.Leaving.{branch_does, jump_does, return_does, select_does, switch_does}
@@ -35,6 +38,7 @@ use Rattle.air_select.proofs.Pointers.{load16s_at, load16z_at, load8s_at, load8z
 use Rattle.air_select.proofs.Related.{folded_related}
 use Rattle.air_select.proofs.Remainders.{mod_does, umod_does}
 use Rattle.air_select.proofs.Rotations.{rotate_does}
+use Rattle.air_select.proofs.SiteRuns.{add_does, check_does, mul_does, patch_does, sub_does}
 use Rattle.air_select.proofs.Sources.{trunc_does, upsilon_does}
 
 and_role : (o : Opcode) → is_and o ≡ true → role_of o ≡ role.Pure
@@ -86,60 +90,74 @@ module _ (p : Procedure) (t : Tables) (start : Start) (v : Value) (h : Here p t 
   known_here : known t.index v.id ≡ known_in h.block v
   known_here = h.sound.is_known h.block v (here p t start v h)
 
-  plain_does : folds t v.id ≡ false → (o : Opcode) → v.kind.opcode ≡ o → is_built o ≡ true → Wanted (role_of o) (steps (meaning start) (code_of t o v) h.s junk)
-  plain_does un opcode.Nop eo built = (h.s, steps_none start h.s junk, h.related)
-  plain_does un opcode.Const32 eo built = constant_does p t start v h junk (row_of_role p t start v h opcode.Const32 eo)
-  plain_does un opcode.Const64 eo built = constant_does p t start v h junk (row_of_role p t start v h opcode.Const64 eo)
-  plain_does un opcode.ArgumentReg eo built = argument_does p t start v h junk eo
-  plain_does un opcode.Identity eo built = identity_does p t start v h junk eo
-  plain_does un opcode.Mod eo built = mod_does p t start v h junk eo
-  plain_does un opcode.UMod eo built = umod_does p t start v h junk eo
-  plain_does un opcode.RotL eo built = rotate_does p t start v h junk eo
-  plain_does un opcode.Trunc eo built = trunc_does p t start v h junk eo
-  plain_does un opcode.Select eo built = select_does p t start v h junk eo
-  plain_does un opcode.Upsilon eo built = upsilon_does p t start v h junk eo
-  plain_does un opcode.Phi eo built = phi_does p t start v h junk
-  plain_does un opcode.Jump eo built = jump_does p t start v h junk eo
-  plain_does un opcode.Oops eo built = tt
-  plain_does un opcode.Branch eo built = branch_does p t start v h junk eo
-  plain_does un opcode.Switch eo built = switch_does p t start v h junk eo
-  plain_does un opcode.Return eo built = return_does p t start v h junk eo
-  plain_does un opcode.FramePointer eo built = frame_does p t start v h junk eo
-  plain_does un opcode.SlotBase eo built = slot_does p t start v h junk eo
-  plain_does un opcode.Load8Z eo built = load_does p t start v h junk opcode.Load8Z op.Load8Z Byte false eo refl refl (λ e. cc)
+  plain_does : folds t v.id ≡ false → (o : Opcode) → v.kind.opcode ≡ o → is_site o ≡ false → Wanted (role_of o) (steps (meaning start) (code_of t o v) h.s junk)
+  plain_does un opcode.Nop eo alone = (h.s, steps_none start h.s junk, h.related)
+  plain_does un opcode.Const32 eo alone = constant_does p t start v h junk (row_of_role p t start v h opcode.Const32 eo)
+  plain_does un opcode.Const64 eo alone = constant_does p t start v h junk (row_of_role p t start v h opcode.Const64 eo)
+  plain_does un opcode.ArgumentReg eo alone = argument_does p t start v h junk eo
+  plain_does un opcode.Identity eo alone = identity_does p t start v h junk eo
+  plain_does un opcode.Mod eo alone = mod_does p t start v h junk eo
+  plain_does un opcode.UMod eo alone = umod_does p t start v h junk eo
+  plain_does un opcode.RotL eo alone = rotate_does p t start v h junk eo
+  plain_does un opcode.Trunc eo alone = trunc_does p t start v h junk eo
+  plain_does un opcode.Select eo alone = select_does p t start v h junk eo
+  plain_does un opcode.Upsilon eo alone = upsilon_does p t start v h junk eo
+  plain_does un opcode.Phi eo alone = phi_does p t start v h junk
+  plain_does un opcode.Jump eo alone = jump_does p t start v h junk eo
+  plain_does un opcode.Oops eo alone = tt
+  plain_does un opcode.Branch eo alone = branch_does p t start v h junk eo
+  plain_does un opcode.Switch eo alone = switch_does p t start v h junk eo
+  plain_does un opcode.Return eo alone = return_does p t start v h junk eo
+  plain_does un opcode.FramePointer eo alone = frame_does p t start v h junk eo
+  plain_does un opcode.SlotBase eo alone = slot_does p t start v h junk eo
+  plain_does un opcode.Load8Z eo alone = load_does p t start v h junk opcode.Load8Z op.Load8Z Byte false eo refl refl (λ e. cc)
       (load8z_at p t v h.block known_here) (λ ty ts a. a.children)
-  plain_does un opcode.Load8S eo built = load_does p t start v h junk opcode.Load8S op.Load8S Byte true eo refl refl (λ e. cc)
+  plain_does un opcode.Load8S eo alone = load_does p t start v h junk opcode.Load8S op.Load8S Byte true eo refl refl (λ e. cc)
       (load8s_at p t v h.block known_here) (λ ty ts a. a.children)
-  plain_does un opcode.Load16Z eo built = load_does p t start v h junk opcode.Load16Z op.Load16Z Half false eo refl refl (λ e. cc)
+  plain_does un opcode.Load16Z eo alone = load_does p t start v h junk opcode.Load16Z op.Load16Z Half false eo refl refl (λ e. cc)
       (load16z_at p t v h.block known_here) (λ ty ts a. a.children)
-  plain_does un opcode.Load16S eo built = load_does p t start v h junk opcode.Load16S op.Load16S Half true eo refl refl (λ e. cc)
+  plain_does un opcode.Load16S eo alone = load_does p t start v h junk opcode.Load16S op.Load16S Half true eo refl refl (λ e. cc)
       (load16s_at p t v h.block known_here) (λ ty ts a. a.children)
-  plain_does un opcode.Load eo built = load_does p t start v h junk opcode.Load op.Load Whole false eo refl refl (λ e. cc)
+  plain_does un opcode.Load eo alone = load_does p t start v h junk opcode.Load op.Load Whole false eo refl refl (λ e. cc)
       (load_at p t v h.block known_here) (λ ty ts a. a.children)
-  plain_does un opcode.Store8 eo built =
+  plain_does un opcode.Store8 eo alone =
       store_does p t start v h junk opcode.Store8 op.Store8 Byte (This Int32) eo refl refl (λ e. cc) (λ k. refl)
       (store8_at p t v h.block known_here) (λ ty ts a. a.children)
-  plain_does un opcode.Store16 eo built =
+  plain_does un opcode.Store16 eo alone =
       store_does p t start v h junk opcode.Store16 op.Store16 Half (This Int32) eo refl refl (λ e. cc) (λ k. refl)
       (store16_at p t v h.block known_here) (λ ty ts a. a.children)
-  plain_does un opcode.Store eo built =
+  plain_does un opcode.Store eo alone =
       store_does p t start v h junk opcode.Store op.Store Whole Any eo refl refl (λ e. cc) (λ k. refl) (store_at p t v h.block known_here)
       (λ ty ts a. a.children)
-  plain_does un opcode.CCall eo built = absurd (cc)
-  plain_does un opcode.Patchpoint eo built = absurd (cc)
-  plain_does un opcode.Check eo built = absurd (cc)
-  plain_does un opcode.CheckAdd eo built = absurd (cc)
-  plain_does un opcode.CheckSub eo built = absurd (cc)
-  plain_does un opcode.CheckMul eo built = absurd (cc)
-  plain_does un o eo built = one_op_does p t start v h junk o eo refl
+  plain_does un opcode.CCall eo alone = absurd (cc)
+  plain_does un opcode.Patchpoint eo alone = absurd (cc)
+  plain_does un opcode.Check eo alone = absurd (cc)
+  plain_does un opcode.CheckAdd eo alone = absurd (cc)
+  plain_does un opcode.CheckSub eo alone = absurd (cc)
+  plain_does un opcode.CheckMul eo alone = absurd (cc)
+  plain_does un o eo alone = one_op_does p t start v h junk o eo refl
       (λ add. h.sound.pointer h.block v (here p t start v h) (ap is_add eo ∙ add) ∙ un)
 
-  pub value_does : is_built v.kind.opcode ≡ true → Does p t start v junk (b3.effect (type_of p) start h.st v) (steps (meaning start) (value_code t v) h.s junk)
+  -- whatever junk is left
+  code_does : folds t v.id ≡ false → (o : Opcode) → v.kind.opcode ≡ o → (has_map o ≡ true → IsPlaceable v)
+      → DoesSome p t start v (b3.effect_by (role_of o) start h.st v (types_of p v) (words_here p t start v h)) (steps (meaning start) (code_of t o v) h.s junk)
+  code_does un opcode.CCall eo placed = call_does p t start v h junk eo
+  code_does un opcode.Patchpoint eo placed = patch_does p t start v h (ap has_map eo) (placed refl) junk eo
+  code_does un opcode.Check eo placed = check_does p t start v h (ap has_map eo) (placed refl) junk eo
+  code_does un opcode.CheckAdd eo placed = add_does p t start v h (ap has_map eo) (placed refl) junk eo
+  code_does un opcode.CheckSub eo placed = sub_does p t start v h (ap has_map eo) (placed refl) junk eo
+  code_does un opcode.CheckMul eo placed = mul_does p t start v h (ap has_map eo) (placed refl) junk eo
+  code_does un o eo placed = (junk, plain_does un o eo refl)
+
+  pub value_does : (has_map v.kind.opcode ≡ true → IsPlaceable v)
+      → DoesSome p t start v (b3.effect (type_of p) start h.st v) (steps (meaning start) (value_code t v) h.s junk)
   unfolding value_code
-  value_does built =
-      subst (λ (e : b3.Effect). Does p t start v junk e (steps (meaning start) (value_code t v) h.s junk)) (sym (effect_is p t start v h))
+  value_does placed =
+      subst (λ (e : b3.Effect). DoesSome p t start v e (steps (meaning start) (value_code t v) h.s junk)) (sym (effect_is p t start v h))
       (go (folds t v.id) refl)
     where
-      go : (f : Bool) → folds t v.id ≡ f → Wanted (role_of v.kind.opcode) (steps (meaning start) (if f then [] else code_of t v.kind.opcode v) h.s junk)
-      go true e = folded_does e
-      go false e = plain_does e v.kind.opcode refl built
+      go : (f : Bool) → folds t v.id ≡ f
+          → DoesSome p t start v (b3.effect_by (role_of v.kind.opcode) start h.st v (types_of p v) (words_here p t start v h))
+          (steps (meaning start) (if f then [] else code_of t v.kind.opcode v) h.s junk)
+      go true e = (junk, folded_does e)
+      go false e = code_does e v.kind.opcode refl placed

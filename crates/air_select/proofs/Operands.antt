@@ -10,10 +10,12 @@ use Rattle.b3_ir.specs.Naming.{all_values, type_of, value_named}
 use Rattle.b3_ir.specs.Procedure.{Procedure, values_of}
 use Rattle.b3_ir.specs.Types.{AreTaken, IsTaken, width_of}
 use Rattle.b3_ir.specs.declared.opcode.Opcode.{Opcode}
+use Rattle.b3_ir.specs.declared.opcode.Opcode.TheVariants as opcode
 use Rattle.b3_ir.specs.declared.opcode.Ty.{Ty}
 use Rattle.b3_ir.specs.declared.opcode.Ty.TheVariants.{Void}
 use Rattle.b3_ir.specs.declared.table.More.TheVariants.{NoMore}
 use Rattle.b3_ir.specs.declared.table.Takes.{Takes as Taken}
+use Rattle.b3_ir.specs.declared.value.Body.TheVariants.{Constant}
 use Rattle.b3_ir.specs.declared.value.Value.{Value}
 use Rattle.b3_ir.proofs.Typing.{allowed}
 use Rattle.b3_rules.specs.Rules.{types_of}
@@ -25,9 +27,10 @@ use Rattle.air_ir.specs.declared.operand.Arg.TheVariants.{At, Imm}
 use Rattle.air_fold.specs.Foldable.{constant_fits, pointers, sum_fits, value_fits, is_constant, is_immediate, is_mask, first_immediates, is_named, second_immediates, some_below}
 use Rattle.air_select.specs.Selected.{Tables, arg_of, folds, use_of}
 use Rattle.air_select.specs.Temporaries.{home}
-use Rattle.air_fold.specs.Values.{known, known_in, width_at}
+use Rattle.air_fold.specs.Values.{Index, known, known_in, width_at}
 use Rattle.air_fold.specs.declared.known.Known.{Known}
 use Rattle.air_select.proofs.Children.{fit_cases}
+use Rattle.air_select.specs.Sited.{is_site}
 use Rattle.air_select.proofs.Facts.{body_below, constant_role}
 use Rattle.air_select.proofs.Returned.{id_found, named_of, stands_somewhere, contains_at}
 use Rattle.air_select.proofs.Setting.{IsSound}
@@ -64,10 +67,47 @@ immediates_at o zero = first_immediates o
 immediates_at o (suc zero) = second_immediates o
 immediates_at o at = NoImmediate
 
-fits_at : (o : Opcode) (i : ℕ) (width : Width) (word : ℕ) → constant_fits o i width word ≡ true → is_immediate (immediates_at o i) width word ≡ true
+pub fits_at : (o : Opcode) (i : ℕ) (width : Width) (word : ℕ) → constant_fits o i width word ≡ true → is_immediate (immediates_at o i) width word ≡ true
 fits_at o zero width word e = e
 fits_at o (suc zero) width word e = e
 fits_at o (suc (suc i)) width word e = e
+
+-- a call, a patchpoint and a check have none
+pub no_immediate : (o : Opcode) (i : ℕ) → is_site o ≡ true → immediates_at o i ≡ NoImmediate
+no_immediate opcode.CCall zero e = refl
+no_immediate opcode.CCall (suc zero) e = refl
+no_immediate opcode.CCall (suc (suc i)) e = refl
+no_immediate opcode.Patchpoint zero e = refl
+no_immediate opcode.Patchpoint (suc zero) e = refl
+no_immediate opcode.Patchpoint (suc (suc i)) e = refl
+no_immediate opcode.Check zero e = refl
+no_immediate opcode.Check (suc zero) e = refl
+no_immediate opcode.Check (suc (suc i)) e = refl
+no_immediate opcode.CheckAdd zero e = refl
+no_immediate opcode.CheckAdd (suc zero) e = refl
+no_immediate opcode.CheckAdd (suc (suc i)) e = refl
+no_immediate opcode.CheckSub zero e = refl
+no_immediate opcode.CheckSub (suc zero) e = refl
+no_immediate opcode.CheckSub (suc (suc i)) e = refl
+no_immediate opcode.CheckMul zero e = refl
+no_immediate opcode.CheckMul (suc zero) e = refl
+no_immediate opcode.CheckMul (suc (suc i)) e = refl
+no_immediate _ i e = absurd cc
+
+pub never_constant : (o : Opcode) (i : ℕ) (width : Width) (word : ℕ) → is_site o ≡ true → constant_fits o i width word ≡ false
+never_constant o i width word site = by (constant_fits o i width word) refl
+  where
+    by : (b : Bool) → constant_fits o i width word ≡ b → b ≡ false
+    by false e = refl
+    by true e =
+        let none : is_immediate NoImmediate width word ≡ true =
+        subst (λ (m : Immediates). is_immediate m width word ≡ true) (no_immediate o i site) (fits_at o i width word e) in
+        absurd cc
+
+-- and none of their children is a part of a sum
+pub no_sum : (x : Index) (f : List Bool) (o : Opcode) (i user : ℕ) → is_site o ≡ true → sum_fits x f o i user ≡ false
+no_sum x f opcode.Add i user e = absurd cc
+no_sum x f _ i user e = refl
 
 -- ---- children
 module _ (p : Procedure) (valid : IsKept p) (t : Tables) (sound : IsSound p t) where
@@ -87,6 +127,25 @@ module _ (p : Procedure) (valid : IsKept p) (t : Tables) (sound : IsSound p t) w
       rules.fits.body in
       let body = body_below (2 ^ bits (width_of w.ty)) w.body (subst (λ q. IsRow q w.ty (types_of p w) w.body) role row) in
       subst (λ (k : Known). k.word < 2 ^ bits (width_of k.ty)) (sym is) body.1
+
+  -- an id that is known as a constant's names one with this word
+  pub constant_value : (c : ℕ) → type_of p c ≢ Void → is_constant (known t.index c).opcode ≡ true
+      → (w : Value) × (value_named p c ≡ Some w) × (is_constant w.kind.opcode ≡ true) × (w.body ≡ Constant (known t.index c).word)
+  constant_value c typed const =
+      let named = named_of c (value_named p c) (type_of p c) refl typed in
+      let w = named.0 in
+      let found = id_found c (all_values p) w named.1 in
+      let at = stands_somewhere p w found.0 in
+      let in_b : Contains (values_of p at.0) w = contains_at (values_of p at.0) at.1 w at.2 in
+      let st = stands p at.0 w in_b in
+      let rules = valid.rules at.0 st.0 w st.1 in
+      let is : known t.index c ≡ known_in at.0 w = ap (known t.index) (sym found.1) ∙ sound.is_known at.0 w in_b in
+      let own : is_constant w.kind.opcode ≡ true = sym (ap (λ (k : Known). is_constant k.opcode) is) ∙ const in
+      let role = constant_role w.kind.opcode own in
+      let row = row_by_role w.kind.opcode w.ty (types_of p w) (reported_count w) w.body (allowed w.kind.opcode w.ty (types_of p w) rules.typed)
+      rules.fits.body in
+      let body = body_below (2 ^ bits (width_of w.ty)) w.body (subst (λ q. IsRow q w.ty (types_of p w) w.body) role row) in
+      (w, named.1, own, body.0 ∙ ap (λ (k : Known). Constant k.word) (sym is))
 
   module _ (b : ℕ) (v : Value) (here : Contains (values_of p b) v) where
     -- a child that is no condition is a home or an immediate

@@ -18,6 +18,9 @@ use Rattle.air_ir.specs.declared.procedure.AirInst.{AirInst}
 use Rattle.air_fold.specs.Values.{Index, child, offset_in, width_at}
 use Rattle.air_fold.proofs.Places.{get_behind, get_front, get_within}
 use Rattle.air_select.specs.Selected.{Tables, argument_move, argument_moves, before_access, code_of, entry_of, far_sum, folds, last_id, load_of, names_argument, return_of, store_of, value_code}
+use Rattle.air_stackmap.specs.Laws.{has_stackmap as has_map}
+use Rattle.air_select.proofs.CallCode.{call_all}
+use Rattle.air_select.proofs.MapCode.{map_code_all}
 use Rattle.air_select.proofs.Sites.{all_one, all_three, all_two}
 
 -- ---- pieces of a list
@@ -90,6 +93,9 @@ module _ (t : Tables) (v : Value) where
       let bytes = extent_bytes extent (width_at t.index (child v.children 0)) in
       All-append (IsFor v.id) (before_access t v (child v.children 1) bytes) _ (before_for (child v.children 1) bytes) (all_one (IsFor v.id) _ refl)
 
+  map_for : (o : Opcode) → has_map o ≡ true → All (IsFor v.id) (code_of t o v)
+  map_for o e = map_code_all t v (IsFor v.id) (λ c reg is. refl) (λ reg. refl) (λ air inputs results n has ins outs. refl) o e
+
   code_for : (o : Opcode) → All (IsFor v.id) (code_of t o v)
   code_for opcode.Nop = All-nil (IsFor v.id)
   code_for opcode.Load8Z = load_for op.Load8Z Byte
@@ -100,6 +106,12 @@ module _ (t : Tables) (v : Value) where
   code_for opcode.Store8 = store_for op.Store8 Byte
   code_for opcode.Store16 = store_for op.Store16 Half
   code_for opcode.Store = store_for op.Store Whole
+  code_for opcode.Patchpoint = map_for opcode.Patchpoint refl
+  code_for opcode.Check = map_for opcode.Check refl
+  code_for opcode.CheckAdd = map_for opcode.CheckAdd refl
+  code_for opcode.CheckSub = map_for opcode.CheckSub refl
+  code_for opcode.CheckMul = map_for opcode.CheckMul refl
+  code_for opcode.CCall = call_all t v (IsFor v.id) (λ k c at. refl) refl refl
   code_for opcode.Mod = either_for v.kind.chill _ _ (all_three (IsFor v.id) _ _ _ refl refl refl) (all_two (IsFor v.id) _ _ refl refl)
   code_for opcode.UMod = either_for v.kind.chill _ _ (all_three (IsFor v.id) _ _ _ refl refl refl) (all_two (IsFor v.id) _ _ refl refl)
   code_for opcode.RotL = either_for (folds t (child v.children 1)) _ _ (all_one (IsFor v.id) _ refl) (all_two (IsFor v.id) _ _ refl refl)

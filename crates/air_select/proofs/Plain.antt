@@ -32,6 +32,7 @@ use Rattle.air_fold.specs.Values.{Index, width_at}
 use Rattle.air_fold.specs.declared.known.Known.{Known}
 use Rattle.air_select.proofs.Children.{children_words, readable, typed, width_is, words_cons, words_nil}
 use Rattle.air_select.proofs.Does.{Does, Here, allows, are_typed, are_words, at, gives_does, here, puts, result_small, words_here}
+use Rattle.air_select.specs.Sited.{is_site}
 use Rattle.air_select.proofs.Facts.{child_ran}
 use Rattle.air_select.proofs.Instructions.{one_word, reads_def, steps_last, with_home, writes_def, writes_use}
 use Rattle.air_select.proofs.OneOp.{first_width, is_one_op, one_op_right}
@@ -126,6 +127,21 @@ pub no_value : (x : Index) (f : List Bool) (o : Opcode) (i user : ℕ) (k : Know
 no_value x f o zero user k e = no_first x o user k e
 no_value x f o (suc zero) user k e = no_second x f o user k e
 no_value x f o (suc (suc i)) user k e = refl
+
+-- a call, a patchpoint and a check have none
+pub site_values : (o : Opcode) → is_site o ≡ true → takes_values o ≡ false
+site_values opcode.Branch e = absurd cc
+site_values opcode.Select e = absurd cc
+site_values opcode.Add e = absurd cc
+site_values opcode.Load8Z e = absurd cc
+site_values opcode.Load8S e = absurd cc
+site_values opcode.Load16Z e = absurd cc
+site_values opcode.Load16S e = absurd cc
+site_values opcode.Load e = absurd cc
+site_values opcode.Store8 e = absurd cc
+site_values opcode.Store16 e = absurd cc
+site_values opcode.Store e = absurd cc
+site_values _ e = refl
 
 one_op_values : (o : Opcode) → is_one_op o ≡ true → (is_add o ≡ true) ⊎ (takes_values o ≡ false)
 one_op_values opcode.Add e = inl refl

@@ -1,5 +1,5 @@
 -- The states of the two runs: what homes hold of the words of values.
-use Rattle.std.proofs.Common.{◌≡◌, ◌≢◌, ℕ, ◌+◌, ◌*◌, ◌^◌, ◌<◌, inl, inr, true, false, length, Some, refl, sym, ap, ◌∙◌, subst, arith}
+use Rattle.std.proofs.Common.{◌≡◌, ◌≢◌, ℕ, ◌+◌, ◌*◌, ◌^◌, ◌<◌, inl, inr, true, false, length, Option, Some, refl, sym, ap, ◌∙◌, subst, arith}
 use Rattle.std.proofs.lemmas.Bool.{cases_eq, eq-eqb, ne_eqb}
 use Rattle.b3_base.specs.Arithmetic.{low}
 use Rattle.b3_base.specs.Observed.{Start}
@@ -16,7 +16,7 @@ use Rattle.air_ir.specs.Steps.{State}
 use Rattle.air_ir.specs.declared.operand.Home.{Home}
 use Rattle.air_ir.specs.declared.operand.Home.TheVariants.{Tmp}
 use Rattle.b3_sound.proofs.Effects.{word_here, word_there}
-use Rattle.air_select.specs.Selected.{Tables, folds, names_argument}
+use Rattle.air_select.specs.Selected.{Tables, folds, names_argument, register}
 use Rattle.air_select.specs.Temporaries.{argument, home, location}
 use Rattle.air_fold.specs.Values.{place, width_at}
 use Rattle.air_select.proofs.Setting.{IsSound}
@@ -41,6 +41,23 @@ module _ (p : Procedure) (t : Tables) (start : Start) where
     pub events : s.world.events ≡ st.events
     pub answers : s.world.answers ≡ st.answers
 
+  -- what changes no temporary, and does the same to both worlds
+  pub kept_related : (st st' : b3.State) (s s' : State) → Related st s → ((n : ℕ) → s'.homes (Tmp n) ≡ s.homes (Tmp n))
+      → st'.words ≡ st.words → st'.locations ≡ st.locations
+      → s'.world.memory ≡ st'.memory → s'.world.events ≡ st'.events → s'.world.answers ≡ st'.answers → Related st' s'
+  kept_related st st' s s' r homes words locations memory events answers = record {
+    words = λ id word now un.
+        ap (read (width_at t.index id)) (homes (3 * place t.index id)) ∙ r.words id word (sym (ap (λ (f : ℕ → Option ℕ). f id) words) ∙ now) un;
+    locations = λ id word now.
+        ap (read (width_at t.index id)) (homes (3 * place t.index id + 1))
+        ∙ r.locations id word (sym (ap (λ (f : ℕ → Option ℕ). f id) locations) ∙ now);
+    phis = λ id word now. r.phis id word (sym (ap (λ (f : ℕ → Option ℕ). f id) locations) ∙ now);
+    arguments = λ reg few names. ap (read W64) (homes (3 * length t.index.ids + reg)) ∙ r.arguments reg few names;
+    memory = memory;
+    events = events;
+    answers = answers;
+  }
+
 -- ---- writing
 
 pub put_here : (homes : Homes) (n : ℕ) (held : Held) → put homes (Tmp n) held (Tmp n) ≡ held
@@ -50,6 +67,19 @@ put_here homes n held = rw (eq-eqb n n refl) refl
 pub put_there : (homes : Homes) (n m : ℕ) (held : Held) → m ≢ n → put homes (Tmp n) held (Tmp m) ≡ homes (Tmp m)
 unfolding put
 put_there homes n m held differ = rw (ne_eqb m n differ) refl
+
+-- a register is no temporary
+pub put_register : (homes : Homes) (r n : ℕ) (held : Held) → put homes (register r) held (Tmp n) ≡ homes (Tmp n)
+unfolding put
+put_register homes r n held = refl
+
+pub register_here : (homes : Homes) (r : ℕ) (held : Held) → put homes (register r) held (register r) ≡ held
+unfolding put
+register_here homes r held = rw (eq-eqb r r refl) refl
+
+pub register_there : (homes : Homes) (r k : ℕ) (held : Held) → k ≢ r → put homes (register r) held (register k) ≡ homes (register k)
+unfolding put
+register_there homes r k held differ = rw (ne_eqb k r differ) refl
 
 pub low_word : (width : Width) (word : ℕ) → word < 2 ^ bits width → low width word ≡ word
 low_word W32 word lt = omega arith

@@ -1,14 +1,12 @@
 -- A procedure that returns 7, as it stands in the tests.
-use Rattle.std.proofs.Common.{◌≡◌, ℕ, true, false, List, [], ◌∷◌, refl, arith}
-use Rattle.std.specs.Prelude.{All}
-use Rattle.std.proofs.lemmas.List.Elements.{All-cons, All-nil}
+use Rattle.std.proofs.Common.{ℕ, false, List, [], ◌∷◌, arith}
 use Rattle.b3_ir.specs.Procedure.{Block, Procedure}
 use Rattle.b3_ir.specs.declared.opcode.Kind.{Kind}
 use Rattle.b3_ir.specs.declared.opcode.Opcode.TheVariants.{Const64, Return}
 use Rattle.b3_ir.specs.declared.opcode.Ty.TheVariants.{Int64, Void}
 use Rattle.b3_ir.specs.declared.value.Body.TheVariants.{Constant, Plain}
 use Rattle.b3_ir.specs.declared.value.Value.{Value}
-use Rattle.air_select.specs.Contract.{IsBuilt, IsWithinLimits, is_built}
+use Rattle.air_select.specs.Contract.{IsWithinLimits}
 
 -- the values and the procedure that the function makes
 abbrev pub constant : Kind → List ℕ → Value
@@ -28,12 +26,6 @@ block_of line = record { number = 0; line = line; values = constant_value ∷ re
 
 abbrev pub seven : List ℕ → ℕ → Procedure
 seven name line = record { name = name; line = line; slots = []; blocks = block_of line ∷ [] }
-
-pub seven_is_built : (name : List ℕ) (line : ℕ) → IsBuilt (seven name line)
-seven_is_built name line =
-    let P = λ (v : Value). is_built v.kind.opcode ≡ true in
-    All-cons (λ (b : Block). All P b.values) (block_of line) []
-    (All-cons P constant_value (return_value ∷ []) refl (All-cons P return_value [] refl (All-nil P))) (All-nil (λ (b : Block). All P b.values))
 
 pub seven_is_small : (name : List ℕ) (line : ℕ) → IsWithinLimits (seven name line)
 seven_is_small name line = record { values = omega arith; blocks = omega arith; children = omega arith }

@@ -9,12 +9,14 @@ use Rattle.b3_rules.specs.Valid.{IsValid, IsValidProcedure}
 use Rattle.b3_sound.proofs.FromValid.{is_kept}
 use Rattle.air_ir.specs.Run.{HasBlocksOf}
 use Rattle.air_ir.specs.declared.procedure.AirProc.{AirProc}
-use Rattle.air_select.specs.Contract.{IsBuilt, procedure_at}
+use Rattle.air_select.specs.Contract.{procedure_at}
 use Rattle.air_select.specs.Selected.{block_code, entry_of, selected, selected_by, tables}
 use Rattle.air_select.proofs.Beginning.{same_blocks}
 use Rattle.air_select.proofs.Entering.{has_arguments}
-use Rattle.air_select.proofs.Sound.{sound}
-use Rattle.air_select.proofs.Successors.{all_built, names_none}
+use Rattle.air_select.proofs.Sound.{sound, stands}
+use Rattle.air_select.proofs.MapFacts.{placeable_of}
+use Rattle.air_select.proofs.SameBlocks.{AllPlaced}
+use Rattle.air_select.proofs.Successors.{names_none}
 
 some_is : (k l : Kept) → Some k ≡ Some l → k ≡ l
 some_is k l e = cc
@@ -34,9 +36,13 @@ blocks_are : (p : Procedure) → (selected p).blocks ≡ entry_of (tables p).ind
 unfolding selected_by
 blocks_are p = refl
 
-pub same : (p : Procedure) → IsValidProcedure p → AllFit p.blocks → IsBuilt p → HasBlocksOf p (selected p)
-same p valid fit built =
-    same_blocks p (is_kept p valid fit) (tables p) (sound p valid) (all_built p built) (names_none p fit) (has_arguments p valid) (selected p) (blocks_are p)
+all_placed : (p : Procedure) → IsValidProcedure p → AllFit p.blocks → AllPlaced p
+all_placed p valid fit b v has = let at = stands (values_of p b) v has in placeable_of p valid fit b at.0 v at.1
+
+pub same : (p : Procedure) → IsValidProcedure p → AllFit p.blocks → HasBlocksOf p (selected p)
+same p valid fit =
+    same_blocks p (is_kept p valid fit) (tables p) (sound p valid) (all_placed p valid fit) (names_none p fit) (has_arguments p valid) (selected p)
+    (blocks_are p)
 
 -- what holds of the answer by what it is
 pub if_ok : {E : Type 0} (r : Result AirProc E) (P Q : AirProc → Type 0) → ((q : AirProc) → P q → Q q) → IfOk r P → IfOk r Q

@@ -1,6 +1,6 @@
 -- What holds of each instruction that is selected: its op is one that is selected, of arithmetic where its opcode is, and it
 -- names no spill place.
-use Rattle.std.proofs.Common.{◌≡◌, pos, ◌+◌, ℕ, zero, suc, Bool, true, false, ◌||◌, List, [], ◌∷◌, ◌++◌, map, refl, sym, ap, ◌∙◌, ◌*◌, Some, subst}
+use Rattle.std.proofs.Common.{◌≡◌, pos, ◌+◌, ℕ, zero, suc, inl, inr, Bool, true, false, ◌||◌, List, [], ◌∷◌, ◌++◌, drop, map, refl, sym, ap, ◌∙◌, ◌*◌, Some, None, subst}
 use Rattle.std.specs.Prelude.{All, if◌then◌else◌, slice_get}
 use Rattle.std.proofs.lemmas.Option.{get_or_from_slice_get, slice_get_within}
 use Rattle.std.specs.List.{flat_map}
@@ -12,10 +12,11 @@ use Rattle.b3_ir.specs.Types.{width_of}
 use Rattle.b3_ir.specs.Procedure.{Block, Procedure, values_of}
 use Rattle.b3_ir.specs.declared.opcode.Opcode.{Opcode}
 use Rattle.b3_ir.specs.declared.opcode.Opcode.TheVariants as opcode
+use Rattle.b3_ir.specs.declared.value.Reg.{Reg as Register}
 use Rattle.b3_ir.specs.declared.value.Value.{Value}
 use Rattle.b3_meaning.specs.declared.role.Extent.{Extent}
 use Rattle.b3_meaning.specs.declared.role.Extent.TheVariants.{Byte, Half, Whole}
-use Rattle.air_ir.specs.Forms.{is_offset}
+use Rattle.air_ir.specs.Forms.{call_clobbers, is_offset, operand_in}
 use Rattle.air_ir.specs.Kinds.{Kind, Copies, Computes, Branches, Jumps, Switches, Returns, Fails, extent_bytes, kind_of, makes_site}
 use Rattle.air_ir.specs.WellFormed.{NamesSpillsBelow, SpillsBelow}
 use Rattle.air_ir.specs.declared.op.AirOp.{AirOp}
@@ -23,16 +24,25 @@ use Rattle.air_ir.specs.declared.op.AirOp.TheVariants as op
 use Rattle.air_ir.specs.declared.op.Test.TheVariants.{Bit, Compare, NonZero}
 use Rattle.air_ir.specs.declared.operand.Arg.{Arg}
 use Rattle.air_ir.specs.declared.operand.Arg.TheVariants.{Addr, At, FrameSlot, Imm, Index as Indexed}
-use Rattle.air_ir.specs.declared.operand.Home.TheVariants.{Tmp}
+use Rattle.air_ir.specs.declared.operand.Home.{Home}
+use Rattle.air_ir.specs.declared.operand.Home.TheVariants.{Reg, Tmp}
+use Rattle.air_ir.specs.declared.operand.Role.{Role}
+use Rattle.air_ir.specs.declared.operand.Role.TheVariants.{Clobber, Def, Use}
 use Rattle.air_ir.specs.declared.operand.Operand.{Operand}
 use Rattle.air_ir.specs.declared.procedure.AirBlock.{AirBlock}
 use Rattle.air_ir.specs.declared.procedure.AirInst.{AirInst}
-use Rattle.air_select.specs.Contract.{HasArithmeticAlone, IsArithmetic, IsSelected, is_arithmetic, is_arithmetic_kind, is_arithmetic_opcode, is_selected, is_selected_kind}
+use Rattle.air_select.specs.Contract.{HasArithmeticAlone, IsArithmetic, IsSelected, is_arithmetic, is_arithmetic_kind, has_stackmap, is_arithmetic_opcode, is_selected}
 use Rattle.air_fold.specs.Foldable.{bit_of, is_comparison, is_constant, whole}
 use Rattle.air_fold.specs.declared.known.Known.{Known}
-use Rattle.air_select.specs.Selected.{Condition, Tables, address_of, arg_of, argument_move, argument_moves, before_access, block_code, cases_in, chosen_rest, code_of, computes, condition, condition_of, copy_of, def_at, entry_of, far_sum, folded_condition, folds, home_address, indexed_by, inst, last_id, load_of, move, names_argument, negative_amount, op_of, quotient_of, register, rest_into, result_of, return_of, rotate_by, select_on, selected, selected_by, slot_in, store_of, sum_address, tables, turned, use_at, use_of, value_code}
+use Rattle.air_select.specs.Selected.{Condition, Tables, address_of, arg_of, argument_move, argument_moves, arguments_into, before_access, block_code, call_of, call_to, cases_in, chosen_rest, code_of, computes, condition, condition_of, copy_of, def_at, entry_of, far_sum, folded_condition, folds, home_address, indexed_by, inst, last_id, load_of, move, names_argument, negative_amount, op_of, quotient_of, register, reported_behind, rest_into, result_from, result_of, return_of, rotate_by, select_on, selected, selected_by, slot_in, store_of, sum_address, tables, turned, use_at, use_of, value_code}
 use Rattle.air_select.specs.Temporaries.{first_extra, home, second_extra}
 use Rattle.air_fold.specs.Values.{Index, child, known, offset_in, place, width_at}
+use Rattle.air_stackmap.specs.Laws.{has_stackmap as has_map}
+use Rattle.air_select.specs.Sited.{touches}
+use Rattle.air_stackmap.specs.SiteCode as sites
+use Rattle.air_stackmap.specs.declared.child.Child.{Child}
+use Rattle.air_select.proofs.CallCode.{arguments_all, operands_all, result_all}
+use Rattle.air_select.proofs.MapCode.{IsChildOf, IsOut, IsUse, are_children, map_code_all, pick, site_all}
 
 -- ---- lists
 pub all_flat : {X Y : Type 0} (P : Y → Type 0) (f : X → List Y) → ((x : X) → All P (f x)) → (xs : List X) → All P (flat_map f xs)
@@ -110,10 +120,6 @@ use_low t id = choice_low (folds t id) _ _
 uses_low : (t : Tables) (ids : List ℕ) → All IsLow (map (use_of t) ids)
 uses_low t ids = All-map IsLow (use_of t) ids (all_of (λ id. IsLow (use_of t id)) (use_low t) ids)
 
-pub pick : {X : Type 0} (P : X → Type 0) (b : Bool) (x y : X) → P x → P y → P (if b then x else y)
-pick P true x y p q = p
-pick P false x y p q = q
-
 abbrev pub IsLowCondition : Condition → Type 0
 IsLowCondition c = All IsLow c.over
 
@@ -146,38 +152,13 @@ pub record IsFine (i : AirInst) : Type 0 where
   pub selected : is_selected i.op ≡ true
   pub low : All IsLow i.operands
 
--- what an arithmetic op is among those that are selected
-arithmetic_kind_selected : (k : Kind) → is_arithmetic_kind k ≡ true → is_selected_kind k ≡ true
-arithmetic_kind_selected Copies e = refl
-arithmetic_kind_selected Computes e = refl
-arithmetic_kind_selected (Branches test) e = refl
-arithmetic_kind_selected Jumps e = refl
-arithmetic_kind_selected (Switches cases) e = refl
-arithmetic_kind_selected Returns e = refl
-arithmetic_kind_selected Fails e = refl
-arithmetic_kind_selected _ e = absurd cc
-
 arithmetic_selected : (op : AirOp) → is_arithmetic op ≡ true → is_selected op ≡ true
 arithmetic_selected op.Shuffle e = absurd cc
 arithmetic_selected op.Move e = refl
-arithmetic_selected o e = arithmetic_kind_selected (kind_of o) e
+arithmetic_selected _ e = refl
 
 plain_fine : (i : AirInst) → IsPlain i → IsFine i
 plain_fine i p = record { selected = arithmetic_selected i.op p.arithmetic; low = p.low }
-
--- the opcodes that are selected as accesses, or as the address of a slot or the frame pointer
-abbrev pub touches : Opcode → Bool
-touches opcode.FramePointer = true
-touches opcode.SlotBase = true
-touches opcode.Load8Z = true
-touches opcode.Load8S = true
-touches opcode.Load16Z = true
-touches opcode.Load16S = true
-touches opcode.Load = true
-touches opcode.Store8 = true
-touches opcode.Store16 = true
-touches opcode.Store = true
-touches _ = false
 
 arithmetic_touches : (o : Opcode) → is_arithmetic_opcode o ≡ true → touches o ≡ false
 arithmetic_touches opcode.FramePointer e = absurd cc
@@ -190,6 +171,12 @@ arithmetic_touches opcode.Load e = absurd cc
 arithmetic_touches opcode.Store8 e = absurd cc
 arithmetic_touches opcode.Store16 e = absurd cc
 arithmetic_touches opcode.Store e = absurd cc
+arithmetic_touches opcode.CCall e = absurd cc
+arithmetic_touches opcode.Patchpoint e = absurd cc
+arithmetic_touches opcode.Check e = absurd cc
+arithmetic_touches opcode.CheckAdd e = absurd cc
+arithmetic_touches opcode.CheckSub e = absurd cc
+arithmetic_touches opcode.CheckMul e = absurd cc
 arithmetic_touches _ e = refl
 
 one : (value : ℕ) (op : AirOp) (os : List Operand) → is_arithmetic op ≡ true → All IsLow os
@@ -312,6 +299,12 @@ module _ (t : Tables) (v : Value) where
   code_plain opcode.Store8 e = absurd cc
   code_plain opcode.Store16 e = absurd cc
   code_plain opcode.Store e = absurd cc
+  code_plain opcode.CCall e = absurd cc
+  code_plain opcode.Patchpoint e = absurd cc
+  code_plain opcode.Check e = absurd cc
+  code_plain opcode.CheckAdd e = absurd cc
+  code_plain opcode.CheckSub e = absurd cc
+  code_plain opcode.CheckMul e = absurd cc
   code_plain o e = computes_plain (op_of o) (one_op_plain o)
 
   value_plain : is_arithmetic_opcode v.kind.opcode ≡ true → All IsPlain (value_code t v)
@@ -368,6 +361,69 @@ module _ (t : Tables) (v : Value) where
         low = low_two (use_of t from) (use_at width (address_of t v pointer bytes)) (use_low t from) (address_low width pointer bytes);
       }))
 
+  -- ---- calls
+
+  move_plain : (width : Width) (from : Arg) (to : Home) → SpillsBelow 0 from → SpillsBelow 0 (At to) → IsPlain (move v width from to)
+  move_plain width from to low low' = one v.id op.Move _ refl (low_two (use_at width from) (def_at width to) low low')
+
+  pub arguments_plain : (r : ℕ) (cs : List ℕ) → All IsPlain (arguments_into t v r cs)
+  arguments_plain r cs = arguments_all t v IsPlain cs r (λ k c at. move_plain (width_at t.index c) (arg_of t c) (register (r + k)) (arg_low t c W64) tt)
+
+  pub result_plain : (r : ℕ) → All IsPlain (result_from t v r)
+  result_plain r = result_all t v IsPlain r (move_plain (width_of v.ty) (At (register r)) (home t.index v.id) tt tt)
+
+  call_fine : (callee : ℕ) (cs : List ℕ) → IsFine (call_to t v callee cs)
+  call_fine callee cs = record {
+    selected = refl;
+    low = operands_all t v IsLow callee cs (use_low t callee) (λ k c at. tt)
+        (all_of (λ r. IsLow (operand_in Clobber W64 r)) (λ r. tt) call_clobbers) tt;
+  }
+
+  calls_fine : All IsFine (call_of t v)
+  calls_fine =
+      let cs = drop 1 v.children in
+      All-append IsFine (arguments_into t v 0 cs) _ (All-weaker IsPlain IsFine plain_fine (arguments_into t v 0 cs) (arguments_plain 0 cs))
+      (All-cons IsFine (call_to t v (child v.children 0) cs) (result_from t v 0) (call_fine (child v.children 0) cs)
+      (All-weaker IsPlain IsFine plain_fine (result_from t v 0) (result_plain 0)))
+
+  -- ---- patchpoints and checks
+
+  word_low : (constant : Bool) (word n : ℕ) → SpillsBelow 0 (sites.arg_by (if constant then Some word else None) (Tmp n))
+  word_low true word n = tt
+  word_low false word n = tt
+
+  child_low : (c : Child) → IsChildOf t c → SpillsBelow 0 (sites.arg_of c)
+  child_low c is =
+      subst (λ (d : Child). SpillsBelow 0 (sites.arg_of d)) (sym is.1)
+      (word_low (is_constant (known t.index is.0).opcode) (known t.index is.0).word (3 * place t.index is.0))
+
+  map_selected : (o : AirOp) → has_stackmap (kind_of o) ≡ true → is_selected o ≡ true
+  map_selected op.Shuffle e = absurd cc
+  map_selected _ e = refl
+
+  in_place_low : (role : Role) (width : Width) (reg : Register) → IsLow (record { role = role; width = width; arg = At (Reg reg) })
+  in_place_low role width reg = tt
+
+  out_low : (o : Operand) → IsOut t v o → IsLow o
+  out_low o (inl own) = subst IsLow (sym own) tt
+  out_low o (inr placed) = subst IsLow (sym placed.3) (in_place_low placed.0 placed.1 placed.2)
+
+  map_fine : (o : Opcode) → has_map o ≡ true → All IsFine (code_of t o v)
+  map_fine o e =
+      map_code_all t v IsFine
+      (λ c reg is. record {
+        selected = refl;
+        low = low_two (record { role = Use; width = c.width; arg = sites.arg_of c })
+            (record { role = Def; width = c.width; arg = At (Reg reg) }) (child_low c is) tt;
+      })
+      (λ reg. plain_fine _ (move_plain (width_of v.ty) (At (Reg reg)) (home t.index v.id) tt tt))
+      (λ air inputs results n has ins outs. record {
+        selected = map_selected air has;
+        low = site_all v (IsChildOf t) IsLow in_place_low (λ role c is. child_low c is) air inputs (reported_behind t n v) results
+            (All-weaker (IsUse t) IsLow (λ u is. subst IsLow (sym is.1) (use_low t is.0)) inputs ins)
+            (All-weaker (IsOut t v) IsLow out_low results outs) (are_children t (drop n v.children));
+      }) o e
+
   weakly : (o : Opcode) → touches o ≡ false → All IsFine (code_of t o v)
   weakly o e = All-weaker IsPlain IsFine plain_fine (code_of t o v) (code_plain o e)
 
@@ -383,6 +439,12 @@ module _ (t : Tables) (v : Value) where
   code_fine opcode.Store8 = store_fine op.Store8 Byte refl
   code_fine opcode.Store16 = store_fine op.Store16 Half refl
   code_fine opcode.Store = store_fine op.Store Whole refl
+  code_fine opcode.CCall = calls_fine
+  code_fine opcode.Patchpoint = map_fine opcode.Patchpoint refl
+  code_fine opcode.Check = map_fine opcode.Check refl
+  code_fine opcode.CheckAdd = map_fine opcode.CheckAdd refl
+  code_fine opcode.CheckSub = map_fine opcode.CheckSub refl
+  code_fine opcode.CheckMul = map_fine opcode.CheckMul refl
   code_fine o = weakly o refl
 
   value_fine : All IsFine (value_code t v)
@@ -440,7 +502,7 @@ quiet_kind Returns e = refl
 quiet_kind Fails e = refl
 quiet_kind _ e = cc
 
-kind_arithmetic : (op : AirOp) → is_arithmetic op ≡ true → is_arithmetic_kind (kind_of op) ≡ true
+pub kind_arithmetic : (op : AirOp) → is_arithmetic op ≡ true → is_arithmetic_kind (kind_of op) ≡ true
 kind_arithmetic op.Shuffle e = refl
 kind_arithmetic op.Move e = refl
 kind_arithmetic _ e = e

@@ -20,7 +20,6 @@ use Rattle.b3_ir.specs.declared.value.Value.{Value}
 use Rattle.b3_rules.specs.Paths.{successors_in}
 use Rattle.b3_sound.proofs.Kept.{EndsBlock}
 use Rattle.b3_sound.proofs.Lists.{contains_head, contains_none, contains_tail}
-use Rattle.air_select.specs.Contract.{IsBuilt, is_built}
 use Rattle.air_select.specs.Selected.{targets_of}
 
 -- whether a body of these names blocks
@@ -74,9 +73,6 @@ pub names_none : (p : Procedure) → AllFit p.blocks → (b : ℕ) (v : Value) �
 names_none p fit b v has e =
     let fits : Fits v = in_block Fits p.blocks fit b v has in
     names_no_block (row_of v.kind.opcode).carries v.ty _ v.body (inner_carries v.kind.opcode e) fits.body
-
-pub all_built : (p : Procedure) → IsBuilt p → (b : ℕ) (v : Value) → Contains (values_of p b) v → is_built v.kind.opcode ≡ true
-all_built p built b v has = in_block (λ (w : Value). is_built w.kind.opcode ≡ true) p.blocks built b v has
 
 -- the targets of a block are those of its last value
 targets_last : (vs : List Value) → EndsBlock vs → ((v : Value) → Contains vs v → is_terminal v.kind.opcode ≡ false → successors_in v.body ≡ [])

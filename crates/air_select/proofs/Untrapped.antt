@@ -1,8 +1,8 @@
 -- Where no value traps, no instruction does.
-use Rattle.std.proofs.Common.{◌≡◌, ℕ, Bool, true, false, List, [], ◌∷◌, refl}
+use Rattle.std.proofs.Common.{◌≡◌, ℕ, true, false, List, [], refl}
 use Rattle.std.specs.Prelude.{All}
 use Rattle.std.proofs.lemmas.List.Elements.{All-append, All-nil, All-weaker}
-use Rattle.b3_ir.specs.Procedure.{Block, Procedure, values_of}
+use Rattle.b3_ir.specs.Procedure.{Procedure}
 use Rattle.b3_ir.specs.Types.{width_of}
 use Rattle.b3_ir.specs.declared.opcode.Opcode.{Opcode}
 use Rattle.b3_ir.specs.declared.opcode.Opcode.TheVariants as opcode
@@ -12,12 +12,15 @@ use Rattle.b3_meaning.specs.declared.role.Extent.TheVariants.{Byte, Half, Whole}
 use Rattle.air_ir.specs.Kinds.{extent_bytes}
 use Rattle.air_ir.specs.declared.op.AirOp.{AirOp}
 use Rattle.air_ir.specs.declared.op.AirOp.TheVariants as op
-use Rattle.air_ir.specs.declared.procedure.AirBlock.{AirBlock}
 use Rattle.air_ir.specs.declared.procedure.AirInst.{AirInst}
 use Rattle.air_fold.specs.Values.{Index, child, width_at}
 use Rattle.air_select.specs.Contract.{HasNoTraps, IsUntrapped}
 use Rattle.air_select.specs.Selected.{Tables, before_access, code_of, entry_of, folds, load_of, selected, store_of, value_code}
-use Rattle.air_select.proofs.Sites.{IsPlain, all_one, before_plain, code_plain, entry_plain, pick, selected_when, touches}
+use Rattle.air_stackmap.specs.Laws.{has_stackmap as has_map}
+use Rattle.air_select.specs.Sited.{touches}
+use Rattle.air_select.proofs.CallCode.{call_all}
+use Rattle.air_select.proofs.MapCode.{map_code_all, pick}
+use Rattle.air_select.proofs.Sites.{IsPlain, all_one, before_plain, code_plain, entry_plain, selected_when}
 
 abbrev IsCalm : AirInst → Type 0
 IsCalm i = i.traps ≡ false
@@ -47,6 +50,9 @@ module _ (t : Tables) (v : Value) (calm : DoesNotTrap v) where
   weakly : (o : Opcode) → touches o ≡ false → All IsCalm (code_of t o v)
   weakly o e = All-weaker IsPlain IsCalm plain_calm (code_of t o v) (code_plain t v o e)
 
+  map_calm : (o : Opcode) → has_map o ≡ true → All IsCalm (code_of t o v)
+  map_calm o e = map_code_all t v IsCalm (λ c reg is. refl) (λ reg. refl) (λ air inputs results n has ins outs. refl) o e
+
   code_calm : (o : Opcode) → All IsCalm (code_of t o v)
   code_calm opcode.FramePointer = all_one IsCalm _ refl
   code_calm opcode.SlotBase = all_one IsCalm _ refl
@@ -58,6 +64,12 @@ module _ (t : Tables) (v : Value) (calm : DoesNotTrap v) where
   code_calm opcode.Store8 = store_calm op.Store8 Byte
   code_calm opcode.Store16 = store_calm op.Store16 Half
   code_calm opcode.Store = store_calm op.Store Whole
+  code_calm opcode.Patchpoint = map_calm opcode.Patchpoint refl
+  code_calm opcode.Check = map_calm opcode.Check refl
+  code_calm opcode.CheckAdd = map_calm opcode.CheckAdd refl
+  code_calm opcode.CheckSub = map_calm opcode.CheckSub refl
+  code_calm opcode.CheckMul = map_calm opcode.CheckMul refl
+  code_calm opcode.CCall = call_all t v IsCalm (λ k c at. refl) refl refl
   code_calm o = weakly o refl
 
 value_calm : (t : Tables) (v : Value) → DoesNotTrap v → All IsCalm (value_code t v)

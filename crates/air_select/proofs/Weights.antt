@@ -1,5 +1,5 @@
 -- What is selected weighs little: a value's instructions at most 120, and 32 for each child and case.
-use Rattle.std.proofs.Common.{◌≡◌, ℕ, pos, zero, suc, ◌+◌, ◌*◌, ◌≤◌, Bool, true, false, ◌||◌, List, [], ◌∷◌, ◌++◌, map, length, refl, ap, arith, length-append}
+use Rattle.std.proofs.Common.{◌≡◌, ℕ, pos, zero, suc, ◌+◌, ◌*◌, ◌≤◌, Bool, true, false, ◌||◌, List, [], ◌∷◌, ◌++◌, drop, map, length, refl, ap, arith, length-append}
 use Rattle.std.specs.Prelude.{All, if◌then◌else◌, sum_by}
 use Rattle.std.specs.Int.{cast_unsigned, w64}
 use Rattle.std.specs.List.{flat_map}
@@ -11,7 +11,7 @@ use Rattle.b3_base.specs.declared.word.Width.{Width}
 use Rattle.b3_base.specs.declared.word.Width.TheVariants.{W32, W64}
 use Rattle.b3_ir.specs.Naming.{all_values}
 use Rattle.b3_ir.specs.Procedure.{Block, Procedure, total, values_of}
-use Rattle.b3_ir.specs.Types.{width_of}
+use Rattle.b3_ir.specs.Types.{has_word, width_of}
 use Rattle.b3_ir.specs.declared.opcode.Opcode.{Opcode}
 use Rattle.b3_ir.specs.declared.opcode.Opcode.TheVariants as opcode
 use Rattle.b3_ir.specs.declared.value.Body.{Body}
@@ -19,7 +19,7 @@ use Rattle.b3_ir.specs.declared.value.Body.TheVariants.{Cases}
 use Rattle.b3_ir.specs.declared.value.Value.{Value}
 use Rattle.b3_meaning.specs.declared.role.Extent.{Extent}
 use Rattle.b3_meaning.specs.declared.role.Extent.TheVariants.{Byte, Half, Whole}
-use Rattle.air_ir.specs.Forms.{is_offset}
+use Rattle.air_ir.specs.Forms.{call_clobbers, is_offset, operand_in}
 use Rattle.air_ir.specs.Kinds.{extent_bytes}
 use Rattle.air_ir.specs.Weight.{arg_words, inst_weight, is_shuffle, op_words, weight}
 use Rattle.air_ir.specs.declared.op.AirOp.{AirOp}
@@ -30,14 +30,18 @@ use Rattle.air_ir.specs.declared.operand.Arg.TheVariants.{Addr, At, FrameSlot, I
 use Rattle.air_ir.specs.declared.operand.Home.{Home}
 use Rattle.air_ir.specs.declared.operand.Home.TheVariants.{Tmp}
 use Rattle.air_ir.specs.declared.operand.Operand.{Operand}
+use Rattle.air_ir.specs.declared.operand.Role.TheVariants.{Clobber}
 use Rattle.air_ir.specs.declared.procedure.AirBlock.{AirBlock}
 use Rattle.air_ir.specs.declared.procedure.AirInst.{AirInst}
 use Rattle.air_select.specs.Contract.{IsFew, IsWithinLimits, case_count, child_count}
 use Rattle.air_fold.specs.Foldable.{bit_of, is_comparison, is_constant, whole}
 use Rattle.air_fold.specs.declared.known.Known.{Known}
-use Rattle.air_select.specs.Selected.{Condition, Tables, access, address_of, arg_of, argument_move, argument_moves, before_access, block_code, cases_in, chosen_rest, code_of, computes, condition, condition_of, copy_of, def_at, entry_of, far_sum, folded_condition, folds, frame_of, home_address, indexed_by, inst, last_id, load_of, move, names_argument, negative_amount, op_of, phi_in, quotient_of, register, register_in, rest_into, result_of, return_of, rotate_by, select_on, selected, selected_by, slot_in, slot_of, store_of, sum_address, tables, turned, use_at, use_of, value_code}
+use Rattle.air_select.specs.Selected.{Condition, Tables, access, address_of, arg_of, argument_move, argument_moves, arguments_at, arguments_into, before_access, block_code, call_of, call_to, cases_in, chosen_rest, code_of, computes, condition, condition_of, copy_of, def_at, entry_of, far_sum, folded_condition, folds, frame_of, home_address, indexed_by, inst, last_id, load_of, move, names_argument, negative_amount, op_of, phi_in, quotient_of, register, register_in, rest_into, result_from, result_into, result_of, return_of, rotate_by, select_on, selected, selected_by, slot_in, slot_of, store_of, sum_address, tables, turned, use_at, use_of, value_code}
 use Rattle.air_select.specs.Temporaries.{argument, first_extra, home, location, second_extra}
 use Rattle.air_fold.specs.Values.{Index, child, known, offset_in, place, width_at, word_in}
+use Rattle.air_stackmap.specs.Laws.{has_stackmap as has_map}
+use Rattle.air_select.proofs.CallCode.{fewer_behind, operands_all}
+use Rattle.air_select.proofs.MapCode.{pick}
 use Rattle.air_select.proofs.Sites.{all_of, all_one, all_three, all_two}
 
 -- ---- operands
@@ -103,10 +107,6 @@ three_weights i j k m n o a b c = omega (arith, a, two_weights j k n o b c, sum_
 pub record IsShortCondition (c : Condition) : Type 0 where
   pub few : length c.over ≤ 2
   pub short : All IsShort c.over
-
-pick : {X : Type 0} (P : X → Type 0) (b : Bool) (x y : X) → P x → P y → P (if b then x else y)
-pick P true x y p q = p
-pick P false x y p q = q
 
 folded_short : (t : Tables) (id : ℕ) → IsShortCondition (folded_condition t id)
 folded_short t id =
@@ -333,17 +333,78 @@ module _ (t : Tables) (v : Value) where
       access_light air_op (before_access t v pointer bytes) (use_of t from) (use_at width (address_of t v pointer bytes)) few other (before_light pointer bytes)
       (omega (arith, use_short t from)) (address_short pointer bytes)
 
-  code_light : (o : Opcode) → sum_by inst_weight (code_of t o v) ≤ allowance v
-  code_light opcode.Nop = omega arith
-  code_light opcode.Const32 = copy_light (width_of v.ty) (Imm (word_in v.body)) (3 * place t.index v.id) (omega arith)
-  code_light opcode.Const64 = copy_light (width_of v.ty) (Imm (word_in v.body)) (3 * place t.index v.id) (omega arith)
-  code_light opcode.ArgumentReg = copy_light W64 (At (argument t.index (register_in v.body))) (3 * place t.index v.id) (omega arith)
-  code_light opcode.Trunc = copy_light W32 (arg_of t (child v.children 0)) (3 * place t.index v.id) (arg_short t (child v.children 0))
-  code_light opcode.Upsilon =
+  -- ---- calls
+
+  arguments_light : (cs : List ℕ) (r : ℕ) → sum_by inst_weight (arguments_into t v r cs) ≤ 8 * length cs
+  arguments_light [] r = omega arith
+  arguments_light (c ∷ cs) r =
+      let copy = move v (width_at t.index c) (arg_of t c) (register r) in
+      omega (
+        arith,
+        sum_by-cons inst_weight copy (arguments_into t v (suc r) cs),
+        move_light (width_at t.index c) (arg_of t c) (register r) (arg_short t c) (omega arith),
+        arguments_light cs (suc r),
+      )
+
+  result_light : (r : ℕ) → sum_by inst_weight (result_from t v r) ≤ 8
+  result_light r =
+      let copy = move v (width_of v.ty) (At (register r)) (home t.index v.id) in
+      pick (λ (is : List AirInst). sum_by inst_weight is ≤ 8) (has_word v.ty) (copy ∷ []) []
+      (one_weight copy 8 (move_light (width_of v.ty) (At (register r)) (home t.index v.id) (omega arith) (omega arith))) (omega arith)
+
+  uses_counted : (cs : List ℕ) (r : ℕ) → length (arguments_at t r cs) ≡ length cs
+  uses_counted [] r = refl
+  uses_counted (c ∷ cs) r = ap suc (uses_counted cs (suc r))
+
+  result_counted : (r : ℕ) → length (result_into v r) ≤ 1
+  result_counted r =
+      pick (λ (os : List Operand). length os ≤ 1) (has_word v.ty) (def_at (width_of v.ty) (register r) ∷ []) [] (omega arith) (omega arith)
+
+  clobbers_counted : length (map (operand_in Clobber W64) call_clobbers) ≡ 20
+  unfolding call_clobbers
+  clobbers_counted = refl
+
+  call_counted : (callee : ℕ) (cs : List ℕ) → length (call_to t v callee cs).operands ≤ 22 + length cs
+  call_counted callee cs =
+      let changed : List Operand = map (operand_in Clobber W64) call_clobbers in
+      omega (
+        arith,
+        uses_counted cs 0,
+        clobbers_counted,
+        result_counted 0,
+        length-append (arguments_at t 0 cs) (changed ++ result_into v 0),
+        length-append changed (result_into v 0),
+      )
+
+  call_light : sum_by inst_weight (call_of t v) ≤ allowance v
+  call_light =
+      let cs = drop 1 v.children in
+      let call = call_to t v (child v.children 0) cs in
+      let one = weigh v.id (op.Call (has_word v.ty)) call.operands refl
+      (operands_all t v IsShort (child v.children 0) cs (use_short t (child v.children 0)) (λ k c at. omega arith)
+      (all_of (λ r. IsShort (operand_in Clobber W64 r)) (λ r. omega arith) call_clobbers) (omega arith)) in
+      omega (
+        arith,
+        one,
+        call_counted (child v.children 0) cs,
+        arguments_light cs 0,
+        result_light 0,
+        fewer_behind 1 v.children,
+        sum_by-append inst_weight (arguments_into t v 0 cs) (call ∷ result_from t v 0),
+        sum_by-cons inst_weight call (result_from t v 0),
+      )
+
+  code_light : (o : Opcode) → has_map o ≡ false → sum_by inst_weight (code_of t o v) ≤ allowance v
+  code_light opcode.Nop plain = omega arith
+  code_light opcode.Const32 plain = copy_light (width_of v.ty) (Imm (word_in v.body)) (3 * place t.index v.id) (omega arith)
+  code_light opcode.Const64 plain = copy_light (width_of v.ty) (Imm (word_in v.body)) (3 * place t.index v.id) (omega arith)
+  code_light opcode.ArgumentReg plain = copy_light W64 (At (argument t.index (register_in v.body))) (3 * place t.index v.id) (omega arith)
+  code_light opcode.Trunc plain = copy_light W32 (arg_of t (child v.children 0)) (3 * place t.index v.id) (arg_short t (child v.children 0))
+  code_light opcode.Upsilon plain =
       copy_light (width_at t.index (child v.children 0)) (arg_of t (child v.children 0)) (3 * place t.index (phi_in v.body) + 1)
       (arg_short t (child v.children 0))
-  code_light opcode.Phi = copy_light (width_of v.ty) (At (location t.index v.id)) (3 * place t.index v.id) (omega arith)
-  code_light opcode.FramePointer =
+  code_light opcode.Phi plain = copy_light (width_of v.ty) (At (location t.index v.id)) (3 * place t.index v.id) (omega arith)
+  code_light opcode.FramePointer plain =
       omega (
         arith,
         one_weight (frame_of t v) 5 (omega (
@@ -352,7 +413,7 @@ module _ (t : Tables) (v : Value) where
               (all_one IsShort (result_of t v) (home_short (width_of v.ty) (3 * place t.index v.id))),
         )),
       )
-  code_light opcode.SlotBase =
+  code_light opcode.SlotBase plain =
       omega (
         arith,
         one_weight (slot_of t v) 9 (omega (
@@ -361,38 +422,54 @@ module _ (t : Tables) (v : Value) where
               (all_two IsShort (use_at W64 (FrameSlot (slot_in v.body))) (result_of t v) (omega arith) (home_short (width_of v.ty) (3 * place t.index v.id))),
         )),
       )
-  code_light opcode.Load8Z = load_light op.Load8Z Byte (omega arith) refl
-  code_light opcode.Load8S = load_light op.Load8S Byte (omega arith) refl
-  code_light opcode.Load16Z = load_light op.Load16Z Half (omega arith) refl
-  code_light opcode.Load16S = load_light op.Load16S Half (omega arith) refl
-  code_light opcode.Load = load_light op.Load Whole (omega arith) refl
-  code_light opcode.Store8 = store_light op.Store8 Byte (omega arith) refl
-  code_light opcode.Store16 = store_light op.Store16 Half (omega arith) refl
-  code_light opcode.Store = store_light op.Store Whole (omega arith) refl
-  code_light opcode.Mod = remainder_light op.Div (omega arith) refl v.kind.chill
-  code_light opcode.UMod = remainder_light op.UDiv (omega arith) refl v.kind.chill
-  code_light opcode.RotL = rotate_left_light (folds t (child v.children 1))
-  code_light opcode.Select = select_light (condition_of t (child v.children 0)) (condition_short t (child v.children 0))
-  code_light opcode.Jump = alone_light op.Jump (omega arith) refl
-  code_light opcode.Oops = alone_light op.Oops (omega arith) refl
-  code_light opcode.Branch = branch_light (condition_of t (child v.children 0)) (condition_short t (child v.children 0))
-  code_light opcode.Switch = switch_light
-  code_light opcode.Return = return_light v.children
-  code_light o = computes_light (op_of o) (few_words o) (no_shuffle_op o)
+  code_light opcode.Load8Z plain = load_light op.Load8Z Byte (omega arith) refl
+  code_light opcode.Load8S plain = load_light op.Load8S Byte (omega arith) refl
+  code_light opcode.Load16Z plain = load_light op.Load16Z Half (omega arith) refl
+  code_light opcode.Load16S plain = load_light op.Load16S Half (omega arith) refl
+  code_light opcode.Load plain = load_light op.Load Whole (omega arith) refl
+  code_light opcode.Store8 plain = store_light op.Store8 Byte (omega arith) refl
+  code_light opcode.Store16 plain = store_light op.Store16 Half (omega arith) refl
+  code_light opcode.Store plain = store_light op.Store Whole (omega arith) refl
+  code_light opcode.CCall plain = call_light
+  code_light opcode.Mod plain = remainder_light op.Div (omega arith) refl v.kind.chill
+  code_light opcode.UMod plain = remainder_light op.UDiv (omega arith) refl v.kind.chill
+  code_light opcode.RotL plain = rotate_left_light (folds t (child v.children 1))
+  code_light opcode.Select plain = select_light (condition_of t (child v.children 0)) (condition_short t (child v.children 0))
+  code_light opcode.Jump plain = alone_light op.Jump (omega arith) refl
+  code_light opcode.Oops plain = alone_light op.Oops (omega arith) refl
+  code_light opcode.Branch plain = branch_light (condition_of t (child v.children 0)) (condition_short t (child v.children 0))
+  code_light opcode.Switch plain = switch_light
+  code_light opcode.Return plain = return_light v.children
+  code_light opcode.Patchpoint plain = absurd cc
+  code_light opcode.Check plain = absurd cc
+  code_light opcode.CheckAdd plain = absurd cc
+  code_light opcode.CheckSub plain = absurd cc
+  code_light opcode.CheckMul plain = absurd cc
+  code_light o plain = computes_light (op_of o) (few_words o) (no_shuffle_op o)
 
-  value_light : sum_by inst_weight (value_code t v) ≤ allowance v
+  -- a patchpoint and a check are light by what is known of them
+  abbrev pub IsLightSite : Type 0
+  IsLightSite = has_map v.kind.opcode ≡ true → sum_by inst_weight (code_of t v.kind.opcode v) ≤ allowance v
+
+  value_light : IsLightSite → sum_by inst_weight (value_code t v) ≤ allowance v
   unfolding value_code
-  value_light =
+  value_light site =
       pick (λ (is : List AirInst). sum_by inst_weight is ≤ allowance v) (folds t v.id) [] (code_of t v.kind.opcode v)
-      (omega arith) (code_light v.kind.opcode)
+      (omega arith) (by (has_map v.kind.opcode) refl)
+    where
+      by : (map : Bool) → has_map v.kind.opcode ≡ map → sum_by inst_weight (code_of t v.kind.opcode v) ≤ allowance v
+      by true has = site has
+      by false plain = code_light v.kind.opcode plain
 
 -- ---- blocks
-values_light : (t : Tables) (vs : List Value) → sum_by inst_weight (flat_map (value_code t) vs) ≤ sum_by allowance vs
-values_light t [] = omega arith
-values_light t (v ∷ vs) =
+values_light : (t : Tables) (vs : List Value) → All (IsLightSite t) vs → sum_by inst_weight (flat_map (value_code t) vs) ≤ sum_by allowance vs
+values_light t [] sites = omega arith
+values_light t (v ∷ vs) sites =
     let cut = ap (sum_by inst_weight) (flat_map-cons (value_code t) v vs) in
     let sum = sum_by-append inst_weight (value_code t v) (flat_map (value_code t) vs) in
-    omega (arith, cut, sum, value_light t v, values_light t vs, sum_by-cons allowance v vs)
+    let first = value_light t v (All-head (IsLightSite t) v vs sites) in
+    let rest = values_light t vs (All-tail (IsLightSite t) v vs sites) in
+    omega (arith, cut, sum, first, rest, sum_by-cons allowance v vs)
 
 abbrev block_weight : AirBlock → ℕ
 block_weight b = sum_by inst_weight b.insts
@@ -400,14 +477,19 @@ block_weight b = sum_by inst_weight b.insts
 abbrev block_allowance : Block → ℕ
 block_allowance b = sum_by allowance b.values
 
-block_light : (t : Tables) (b : Block) → block_weight (block_code t b) ≤ block_allowance b
-unfolding block_code
-block_light t b = values_light t b.values
+abbrev pub HasLightSites : Tables → Block → Type 0
+HasLightSites t b = All (IsLightSite t) b.values
 
-blocks_light : (t : Tables) (bs : List Block) → sum_by block_weight (map (block_code t) bs) ≤ sum_by block_allowance bs
-blocks_light t [] = omega arith
-blocks_light t (b ∷ bs) =
-    omega (arith, block_light t b, blocks_light t bs, sum_by-cons block_weight (block_code t b) (map (block_code t) bs), sum_by-cons block_allowance b bs)
+block_light : (t : Tables) (b : Block) → HasLightSites t b → block_weight (block_code t b) ≤ block_allowance b
+unfolding block_code
+block_light t b sites = values_light t b.values sites
+
+blocks_light : (t : Tables) (bs : List Block) → All (HasLightSites t) bs → sum_by block_weight (map (block_code t) bs) ≤ sum_by block_allowance bs
+blocks_light t [] sites = omega arith
+blocks_light t (b ∷ bs) sites =
+    let first = block_light t b (All-head (HasLightSites t) b bs sites) in
+    let rest = blocks_light t bs (All-tail (HasLightSites t) b bs sites) in
+    omega (arith, first, rest, sum_by-cons block_weight (block_code t b) (map (block_code t) bs), sum_by-cons block_allowance b bs)
 
 abbrev value_children : Value → ℕ
 value_children v = length v.children + case_count v.body
@@ -450,15 +532,15 @@ entry_light x vs =
     omega (arith, moves_light x vs (last_id vs) 8, sum_by-append inst_weight (argument_moves x vs (last_id vs) 8) (jump ∷ []), one_weight jump 8 one)
 
 -- ---- the whole
-pub light : (p : Procedure) → weight (selected p) ≤ 120 * total p + 32 * child_count p + 256
+pub light : (p : Procedure) → All (HasLightSites (tables p)) p.blocks → weight (selected p) ≤ 120 * total p + 32 * child_count p + 256
 unfolding selected_by
-light p =
+light p sites =
     let t = tables p in
     let entry : AirBlock = entry_of t.index (values_of p 0) in
     omega (
       arith,
       entry_light t.index (values_of p 0),
-      blocks_light t p.blocks,
+      blocks_light t p.blocks sites,
       blocks_allowed p.blocks,
       sum_by-cons block_weight entry (map (block_code t) p.blocks),
     )

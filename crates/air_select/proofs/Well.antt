@@ -4,7 +4,7 @@ use Rattle.std.specs.Prelude.{All, Contains, if◌then◌else◌, slice_get}
 use Rattle.std.specs.List.{flat_map}
 use Rattle.std.proofs.lemmas.List.{append-nil, append_assoc, length-map}
 use Rattle.std.proofs.lemmas.List.Concat.{flat_map-cons}
-use Rattle.std.proofs.lemmas.List.Elements.{All-append, All-cons, All-contains, All-map, All-nil, All-weaker}
+use Rattle.std.proofs.lemmas.List.Elements.{All-append, All-cons, All-map, All-nil, All-weaker}
 use Rattle.b3_base.specs.declared.word.Width.TheVariants.{W64}
 use Rattle.b3_ir.specs.Fits.{HasCases, HasTargets, IsBody, IsPlain, IsSlot, reported_count}
 use Rattle.b3_ir.specs.Procedure.{AllFit as ValuesFit, Block, Procedure, StandsAt, no_block, values_of}
@@ -29,24 +29,28 @@ use Rattle.b3_sound.proofs.FromValid.{is_kept}
 use Rattle.b3_sound.proofs.Kept.{EndsBlock, IsKept, NamesSlot}
 use Rattle.b3_sound.proofs.Lists.{contains_head, contains_tail}
 use Rattle.air_ir.specs.Forms.{AnyWord, Result, Word, is_offset}
-use Rattle.air_ir.specs.Kinds.{extent_bytes, target_count}
+use Rattle.air_ir.specs.Kinds.{Kind, Checks, ChecksResult, Patches, extent_bytes, kind_of, target_count, targets_by}
 use Rattle.air_ir.specs.WellFormed.{IsGoodBlock, IsGoodInst, IsWellFormed}
 use Rattle.air_ir.specs.declared.op.AirOp.{AirOp}
 use Rattle.air_ir.specs.declared.op.AirOp.TheVariants as op
 use Rattle.air_ir.specs.declared.operand.Arg.TheVariants.{At}
 use Rattle.air_ir.specs.declared.procedure.AirInst.{AirInst}
 use Rattle.air_ir.specs.declared.procedure.AirProc.{AirProc}
-use Rattle.air_select.specs.Contract.{IsBuilt, is_built}
+use Rattle.air_select.specs.Contract.{has_stackmap}
 use Rattle.air_fold.specs.Foldable.{is_add, is_and, is_comparison, is_constant, is_shl}
 use Rattle.air_select.specs.Selected.{Tables, arg_of, argument_move, argument_moves, before_access, block_code, cases_in, code_of, def_at, entry_of, far_sum, folds, inst, last_id, load_of, move, names_argument, op_of, register, register_in, return_of, selected_by, slot_in, store_of, targets_of, use_at, value_code}
 use Rattle.air_select.specs.Temporaries.{argument, tmp_count}
 use Rattle.air_fold.specs.Values.{child, offset_in, width_at}
+use Rattle.air_stackmap.specs.Laws.{has_stackmap as has_map}
+use Rattle.air_select.proofs.CallCode.{call_all}
+use Rattle.air_select.proofs.MapCode.{map_code_all, pick}
+use Rattle.air_select.proofs.MapFacts.{site_good}
 use Rattle.air_select.proofs.Forms.{fit_none, fit_two}
 use Rattle.air_select.proofs.Good.{Has, code_has}
 use Rattle.air_select.proofs.Named.{IsOwnInst, entry_own, value_own}
 use Rattle.air_select.proofs.Returned.{at_place}
 use Rattle.air_select.proofs.Setting.{IsFoldedKind, IsSound}
-use Rattle.air_select.proofs.Sites.{All-slice, all_one, all_three, all_two}
+use Rattle.air_select.proofs.Sites.{all_one, all_three, all_two}
 
 -- ---- ends
 abbrev pub IsInner : AirInst → Type 0
@@ -55,10 +59,6 @@ IsInner i = target_count i.op ≡ None
 inner_op : (o : Opcode) → target_count (op_of o) ≡ None
 inner_op opcode.Add = refl
 inner_op _ = refl
-
-pick : {X : Type 0} (P : X → Type 0) (b : Bool) (x y : X) → P x → P y → P (if b then x else y)
-pick P true x y p q = p
-pick P false x y p q = q
 
 inner_before : (t : Tables) (v : Value) (pointer bytes : ℕ) → All IsInner (before_access t v pointer bytes)
 inner_before t v pointer bytes =
@@ -73,6 +73,16 @@ inner_store : (t : Tables) (v : Value) (air_op : AirOp) (extent : Extent) → ta
 inner_store t v air_op extent e =
     let bytes = extent_bytes extent (width_at t.index (child v.children 0)) in
     All-append IsInner (before_access t v (child v.children 1) bytes) _ (inner_before t v (child v.children 1) bytes) (all_one IsInner _ e)
+
+stackmap_inner : (k : Kind) → has_stackmap k ≡ true → targets_by k ≡ None
+stackmap_inner (Patches typed) e = refl
+stackmap_inner (Checks test) e = refl
+stackmap_inner (ChecksResult checked) e = refl
+stackmap_inner _ e = absurd cc
+
+map_inner : (t : Tables) (v : Value) (o : Opcode) → has_map o ≡ true → All IsInner (code_of t o v)
+map_inner t v o e =
+    map_code_all t v IsInner (λ c reg is. refl) (λ reg. refl) (λ air inputs results n has ins outs. stackmap_inner (kind_of air) has) o e
 
 inner_code : (t : Tables) (v : Value) (o : Opcode) → is_terminal o ≡ false → All IsInner (code_of t o v)
 inner_code t v opcode.Nop e = All-nil IsInner
@@ -92,6 +102,12 @@ inner_code t v opcode.Load e = inner_load t v op.Load Whole refl
 inner_code t v opcode.Store8 e = inner_store t v op.Store8 Byte refl
 inner_code t v opcode.Store16 e = inner_store t v op.Store16 Half refl
 inner_code t v opcode.Store e = inner_store t v op.Store Whole refl
+inner_code t v opcode.Patchpoint e = map_inner t v opcode.Patchpoint refl
+inner_code t v opcode.Check e = map_inner t v opcode.Check refl
+inner_code t v opcode.CheckAdd e = map_inner t v opcode.CheckAdd refl
+inner_code t v opcode.CheckSub e = map_inner t v opcode.CheckSub refl
+inner_code t v opcode.CheckMul e = map_inner t v opcode.CheckMul refl
+inner_code t v opcode.CCall e = call_all t v IsInner (λ k c at. refl) refl refl
 inner_code t v opcode.Mod e = pick (All IsInner) v.kind.chill _ _ (all_three IsInner _ _ _ refl refl refl) (all_two IsInner _ _ refl refl)
 inner_code t v opcode.UMod e = pick (All IsInner) v.kind.chill _ _ (all_three IsInner _ _ _ refl refl refl) (all_two IsInner _ _ refl refl)
 inner_code t v opcode.RotL e = pick (All IsInner) (folds t (child v.children 1)) _ _ (all_one IsInner _ refl) (all_two IsInner _ _ refl refl)
@@ -196,7 +212,7 @@ folded_inner t b v ends (inr (inr (inl bit))) =
 folded_inner t b v ends (inr (inr (inr (inl sum)))) = true_and_false (is_add v.kind.opcode) sum (plain_terminal v.kind.opcode ends).sum
 folded_inner t b v ends (inr (inr (inr (inr shift)))) = true_and_false (is_shl v.kind.opcode) shift (plain_terminal v.kind.opcode ends).shift
 
-module _ (p : Procedure) (valid : IsValidProcedure p) (fit : ValuesFit p.blocks) (built : IsBuilt p) (t : Tables) (sound : IsSound p t) where
+module _ (p : Procedure) (valid : IsValidProcedure p) (fit : ValuesFit p.blocks) (t : Tables) (sound : IsSound p t) where
   q : AirProc
   q = selected_by t p
 
@@ -277,26 +293,34 @@ module _ (p : Procedure) (valid : IsValidProcedure p) (fit : ValuesFit p.blocks)
       let rules = kept.rules b st.0 v st.1 in
       slot_below v.body (subst (λ (o : Opcode). IsBody (row_of o).carries v.ty (reported_count v) v.body) is rules.fits.body) rules.slot
 
-  abbrev IsBuiltValue : Value → Type 0
-  IsBuiltValue v = is_built v.kind.opcode ≡ true
-
-  code_by : (b : ℕ) (v : Value) (j : ℕ) → StandsAt p b j v → is_built v.kind.opcode ≡ true → (f : Bool) → folds t v.id ≡ f
+  code_by : (b : ℕ) (v : Value) (j : ℕ) → StandsAt p b j v → has_map v.kind.opcode ≡ false → (f : Bool) → folds t v.id ≡ f
       → All (Has p valid fit t sound) (if f then [] else code_of t v.kind.opcode v)
-  code_by b v j at built true e = All-nil (Has p valid fit t sound)
-  code_by b v j at built false e = code_has p valid fit t sound b j v at e v.kind.opcode refl built
+  code_by b v j at plain true e = All-nil (Has p valid fit t sound)
+  code_by b v j at plain false e = code_has p valid fit t sound b j v at e v.kind.opcode refl plain
+
+  plain_good : (b j : ℕ) (v : Value) → StandsAt p b j v → Contains (values_of p b) v → has_map v.kind.opcode ≡ false → All (IsGoodInst q) (value_code t v)
+  unfolding q selected_by value_code
+  plain_good b j v at in_values plain =
+      let operands : All (Has p valid fit t sound) (value_code t v) = code_by b v j at plain (folds t v.id) refl in
+      let named : All (IsOwnInst q t tmps_are) (value_code t v) =
+      value_own q t tmps_are v (register_below v.kind.opcode v.body (λ is. (valid rule.Arguments (ValueAt b j v) at is).1))
+      (slot_named b v in_values) (valid rule.Sizes (ValueAt b j v) at).0 plain in
+      λ k d lt. record { operands = operands k d lt; names = named k d lt }
+
+  map_good : (b j : ℕ) (v : Value) → StandsAt p b j v → has_map v.kind.opcode ≡ true → All (IsGoodInst q) (value_code t v)
+  unfolding value_code
+  map_good b j v at has =
+      pick (All (IsGoodInst q)) (folds t v.id) [] (code_of t v.kind.opcode v) (All-nil (IsGoodInst q)) (site_good p valid fit b j v at t sound has q tmps_are)
 
   value_good : (b : ℕ) (block : Block) → slice_get p.blocks b ≡ Some block → (v : Value) → Contains block.values v → All (IsGoodInst q) (value_code t v)
-  unfolding q selected_by value_code
   value_good b block there v has =
       let in_values : Contains (values_of p b) v = subst (λ (l : List Value). Contains l v) (sym (block_values b block there)) has in
       let at = here_at b v in_values in
-      let is_built : is_built v.kind.opcode ≡ true =
-      All-contains IsBuiltValue block.values v (All-slice (λ (x : Block). All IsBuiltValue x.values) p.blocks b block built there) has in
-      let operands : All (Has p valid fit t sound) (value_code t v) = code_by b v at.0 at.1 is_built (folds t v.id) refl in
-      let named : All (IsOwnInst q t tmps_are) (value_code t v) =
-      value_own q t tmps_are v (register_below v.kind.opcode v.body (λ is. (valid rule.Arguments (ValueAt b at.0 v) at.1 is).1))
-      (slot_named b v in_values) in
-      λ k d lt. record { operands = operands k d lt; names = named k d lt }
+      by at.0 at.1 in_values (has_map v.kind.opcode) refl
+    where
+      by : (j : ℕ) → StandsAt p b j v → Contains (values_of p b) v → (map : Bool) → has_map v.kind.opcode ≡ map → All (IsGoodInst q) (value_code t v)
+      by j at in_values true is = map_good b j v at is
+      by j at in_values false is = plain_good b j v at in_values is
 
   -- ---- blocks
   all_here : {X Y : Type 0} (P : Y → Type 0) (f : X → List Y) (xs : List X) → ((x : X) → Contains xs x → All P (f x)) → All P (flat_map f xs)

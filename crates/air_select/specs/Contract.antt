@@ -1,5 +1,6 @@
 -- What selection asks of a procedure, and what it promises of sizes, of what is returned and of folded values.
 use Rattle.std.specs.Prelude.{◌≡◌, ℕ, ◌+◌, ◌*◌, ◌^◌, ◌≤◌, suc, Bool, true, false, List, [], ◌∷◌, All, Contains, length, map, sum_by, slice_get, slice_index_or, Some, take}
+use Rattle.b3_ir.specs.Naming.{value_named}
 use Rattle.b3_ir.specs.Procedure.{Block, Kept, Procedure, StandsAt, empty_kept, total}
 use Rattle.b3_ir.specs.Types.{width_of}
 use Rattle.b3_ir.specs.declared.opcode.Opcode.{Opcode}
@@ -8,7 +9,8 @@ use Rattle.b3_ir.specs.declared.opcode.Ty.{Ty}
 use Rattle.b3_ir.specs.declared.value.Body.{Body}
 use Rattle.b3_ir.specs.declared.value.Body.TheVariants.{Cases}
 use Rattle.b3_ir.specs.declared.value.Value.{Value}
-use Rattle.air_ir.specs.Kinds.{Kind, Copies, Computes, Loads, Stores, SlotAddresses, FramePointers, Branches, Jumps, Switches, Returns, Fails, kind_of}
+use Rattle.air_ir.specs.Expressed.{IsExpressed}
+use Rattle.air_ir.specs.Kinds.{Kind, Copies, Computes, Checks, ChecksResult, Patches, Branches, Jumps, Switches, Returns, Fails, kind_of, makes_site}
 use Rattle.air_ir.specs.WellFormed as air
 use Rattle.air_ir.specs.declared.op.AirOp.{AirOp}
 use Rattle.air_ir.specs.declared.op.AirOp.TheVariants.{BranchIf, SelectIf, Shuffle}
@@ -30,20 +32,7 @@ procedure_at m k = (slice_index_or m k (empty_kept [] 0)).procedure
 
 -- ---- what is asked
 
--- the opcodes that are selected: no call and no site but that of an access
-abbrev pub is_built : Opcode → Bool
-is_built opcode.CCall = false
-is_built opcode.Patchpoint = false
-is_built opcode.Check = false
-is_built opcode.CheckAdd = false
-is_built opcode.CheckSub = false
-is_built opcode.CheckMul = false
-is_built _ = true
-
-abbrev pub IsBuilt : Procedure → Type 0
-IsBuilt p = All (λ (b : Block). All (λ (v : Value). is_built v.kind.opcode ≡ true) b.values) p.blocks
-
--- those of them that are selected as arithmetic: no access, slot or frame pointer either
+-- the opcodes that are selected as arithmetic: no access, slot, frame pointer, call, patchpoint or check
 abbrev pub is_arithmetic_opcode : Opcode → Bool
 is_arithmetic_opcode opcode.FramePointer = false
 is_arithmetic_opcode opcode.SlotBase = false
@@ -122,21 +111,30 @@ is_arithmetic op = is_arithmetic_kind (kind_of op)
 abbrev pub IsArithmetic : AirProc → Type 0
 IsArithmetic q = All (λ (b : AirBlock). All (λ (i : AirInst). is_arithmetic i.op ≡ true) b.insts) q.blocks
 
--- the kinds of ops that are selected: those of arithmetic, loads, stores, the addresses of slots and the frame
--- pointer; again a Shuffle isn't
-abbrev pub is_selected_kind : Kind → Bool
-is_selected_kind (Loads extent extends) = true
-is_selected_kind (Stores extent) = true
-is_selected_kind SlotAddresses = true
-is_selected_kind FramePointers = true
-is_selected_kind kind = is_arithmetic_kind kind
-
+-- each op is selected but a Shuffle
 abbrev pub is_selected : AirOp → Bool
 is_selected Shuffle = false
-is_selected op = is_selected_kind (kind_of op)
+is_selected op = true
 
 abbrev pub IsSelected : AirProc → Type 0
 IsSelected q = All (λ (b : AirBlock). All (λ (i : AirInst). is_selected i.op ≡ true) b.insts) q.blocks
+
+-- the kinds of ops that make a site with a stackmap: patchpoints and checks
+abbrev pub has_stackmap : Kind → Bool
+has_stackmap (Patches typed) = true
+has_stackmap (Checks test) = true
+has_stackmap (ChecksResult checked) = true
+has_stackmap _ = false
+
+-- each patchpoint and each check is expressed for the value that it names
+abbrev pub AreExpressed : Procedure → AirProc → Type 0
+AreExpressed p q = (block place : ℕ) (i : AirInst) → air.StandsAt q block place i → has_stackmap (kind_of i.op) ≡ true
+    → (v : Value) × (value_named p i.value ≡ Some v) × IsExpressed p v i
+
+-- each instruction that makes a site makes it for a value of a procedure
+abbrev pub AreMadeFor : Procedure → AirProc → Type 0
+AreMadeFor p q = (block place : ℕ) (i : AirInst) → air.StandsAt q block place i
+    → makes_site (kind_of i.op) i.traps ≡ true → (v : Value) × (value_named p i.value ≡ Some v)
 
 -- no instruction traps
 abbrev pub IsUntrapped : AirProc → Type 0

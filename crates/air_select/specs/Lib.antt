@@ -2,4 +2,5 @@ pub mod Temporaries
 pub mod Returning
 pub mod Selected
 pub mod Contract
+pub mod Sited
 pub mod Sample

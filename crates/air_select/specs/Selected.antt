@@ -1,5 +1,5 @@
 -- The procedure of Air that is selected for a procedure of B3.
-use Rattle.std.specs.Prelude.{ℕ, pos, ◌||◌, zero, suc, ◌+◌, ◌-◌, ◌%◌, Bool, false, if◌then◌else◌, List, [], ◌∷◌, ◌++◌, map, Option, Some, None, slice_index_or}
+use Rattle.std.specs.Prelude.{ℕ, pos, ◌||◌, zero, suc, ◌+◌, ◌-◌, ◌%◌, Bool, false, if◌then◌else◌, List, [], ◌∷◌, ◌++◌, drop, map, Option, Some, None, slice_index_or}
 use Rattle.std.specs.Int.{cast_unsigned, w64}
 use Rattle.std.specs.List.{flat_map, list_any}
 use Rattle.std.specs.Prelude.{nat_eq}
@@ -8,7 +8,7 @@ use Rattle.b3_base.specs.declared.word.Width.{Width}
 use Rattle.b3_base.specs.declared.word.Width.TheVariants.{W32, W64}
 use Rattle.b3_ir.specs.Naming.{all_values}
 use Rattle.b3_ir.specs.Procedure.{Block, Procedure, values_of}
-use Rattle.b3_ir.specs.Types.{width_of}
+use Rattle.b3_ir.specs.Types.{has_word, width_of}
 use Rattle.b3_ir.specs.declared.opcode.Opcode.{Opcode}
 use Rattle.b3_ir.specs.declared.opcode.Opcode.TheVariants as opcode
 use Rattle.b3_ir.specs.declared.opcode.Ty.{Ty}
@@ -16,16 +16,18 @@ use Rattle.b3_ir.specs.declared.opcode.Ty.TheVariants.{Int32}
 use Rattle.b3_ir.specs.declared.procedure.SlotLine.{SlotLine}
 use Rattle.b3_ir.specs.declared.value.Body.{Body}
 use Rattle.b3_ir.specs.declared.value.Body.TheVariants.{Argument, Cases, Slot, Target}
+use Rattle.b3_ir.specs.declared.value.Reg.{Reg as Register}
 use Rattle.b3_ir.specs.declared.value.Value.{Value}
 use Rattle.b3_meaning.specs.declared.role.Extent.{Extent}
 use Rattle.b3_meaning.specs.declared.role.Extent.TheVariants.{Byte, Half, Whole}
 use Rattle.b3_rules.specs.Paths.{successors_in}
 use Rattle.b3_rules.specs.Rules.{first_return}
+use Rattle.stackmap.specs.Placing.{result_register}
 use Rattle.stackmap.specs.declared.site.Returns.{Returns}
 use Rattle.stackmap.specs.declared.site.Returns.TheVariants as returns
 use Rattle.a64_inst.specs.declared.inst.Cond.{Cond}
 use Rattle.a64_inst.specs.declared.inst.Cond.TheVariants.{Eq, Ne, Hs, Lo, Hi, Ls, Ge, Lt, Gt, Le}
-use Rattle.air_ir.specs.Forms.{is_offset}
+use Rattle.air_ir.specs.Forms.{call_clobbers, is_offset, operand_in}
 use Rattle.air_ir.specs.Kinds.{extent_bytes}
 use Rattle.air_ir.specs.declared.op.AirOp.{AirOp}
 use Rattle.air_ir.specs.declared.op.AirOp.TheVariants as op
@@ -35,11 +37,13 @@ use Rattle.air_ir.specs.declared.operand.Home.{Home}
 use Rattle.air_ir.specs.declared.operand.Home.TheVariants.{Reg}
 use Rattle.air_ir.specs.declared.operand.Arg.{Arg}
 use Rattle.air_ir.specs.declared.operand.Arg.TheVariants.{Addr, At, FrameSlot, Imm, Index as Indexed}
-use Rattle.air_ir.specs.declared.operand.Role.TheVariants.{Use, Def}
+use Rattle.air_ir.specs.declared.operand.Role.TheVariants.{Clobber, Def, Use}
 use Rattle.air_ir.specs.declared.operand.Operand.{Operand}
 use Rattle.air_ir.specs.declared.procedure.AirBlock.{AirBlock}
 use Rattle.air_ir.specs.declared.procedure.AirInst.{AirInst}
 use Rattle.air_ir.specs.declared.procedure.AirProc.{AirProc}
+use Rattle.air_stackmap.specs.SiteCode.{patch_code, site_code}
+use Rattle.air_stackmap.specs.declared.child.Child.{Child}
 use Rattle.air_fold.specs.Foldable.{bit_of, is_comparison, is_constant, is_foldable, whole}
 use Rattle.air_select.specs.Temporaries.{argument, first_extra, home, location, second_extra, tmp_count}
 use Rattle.air_fold.specs.declared.known.Known.{Known}
@@ -146,6 +150,14 @@ copy_of v c = move v c.0 c.1 c.2
 pub record Condition : Type 0 where
   pub test : Test
   pub over : List Operand
+
+-- the word of a constant
+abbrev pub constant_in : Known → Option ℕ
+constant_in k = if is_constant k.opcode then Some k.word else None
+
+-- a result that is written into a register, where there is one
+abbrev pub result_into : Value → ℕ → List Operand
+result_into v r = if has_word v.ty then def_at (width_of v.ty) (register r) ∷ [] else []
 
 -- block b of B3 is block b + 1 of Air; only the last value of a block names successors
 abbrev pub targets_of : Value → List ℕ
@@ -302,6 +314,66 @@ module _ (t : Tables) where
   abbrev pub frame_of : Value → AirInst
   frame_of v = inst v op.FramePointer (result_of v ∷ [])
 
+  -- ---- calls
+
+  -- arguments are put into registers one after the other, from this register on: what is read later stands in
+  -- temporaries that are live until then, so none of these becomes a register that is written before
+  abbrev pub arguments_into : Value → ℕ → List ℕ → List AirInst
+  arguments_into v r [] = []
+  arguments_into v r (c ∷ cs) = move v (width_at t.index c) (arg_of c) (register r) ∷ arguments_into v (suc r) cs
+
+  -- they are read there
+  abbrev pub arguments_at : ℕ → List ℕ → List Operand
+  arguments_at r [] = []
+  arguments_at r (c ∷ cs) = use_at (width_at t.index c) (At (register r)) ∷ arguments_at (suc r) cs
+
+  -- such a result is put into the value's home
+  abbrev pub result_from : Value → ℕ → List AirInst
+  result_from v r =
+      if has_word v.ty then move v (width_of v.ty) (At (register r)) (home t.index v.id) ∷ [] else []
+
+  -- the callee stands in its home, the arguments in x0, x1 and so on, and the result in x0
+  abbrev pub call_to : Value → ℕ → List ℕ → AirInst
+  call_to v callee cs = inst v (op.Call (has_word v.ty)) (
+      use_of callee ∷ arguments_at 0 cs ++ (map (operand_in Clobber W64) call_clobbers ++ result_into v 0))
+
+  abbrev pub call_of : Value → List AirInst
+  call_of v =
+      arguments_into v 0 (drop 1 v.children)
+      ++ call_to v (child v.children 0) (drop 1 v.children) ∷ result_from v 0
+
+  -- ---- patchpoints and checks
+
+  -- what a site finds of a reported child: its home, or its word where it is a constant
+  abbrev pub child_of : ℕ → Child
+  child_of id = record {
+    width = width_at t.index id;
+    home = home t.index id;
+    constant = constant_in (known t.index id);
+  }
+
+  -- the children behind so many
+  abbrev pub reported_behind : ℕ → Value → List Child
+  reported_behind n v = map child_of (drop n v.children)
+
+  -- a check computes with its first two children, and reports the others
+  abbrev pub checked_of : Value → AirOp → List AirInst
+  checked_of v op =
+      site_code v op (use_of (child v.children 0) ∷ use_of (child v.children 1) ∷ []) (reported_behind 2 v)
+      (result_of v ∷ [])
+
+  -- or it tests its first child
+  abbrev pub check_on : Value → Condition → List AirInst
+  check_on v c = site_code v (op.CheckIf c.test) c.over (reported_behind 1 v) []
+
+  -- the result of a patchpoint is put into the value's home
+  abbrev pub patched_from : Value → Option Register → List AirInst
+  patched_from v (Some reg) = move v (width_of v.ty) (At (Reg reg)) (home t.index v.id) ∷ []
+  patched_from v None = []
+
+  abbrev pub patchpoint_of : Value → List AirInst
+  patchpoint_of v = patch_code v (reported_behind 0 v) ++ patched_from v (result_register v)
+
   -- the width, the source and the destination of a value that copies a word: the low half of a child is copied at
   -- 32 bits, an Upsilon's child goes to the location of its Phi, and a Phi has what stands in its location
   abbrev pub copied : Opcode → Value → Width × Arg × Home
@@ -338,6 +410,12 @@ module _ (t : Tables) where
   code_of opcode.Store8 v = store_of v op.Store8 Byte
   code_of opcode.Store16 v = store_of v op.Store16 Half
   code_of opcode.Store v = store_of v op.Store Whole
+  code_of opcode.CCall v = call_of v
+  code_of opcode.Patchpoint v = patchpoint_of v
+  code_of opcode.Check v = check_on v (condition_of (child v.children 0))
+  code_of opcode.CheckAdd v = checked_of v op.CheckAdd
+  code_of opcode.CheckSub v = checked_of v op.CheckSub
+  code_of opcode.CheckMul v = checked_of v op.CheckMul
   code_of opcode.Jump v = inst v op.Jump [] ∷ []
   code_of opcode.Oops v = inst v op.Oops [] ∷ []
   code_of opcode.Branch v = branch_on v (condition_of (child v.children 0))

@@ -2,10 +2,12 @@
 #![tactic(auto)]
 
 mod access;
+mod call;
 mod code;
 mod entry;
 mod procedure;
 mod rows;
+mod site;
 mod tables;
 #[cfg(test)]
 mod tests;

@@ -10,7 +10,7 @@ ghost use Rattle.stackmap.specs.declared.site.Returns.TheVariants as returns;
 ghost use Rattle.air_ir.specs.Run.{HasBlocksOf};
 ghost use Rattle.air_ir.specs.Weight.{weight};
 ghost use Rattle.air_ir.specs.WellFormed.{HasOneSiteEach, IsWellFormed, NamesSpillsBelow};
-ghost use Rattle.air_select.specs.Contract.{HasArithmeticAlone, HasNoTraps, IsArithmetic, IsBuilt, IsFew, IsFolded, IsSelected, IsUntrapped, IsWithinLimits, ReturnsType, child_count, procedure_at};
+ghost use Rattle.air_select.specs.Contract.{HasArithmeticAlone, HasNoTraps, AreExpressed, AreMadeFor, IsArithmetic, IsFew, IsFolded, IsSelected, IsUntrapped, IsWithinLimits, ReturnsType, child_count, procedure_at};
 ghost use Rattle.air_select.specs.Selected as code;
 
 use crate::entry::{entry, returns};
@@ -131,12 +131,13 @@ fn selected(alloc: Global, p: &Proc) -> Result<AirProc, NoMemory>
 /// for want of memory alone.
 pub fn select(alloc: Global, valid: &Valid, proc: usize) -> Result<AirProc, NoMemory>
     requires there { proc < length valid.now }
-    requires built { IsBuilt (procedure_at valid.now proc) }
     requires limits { IsWithinLimits (procedure_at valid.now proc) }
     ensures is { IfOk result (λ q. q ≡ code.selected (procedure_at valid.now proc)) }
     ensures same { IfOk result (λ q. HasBlocksOf (procedure_at valid.now proc) q) }
     ensures well { IfOk result (λ q. IsWellFormed q) }
     ensures sites { IfOk result (λ q. HasOneSiteEach q) }
+    ensures made_for { IfOk result (λ q. AreMadeFor (procedure_at valid.now proc) q) }
+    ensures expressed { IfOk result (λ q. AreExpressed (procedure_at valid.now proc) q) }
     ensures spills { IfOk result (λ q. NamesSpillsBelow 0 q) }
     ensures selected { IfOk result (λ q. IsSelected q) }
     ensures arithmetic { IfOk result (λ q. HasArithmeticAlone (procedure_at valid.now proc) → IsArithmetic q) }

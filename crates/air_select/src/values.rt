@@ -1,12 +1,14 @@
 //! The instructions of a value.
 
-ghost use Rattle.std.specs.Prelude.{◌≡◌, ◌++◌, ◌∷◌, [], map, OnOk, IfOk};
+ghost use Rattle.std.specs.Prelude.{◌≡◌, ◌++◌, ◌∷◌, [], false, map, OnOk, IfOk};
+ghost use Rattle.air_select.specs.Sited.{SuitsSite, touches};
 ghost use Rattle.air_select.specs.Selected as code;
 ghost use Rattle.air_fold.specs.Values as values;
 
 use crate::access::{push_frame_pointer, push_load, push_slot, push_store};
 use crate::code::{four, one, push, push_move, three, two};
 use crate::rows::{condition, op_of, turned};
+use crate::site::push_site;
 use crate::tables::{
     Tables, argument, def_at, first_extra, home, result_of, second_extra, use_at, use_child,
 };
@@ -18,7 +20,7 @@ use b3_meaning::Extent;
 use std::alloc::Global;
 
 /// The test of a condition.
-fn test_of(t: &Tables, id: u32) -> Test
+pub(crate) fn test_of(t: &Tables, id: u32) -> Test
     ensures { result ≡ (code.condition_of t.now id).test }
 {
     if !t.folds(id) {
@@ -33,7 +35,7 @@ fn test_of(t: &Tables, id: u32) -> Test
 }
 
 /// The operands that the test of a condition is over.
-fn tested(alloc: Global, t: &Tables, id: u32) -> Result<Operands, NoMemory>
+pub(crate) fn tested(alloc: Global, t: &Tables, id: u32) -> Result<Operands, NoMemory>
     ensures { IfOk result (λ os. os ≡ (code.condition_of t.now id).over) }
 {
     if !t.folds(id) {
@@ -317,8 +319,9 @@ fn push_copy(alloc: Global, insts: &mut AirInsts, t: &Tables, v: &Value) -> Resu
     push_move(alloc, insts, v.id, width, from, to)
 }
 
-/// Adds the instructions of a value that isn't folded.
-fn push_code(alloc: Global, insts: &mut AirInsts, t: &Tables, v: &Value) -> Result<(), NoMemory>
+/// Adds the instructions of a value that touches neither memory nor the outside.
+fn push_quiet(alloc: Global, insts: &mut AirInsts, t: &Tables, v: &Value) -> Result<(), NoMemory>
+    requires { touches v.now.kind.opcode ≡ false }
     ensures { OnOk result (insts.new ≡ insts.old ++ code.code_of t.now v.now.kind.opcode v.now) }
 {
     match v.kind.opcode {
@@ -329,16 +332,6 @@ fn push_code(alloc: Global, insts: &mut AirInsts, t: &Tables, v: &Value) -> Resu
         | Opcode::Trunc
         | Opcode::Upsilon
         | Opcode::Phi => push_copy(alloc, insts, t, v),
-        Opcode::FramePointer => push_frame_pointer(alloc, insts, t, v),
-        Opcode::SlotBase => push_slot(alloc, insts, t, v),
-        Opcode::Load8Z => push_load(alloc, insts, t, v, AirOp::Load8Z, Extent::Byte),
-        Opcode::Load8S => push_load(alloc, insts, t, v, AirOp::Load8S, Extent::Byte),
-        Opcode::Load16Z => push_load(alloc, insts, t, v, AirOp::Load16Z, Extent::Half),
-        Opcode::Load16S => push_load(alloc, insts, t, v, AirOp::Load16S, Extent::Half),
-        Opcode::Load => push_load(alloc, insts, t, v, AirOp::Load, Extent::Whole),
-        Opcode::Store8 => push_store(alloc, insts, t, v, AirOp::Store8, Extent::Byte),
-        Opcode::Store16 => push_store(alloc, insts, t, v, AirOp::Store16, Extent::Half),
-        Opcode::Store => push_store(alloc, insts, t, v, AirOp::Store, Extent::Whole),
         Opcode::Mod => push_remainder(alloc, insts, t, v, AirOp::Div),
         Opcode::UMod => push_remainder(alloc, insts, t, v, AirOp::UDiv),
         Opcode::RotL => push_rotate_left(alloc, insts, t, v),
@@ -352,6 +345,32 @@ fn push_code(alloc: Global, insts: &mut AirInsts, t: &Tables, v: &Value) -> Resu
     }
 }
 
+/// Adds the instructions of a value that isn't folded.
+fn push_code(alloc: Global, insts: &mut AirInsts, t: &Tables, v: &Value) -> Result<(), NoMemory>
+    requires { SuitsSite v.now }
+    ensures { OnOk result (insts.new ≡ insts.old ++ code.code_of t.now v.now.kind.opcode v.now) }
+{
+    match v.kind.opcode {
+        Opcode::FramePointer => push_frame_pointer(alloc, insts, t, v),
+        Opcode::SlotBase => push_slot(alloc, insts, t, v),
+        Opcode::Load8Z => push_load(alloc, insts, t, v, AirOp::Load8Z, Extent::Byte),
+        Opcode::Load8S => push_load(alloc, insts, t, v, AirOp::Load8S, Extent::Byte),
+        Opcode::Load16Z => push_load(alloc, insts, t, v, AirOp::Load16Z, Extent::Half),
+        Opcode::Load16S => push_load(alloc, insts, t, v, AirOp::Load16S, Extent::Half),
+        Opcode::Load => push_load(alloc, insts, t, v, AirOp::Load, Extent::Whole),
+        Opcode::Store8 => push_store(alloc, insts, t, v, AirOp::Store8, Extent::Byte),
+        Opcode::Store16 => push_store(alloc, insts, t, v, AirOp::Store16, Extent::Half),
+        Opcode::Store => push_store(alloc, insts, t, v, AirOp::Store, Extent::Whole),
+        Opcode::CCall
+        | Opcode::Patchpoint
+        | Opcode::Check
+        | Opcode::CheckAdd
+        | Opcode::CheckSub
+        | Opcode::CheckMul => push_site(alloc, insts, t, v),
+        _ => push_quiet(alloc, insts, t, v),
+    }
+}
+
 /// Adds the instructions of a value.
 #[tactic(auto, unfolding(crate::specs::Selected::value_code))]
 pub(crate) fn push_value(
@@ -360,6 +379,7 @@ pub(crate) fn push_value(
     t: &Tables,
     v: &Value,
 ) -> Result<(), NoMemory>
+    requires { SuitsSite v.now }
     ensures { OnOk result (insts.new ≡ insts.old ++ code.value_code t.now v.now) }
 {
     if t.folds(v.id) {

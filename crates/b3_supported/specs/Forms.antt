@@ -1,5 +1,5 @@
--- The forms that have code: of a value by its opcode and its trap, and of a procedure.
-use Rattle.std.specs.Prelude.{◌≡◌, Bool, true, false, ◌&&◌, not, All}
+-- The forms that have code: of a value by its opcode, and of a procedure.
+use Rattle.std.specs.Prelude.{◌≡◌, Bool, true, false, All}
 use Rattle.b3_ir.specs.Naming.{all_values}
 use Rattle.b3_ir.specs.Procedure.{Procedure}
 use Rattle.b3_ir.specs.declared.opcode.Kind.{Kind}
@@ -7,19 +7,17 @@ use Rattle.b3_ir.specs.declared.opcode.Opcode.{Opcode}
 use Rattle.b3_ir.specs.declared.opcode.Opcode.TheVariants as op
 use Rattle.b3_ir.specs.declared.value.Value.{Value}
 
--- the opcodes that have code: all but CCall, Patchpoint and the checks
+-- the opcodes that have code: all but the checks
 abbrev pub opcode_has_code : Opcode → Bool
-opcode_has_code op.CCall = false
-opcode_has_code op.Patchpoint = false
 opcode_has_code op.Check = false
 opcode_has_code op.CheckAdd = false
 opcode_has_code op.CheckSub = false
 opcode_has_code op.CheckMul = false
 opcode_has_code _ = true
 
--- and a load or a store only where it doesn't trap
+-- its flags are never at fault
 abbrev pub has_code : Kind → Bool
-has_code kind = opcode_has_code kind.opcode && not kind.traps
+has_code kind = opcode_has_code kind.opcode
 
 -- a value whose kind has code
 abbrev pub HasCode : Value → Type 0

@@ -10,15 +10,14 @@ fn opcode_has_code(opcode: Opcode) -> bool
     ensures { result ≡ forms.opcode_has_code opcode }
 {
     match opcode {
-        Opcode::CCall | Opcode::Patchpoint => false,
         Opcode::Check | Opcode::CheckAdd | Opcode::CheckSub | Opcode::CheckMul => false,
         _ => true,
     }
 }
 
-/// Whether a kind has code: its opcode has, and it doesn't trap.
+/// Whether a kind has code: its opcode has.
 pub(crate) fn has_code(kind: Kind) -> bool
     ensures { result ≡ forms.has_code kind }
 {
-    opcode_has_code(kind.opcode) && !kind.traps
+    opcode_has_code(kind.opcode)
 }

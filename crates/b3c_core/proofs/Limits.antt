@@ -18,8 +18,8 @@ use Rattle.b3_supported.specs.Supported.{AreSupported}
 use Rattle.air_select.specs.Contract.{IsWithinLimits, procedure_at}
 use Rattle.a64_object.specs.Taken.{AreWithinLimits, HasFewSlots, IsTaken, bytes_in}
 use Rattle.a64_object.proofs.GoodObject.{all_taken}
+use Rattle.a64_object.proofs.Lists.{all_of, one_in}
 use Rattle.a64_object.proofs.Making.{procedure_there}
-use Rattle.a64_object.proofs.Placed.{all_of, one_in}
 
 -- ---- sums over all lines
 abbrev line_of : Placed → ℕ

@@ -1,5 +1,6 @@
 //! The tool on whole inputs: what it writes, which line it names, and its status.
 
+mod calls;
 mod commands;
 mod memory;
 mod objects;

@@ -4,3 +4,4 @@ pub mod Placed
 pub mod PlacedApart
 pub mod Children
 pub mod Keeping
+pub mod InOrder

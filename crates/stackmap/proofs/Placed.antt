@@ -33,6 +33,12 @@ pub nth_from_literal : (p : ℕ → Bool) (map : Stackmap) (typed : Bool) (k : �
 unfolding allocatable
 nth_from_literal p map typed k same = nth_alike p (is_allowed map typed) allocatable k same
 
+pub allowed_from_literal : (p : ℕ → Bool) (map : Stackmap) (typed : Bool) → ((r : ℕ) → p r ≡ is_allowed map typed r)
+    → filter p (0 ∷ 1 ∷ 2 ∷ 3 ∷ 4 ∷ 5 ∷ 6 ∷ 7 ∷ 8 ∷ 9 ∷ 10 ∷ 11 ∷ 12 ∷ 13 ∷ 14 ∷ 19 ∷ 20 ∷ 21 ∷ 22 ∷ 23 ∷ 24 ∷ 25 ∷ 26 ∷ 27 ∷ 28 ∷ [])
+    ≡ allowed map typed
+unfolding allocatable
+allowed_from_literal p map typed same = filter_alike p (is_allowed map typed) allocatable same
+
 pub count_from_literal : (p : ℕ → Bool) (map : Stackmap) (typed : Bool) → ((r : ℕ) → p r ≡ is_allowed map typed r)
     → length (filter p (0 ∷ 1 ∷ 2 ∷ 3 ∷ 4 ∷ 5 ∷ 6 ∷ 7 ∷ 8 ∷ 9 ∷ 10 ∷ 11 ∷ 12 ∷ 13 ∷ 14 ∷ 19 ∷ 20 ∷ 21 ∷ 22 ∷ 23 ∷ 24 ∷ 25 ∷ 26 ∷ 27 ∷ 28 ∷ []))
     ≡ length (allowed map typed)

@@ -1,12 +1,13 @@
--- No public clause cites this module: what private contracts say of the first children of a site, and of
--- sets of registers.
-use Rattle.std.specs.Prelude.{◌≡◌, ℕ, ◌<◌, ◌≤◌, ◌||◌, Bool, true, false, nat_eq, min, length, Some, IfSome}
+-- No public clause cites this module: what private contracts say of the first children of a site, of sets of
+-- registers, and of the registers of children in order.
+use Rattle.std.specs.Prelude.{◌≡◌, ℕ, ◌+◌, ◌<◌, ◌≤◌, ◌||◌, Bool, true, false, nat_eq, if◌then◌else◌, min, List, [], ◌∷◌, length, Option, Some, IfSome, slice_get}
 use Rattle.b3_ir.specs.declared.value.Constraint.{Constraint}
 use Rattle.b3_ir.specs.declared.value.Constraint.TheVariants.{SomeRegisterWithClobber, SomeEarlyRegister}
 use Rattle.b3_ir.specs.declared.value.Reg.{Reg}
 use Rattle.b3_ir.specs.declared.value.Stackmap.{Stackmap}
 use Rattle.stackmap.specs.Obeys.{HasKind, IsChild, IsNamed}
-use Rattle.stackmap.specs.Registers.{fixed_by, has, is_late}
+use Rattle.stackmap.specs.Placing.{register_numbered}
+use Rattle.stackmap.specs.Registers.{fixed_by, has, is_late, is_placed}
 use Rattle.stackmap.specs.declared.obeying.Group.{Group}
 use Rattle.stackmap.specs.declared.obeying.Group.TheVariants.{Every, Late, Clobbered}
 use Rattle.stackmap.specs.declared.site.Rep.{Rep}
@@ -81,3 +82,19 @@ pub record SetsKeep (patchpoint : Bool) (map : Stackmap) (site : Site) (every la
   pub outside_late : (r : ℕ) → has late r ≡ true → (has map.late r || has clobbered r) ≡ false
   pub result : IfSome site.result (λ result. ResultKeeps map every late result.1)
   pub clobbers : ClobbersKeep patchpoint map site clobbered
+
+-- ---- the registers of all children
+
+-- what is given to a child where so many children before it are placed
+abbrev pub given : List ℕ → ℕ → Constraint → Option Reg
+given allowed placed c = if is_placed c then register_numbered (slice_get allowed placed) else fixed_by c
+
+-- how many are placed with one more
+abbrev pub placed_with : ℕ → Constraint → ℕ
+placed_with placed c = if is_placed c then placed + 1 else placed
+
+-- and to children in order, the first of which has so many placed ones before it
+unfoldable pub given_from : List ℕ → ℕ → List Constraint → List (Option Reg)
+given_from allowed placed [] = []
+given_from allowed placed (c ∷ cs) =
+    given allowed placed c ∷ given_from allowed (placed_with placed c) cs

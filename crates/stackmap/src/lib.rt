@@ -12,7 +12,9 @@ mod tests;
 
 pub use constraint::{fixed_by, has_result, is_late};
 pub use obeying::obeys;
-pub use placing::{has_registers, register_for, result_register, with_fixed};
+pub use placing::{
+    Registers, has_registers, register_for, registers_for, result_register, with_fixed,
+};
 pub use site::{
     Place, Places, Rep, Returns, Saved, SavedRow, Site, SiteKind, Sites, SlotRow, SlotRows,
 };

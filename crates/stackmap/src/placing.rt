@@ -1,21 +1,27 @@
 //! Placing: the registers that the reported children and the result of a stackmap value take.
 
-ghost use Rattle.std.specs.Prelude.{◌≡◌, ◌<◌, ◌≤◌, ◌↔◌, ◌&&◌, ◌||◌, ℕ, true, false, not, length, take, slice_get, IfSome, IsTrue, All};
+ghost use Rattle.std.specs.Prelude.{◌≡◌, ◌<◌, ◌≤◌, ◌^◌, ◌↔◌, ◌&&◌, ◌||◌, ℕ, true, false, not, length, take, slice_get, IfOk, IfSome, IsTrue, All};
 ghost use Rattle.std.specs.List.{filter, list_any};
 ghost use Rattle.stackmap.specs.Registers.{constraints_of, fixes, has, has_result, is_placed_result, stackmap_in, stands_anywhere};
-ghost use Rattle.stackmap.specs.Placing.{child_register, is_allowed, nth_allowed, placed_count, register_for, register_numbered, result_in, result_register};
+ghost use Rattle.stackmap.specs.Placing.{allowed, child_register, is_allowed, nth_allowed, placed_count, register_for, register_numbered, registers_for, result_in, result_register};
+ghost use Rattle.stackmap.specs.Standing.{given, given_from, placed_with};
 ghost use Rattle.stackmap.specs.PlacesObey.{PlacesObey};
 ghost use Rattle.b3_ir.specs.declared.value.Stackmap.{Stackmap};
 ghost use Rattle.stackmap.specs.Rules.{FixesAllocatable, HasRegisters, IsPlaceable};
 
 use crate::constraint::{fixed_by, has_result, is_placed, is_placed_result};
 use crate::set;
+use b3_base::{Bytes, NoMemory, Seq};
 use b3_ir::{Body, Constraint, Reg, Stackmap, Value};
+use std::alloc::Global;
 
 /// The registers that values may stand in: x0 to x14 and x19 to x28.
 const ALLOCATABLE: [u8; 25] = [
     0, 1, 2, 3, 4, 5, 6, 7, 8, 9, 10, 11, 12, 13, 14, 19, 20, 21, 22, 23, 24, 25, 26, 27, 28,
 ];
+
+/// The registers of reported children, in order; None where a child may stand anywhere.
+pub type Registers = Seq<Option<Reg>>;
 
 /// The register of a reported child of a Patchpoint or a check, which is counted from 0 among the
 /// reported ones: the one that its constraint fixes, or the one that the placing rule gives it.
@@ -30,6 +36,18 @@ pub fn register_for(value: &Value, child: usize) -> Option<Reg>
     match &value.body {
         Body::Map(map) => child_register(map, has_result(value), child),
         _ => None,
+    }
+}
+
+/// The registers of all reported children of a Patchpoint or a check, in order, each the one that `register_for`
+/// gives, in time in proportion to their number. It is refused for want of memory alone.
+pub fn registers_for(alloc: Global, value: &Value) -> Result<Registers, NoMemory>
+    requires { IsPlaceable value.now }
+    ensures { IfOk result (λ registers. registers ≡ registers_for value.now) }
+{
+    match &value.body {
+        Body::Map(map) => children_registers(alloc, map, has_result(value)),
+        _ => Ok(Registers::new(alloc)),
     }
 }
 
@@ -86,6 +104,69 @@ fn child_register(map: &Stackmap, typed: bool, child: usize) -> Option<Reg>
         nth_allowed(map, typed, placed_before(map, child))
     } else {
         fixed_by(constraint)
+    }
+}
+
+// The registers of all children, in order.
+fn children_registers(alloc: Global, map: &Stackmap, typed: bool) -> Result<Registers, NoMemory>
+    requires fixed { All FixesAllocatable map.now.constraints }
+    requires result { typed ≡ true → FixesAllocatable map.now.result }
+    ensures { IfOk result (λ registers. registers ≡ given_from (allowed map.now typed) 0 map.now.constraints) }
+{
+    let allowed = allowed_registers(alloc, map, typed)?;
+    given_to(alloc, allowed.as_slice(), map.constraints.as_slice())
+}
+
+// The allowed registers.
+fn allowed_registers(alloc: Global, map: &Stackmap, typed: bool) -> Result<Bytes, NoMemory>
+    requires fixed { All FixesAllocatable map.now.constraints }
+    requires result { typed ≡ true → FixesAllocatable map.now.result }
+    ensures { IfOk result (λ registers. registers ≡ allowed map.now typed) }
+{
+    all_outside(alloc, &ALLOCATABLE, excluded(map, typed))
+}
+
+// What is given to children of these constraints, where these registers are allowed.
+#[tactic(auto, unfolding(crate::specs::Standing::given_from))]
+fn given_to(
+    alloc: Global,
+    allowed: &[u8],
+    constraints: &[Constraint],
+) -> Result<Registers, NoMemory>
+    ensures { IfOk result (λ registers. registers ≡ given_from allowed.now 0 constraints.now) }
+{
+    let mut registers = Registers::new(alloc);
+    let mut placed = 0;
+    for constraint in constraints {
+        registers.push(given(allowed, placed, *constraint))?;
+        placed = placed_with(placed, *constraint);
+    }
+    Ok(registers)
+}
+
+// How many children are placed where a child of this constraint comes after so many.
+fn placed_with(placed: usize, constraint: Constraint) -> usize
+    requires { placed < 2 ^ 63 }
+    ensures { result ≡ placed_with placed constraint }
+{
+    if is_placed(constraint) {
+        placed + 1
+    } else {
+        placed
+    }
+}
+
+// What is given to a child where so many children before it are placed.
+fn given(allowed: &[u8], placed: usize, constraint: Constraint) -> Option<Reg>
+    ensures { result ≡ given allowed.now placed constraint }
+{
+    if !is_placed(constraint) {
+        return fixed_by(constraint);
+    }
+    if placed < allowed.len() {
+        Some(Reg(allowed[placed]))
+    } else {
+        None
     }
 }
 
@@ -177,6 +258,19 @@ fn nth_outside(registers: &[u8], excluded: u32, at: usize) -> Option<Reg>
         }
     }
     None
+}
+
+// The registers that stand outside a set.
+fn all_outside(alloc: Global, registers: &[u8], excluded: u32) -> Result<Bytes, NoMemory>
+    ensures { IfOk result (λ outside. outside ≡ filter (λ r. not (has excluded r)) registers.now) }
+{
+    let mut outside = Bytes::new(alloc);
+    for r in registers {
+        if !set::is_in(excluded, *r) {
+            outside.push(*r)?;
+        }
+    }
+    Ok(outside)
 }
 
 // How many registers stand outside a set.

@@ -4,7 +4,7 @@ ghost use Rattle.std.specs.Prelude.{◌≡◌, ◌-◌, ◌^◌, ◌≤◌, ℕ,
 ghost use Rattle.stackmap.specs.Registers.{constraints_of};
 ghost use Rattle.stackmap.specs.Rules.{IsPlaceable};
 
-use crate::{Place, Rep, Site, SiteKind, obeys, register_for, result_register};
+use crate::{Place, Rep, Site, SiteKind, obeys, register_for, registers_for, result_register};
 use b3_base::{NoMemory, Seq, Width};
 use b3_ir::{Body, Children, Constraint, Kind, Opcode, Reg, RegSet, Stackmap, Ty, Value};
 use std::alloc::Global;
@@ -63,6 +63,11 @@ fn places_children_and_the_result(rt: HostRuntime) -> Result<(), Fail> {
     assert_eq!(rt; register_for(&value, 1), Some(Reg(19)));
     assert_eq!(rt; register_for(&value, 2), None);
     assert_eq!(rt; result_register(&value), Some(Reg(20)));
+    let all = registers_for(rt.alloc(), &value)?;
+    assert_eq!(rt;
+        all.as_slice(),
+        [Some(Reg(3)), Some(Reg(19)), None].as_slice()
+    );
     Ok(())
 }
 

@@ -29,7 +29,7 @@ const FRAME: &str =
     "procedure f\nBB#0:\n    Int64 b@0 = FramePointer()\n    Void b@1 = Return(b@0)\n";
 
 /// Whether both runs of a text show this.
-fn both_show(alloc: Global, text: &str, trial: &str, seen: &str) -> Result<bool, Fail> {
+pub(super) fn both_show(alloc: Global, text: &str, trial: &str, seen: &str) -> Result<bool, Fail> {
     let evaluated = call(alloc, &["eval", "t"], text.as_bytes(), trial)?;
     let run = run_text(alloc, text, trial)?;
     Ok(evaluated.out.bytes() == seen.as_bytes() && run.out.bytes() == seen.as_bytes())
@@ -94,29 +94,17 @@ fn an_access_of_what_is_not_mapped_is_undefined(rt: HostRuntime) -> Result<(), F
     Ok(())
 }
 
-/// A call, a patchpoint, a check, and a load and a store with Traps.
+/// Two checks.
 #[test]
 fn what_has_no_code_is_refused_at_its_line(rt: HostRuntime) -> Result<(), Fail> {
     for (text, line) in [
-        (
-            "procedure f\nstack0: byteSize = 8\nBB#0:\n    Int64 b@0 = FramePointer()\n    Int64 b@1 = CCall(b@0)\n    Void b@2 = Return(b@1)\n",
-            "b3c: line 5: not built\n",
-        ),
-        (
-            "procedure f\nBB#0:\n    Int64 b@0 = ArgumentReg(%x0)\n    Void b@1 = Patchpoint(b@0:%x3)\n    Void b@2 = Return(b@0)\n",
-            "b3c: line 4: not built\n",
-        ),
         (
             "procedure f\nBB#0:\n    Int64 b@0 = ArgumentReg(%x0)\n    Int64 b@1 = Load(b@0)\n    Int64 b@2 = CheckAdd(b@0, b@1)\n    Void b@3 = Return(b@2)\n",
             "b3c: line 5: not built\n",
         ),
         (
-            "procedure f\nBB#0:\n    Int64 b@0 = ArgumentReg(%x0)\n    Int64 b@1 = Load<Traps>(b@0)\n    Void b@2 = Return(b@1)\n",
-            "b3c: line 4: not built\n",
-        ),
-        (
-            "procedure f\nBB#0:\n    Int64 b@0 = ArgumentReg(%x0)\n    Void b@1 = Store(b@0, b@0)\n    Void b@2 = Store<Traps>(b@0, b@0)\n    Void b@3 = Return()\n",
-            "b3c: line 5: not built\n",
+            "procedure f\nstack0: byteSize = 8\nBB#0:\n    Int64 b@0 = FramePointer()\n    Int64 b@1 = Load<Traps>(b@0)\n    Void b@2 = Patchpoint(b@1)\n    Void b@3 = Check(b@1)\n    Void b@4 = Return()\n",
+            "b3c: line 7: not built\n",
         ),
     ] {
         let called = call(rt.alloc(), &["compile"], text.as_bytes(), "")?;

@@ -176,7 +176,7 @@ fn an_input_is_refused_before_its_trial(rt: HostRuntime) -> Result<(), Fail> {
             "b3c: line 3: invalid rule 5\n",
         ),
         (
-            "procedure f\nBB#0:\n    Int64 b@0 = ArgumentReg(%x0)\n    Int64 b@1 = Load<Traps>(b@0)\n    Void b@2 = Return(b@1)\n",
+            "procedure f\nBB#0:\n    Int64 b@0 = ArgumentReg(%x0)\n    Void b@1 = Check(b@0)\n    Void b@2 = Return(b@0)\n",
             10,
             "b3c: line 4: not built\n",
         ),

@@ -1,16 +1,33 @@
 use Rattle.std.proofs.Common.{arith}
-use Rattle.a64_emit.proofs.BlockPushing.{insts_done, insts_next, labels_within}
+use Rattle.a64_emit.specs.Code.{labels_of, marks_of}
+use Rattle.a64_emit.proofs.BlockPushing.{insts_done, insts_next, sum_left}
 use Rattle.a64_emit.proofs.procedure.push_block.Goals as goal
 
 pub loop-k-preserved : goal.loop-k-preserved
 loop-k-preserved c =
-    insts_next c.args.frame.now c.args.next c.args.label c.args.block.now.targets c.args.block.now.insts c.loop-k.k c.get.result.now c.loop-k.code c.push_items.new.code _
-    c.loop-k.invariant c.get.ensures c.in_ok-push_items.ensures
+    let labels = sum_left labels_of c.args.block.now.insts c.loop-k.k c.get-inst.result.now c.get-inst.ensures in
+    let marks = sum_left marks_of c.args.block.now.insts c.loop-k.k c.get-inst.result.now c.get-inst.ensures in
+    record {
+      labels = omega (arith, c.loop-k.invariant.labels, c.own_labels-own.ensures);
+      marks = omega (arith, c.loop-k.invariant.marks, c.own_marks-number.ensures);
+      whole = rw (c.own_labels-own.ensures, c.own_marks-number.ensures)
+          (insts_next c.args.frame.now c.args.next c.loop-k.own c.loop-k.number c.args.block.now.targets c.args.block.now.insts c.loop-k.k c.get-inst.result.now
+          c.loop-k.code c.push_items.new.code _ c.loop-k.invariant.whole c.get-inst.ensures c.in_ok-push_items.ensures);
+    }
 
 pub returns : goal.returns
 returns c =
-    insts_done c.args.frame.now c.args.next c.args.label c.args.block.now.targets c.args.block.now.insts c.loop-k.k c.loop-k.code _ c.loop-k.invariant (omega arith)
+    insts_done c.args.frame.now c.args.next c.loop-k.own c.loop-k.number c.args.block.now.targets c.args.block.now.insts c.loop-k.k c.loop-k.code _
+    c.loop-k.invariant.whole (omega arith)
 
 pub push_items-requires-clause-labels : goal.push_items-requires-clause-labels
-push_items-requires-clause-labels c =
-    omega (arith, labels_within c.args.block.now.insts c.loop-k.k c.get.result.now c.get.ensures, c.requires.labels)
+push_items-requires-clause-labels c = omega (arith, sum_left labels_of c.args.block.now.insts c.loop-k.k c.get-inst.result.now c.get-inst.ensures, c.requires.labels, c.loop-k.invariant.labels)
+
+pub own_labels-own-requires : goal.own_labels-own-requires
+own_labels-own-requires c = omega (arith, sum_left labels_of c.args.block.now.insts c.loop-k.k c.get-inst.result.now c.get-inst.ensures, c.requires.labels, c.loop-k.invariant.labels)
+
+pub overflow_add-own : goal.overflow_add-own
+overflow_add-own c = omega (arith, sum_left labels_of c.args.block.now.insts c.loop-k.k c.get-inst.result.now c.get-inst.ensures, c.requires.labels, c.loop-k.invariant.labels, c.own_labels-own.ensures)
+
+pub overflow_add-number : goal.overflow_add-number
+overflow_add-number c = omega (arith, sum_left marks_of c.args.block.now.insts c.loop-k.k c.get-inst.result.now c.get-inst.ensures, c.requires.marks, c.loop-k.invariant.marks, c.own_marks-number.ensures)

@@ -4,7 +4,7 @@ use Rattle.air_select.specs.Contract.{procedure_at}
 use Rattle.a64_object.proofs.GoodObject.{all_taken}
 use Rattle.a64_object.proofs.Joining.{bound_is, joined_more, joined_none, joined_short}
 use Rattle.a64_object.proofs.Making.{procedure_there}
-use Rattle.a64_object.proofs.Placed.{one_in}
+use Rattle.a64_object.proofs.Lists.{one_in}
 use Rattle.a64_object.specs.Taken.{IsTaken}
 use Rattle.a64_object.proofs.object.joined_object.Goals as goal
 

@@ -18,7 +18,8 @@ pub returns-clause-code : goal.returns-clause-code
 returns-clause-code c =
     let ps = procedures c.args.valid.now in
     IfOk-weaker c.joined_object.result (λ o. IsJoinedOf ps o × All (λ word. word < 2 ^ 32) o.text) (IsCodeOf ps ps)
-    (λ o h. object_is_code ps o (subst (λ m. IsValid (procedures m)) c.module.ensures.same c.module.ensures.valid) c.requires.supported c.requires.limits h.0 h.1) (is_joined c)
+    (λ o h. object_is_code ps o (subst (λ m. IsValid (procedures m)) c.module.ensures.same c.module.ensures.valid) c.requires.supported c.requires.limits h.0
+    h.1) (is_joined c)
 
 pub returns-clause-small : goal.returns-clause-small
 returns-clause-small c =

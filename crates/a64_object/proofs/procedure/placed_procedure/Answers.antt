@@ -4,6 +4,7 @@ use Rattle.air_ir.specs.declared.procedure.AirProc.{AirProc}
 use Rattle.air_graph.specs.Graph.{IsInterferenceOf}
 use Rattle.air_select.specs.Contract.{procedure_at}
 use Rattle.air_spill.specs.Rewritten.{rewritten}
+use Rattle.a64_object.proofs.Emitted.{built_of}
 use Rattle.a64_object.proofs.Placed.{placed_of, spills_below}
 use Rattle.a64_object.proofs.procedure.placed_procedure.Goals as goal
 
@@ -14,10 +15,15 @@ pub returns-clause-placed : goal.returns-clause-placed
 returns-clause-placed c =
     let q = c.in_ok-selected.ensures in
     let r = c.in_ok-placed.ensures in
+    let selected : AirProc = c.in_ok-selected.selected in
+    let placed : AirProc = c.in_ok-placed.placed in
     placed_of (procedure_at c.args.valid.now c.args.proc) c.in_ok-selected.selected c.in_ok-placed.placed c.in_ok-assignment.assignment
+    c.requires.taken.valid c.requires.taken.fit
     c.same_blocks_laws.ensures.onward c.spill_counts.ensures.below c.spill_counts.ensures.named
-    q.same q.light q.few q.kept q.returns_32 q.returns_64 q.selected (q.untrapped c.requires.taken.untrapped)
-    r.is r.same r.well r.no_tmps r.kept r.spills r.lighter r.comes
+    q.same q.light q.few q.kept q.returns_32 q.returns_64 (built_of (procedure_at c.args.valid.now c.args.proc) c.requires.taken.valid c.requires.taken.fit c.requires.taken.unchecked selected placed
+    q.expressed r.comes q.selected)
+    q.made_for q.expressed
+    r.is r.same r.well r.no_tmps r.kept r.spills r.lighter q.sites r.sites r.comes
 
 pub returns-clause-coloured : goal.returns-clause-coloured
 returns-clause-coloured c =

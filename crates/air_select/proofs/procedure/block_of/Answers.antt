@@ -1,6 +1,7 @@
 use Rattle.std.proofs.Common.{[], refl}
 use Rattle.b3_ir.specs.Procedure.{values_of}
 use Rattle.air_select.proofs.Coded.{code_end, code_next, low_targets, with_code}
+use Rattle.air_select.proofs.MapFacts.{suits_of}
 use Rattle.air_fold.proofs.Walks.{walk_next, walk_smaller, walk_stands}
 use Rattle.air_select.proofs.procedure.block_of.Goals as goal
 
@@ -30,6 +31,16 @@ push_targets-requires c =
     let v = c.value-value.result.now in
     let walk = rw c.in-Some.is at c.loop-at.invariant in
     low_targets c.args.p.now.procedure c.requires.valid c.whole.ensures.fit c.requires.few b walk.place v
+    (walk_stands c.args.p.now b c.in-Some.node v (with_code t c.loop-at.insts c.loop-at.targets) (with_code t [] [] (values_of c.args.p.now.procedure b)) walk
+    (c.value-value.ensures.head b walk.there))
+
+pub push_value-requires : goal.push_value-requires
+push_value-requires c =
+    let b = c.args.block in
+    let t = c.args.t.now in
+    let v = c.value-value.result.now in
+    let walk = rw c.in-Some.is at c.loop-at.invariant in
+    suits_of c.args.p.now.procedure c.requires.valid c.whole.ensures.fit b walk.place v
     (walk_stands c.args.p.now b c.in-Some.node v (with_code t c.loop-at.insts c.loop-at.targets) (with_code t [] [] (values_of c.args.p.now.procedure b)) walk
     (c.value-value.ensures.head b walk.there))
 

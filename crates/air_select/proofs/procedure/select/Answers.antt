@@ -10,16 +10,17 @@ use Rattle.air_ir.specs.Run.{HasBlocksOf}
 use Rattle.air_ir.specs.Weight.{weight}
 use Rattle.air_ir.specs.WellFormed.{HasOneSiteEach, IsWellFormed, NamesSpillsBelow}
 use Rattle.air_ir.specs.declared.procedure.AirProc.{AirProc}
-use Rattle.air_select.specs.Contract.{HasArithmeticAlone, HasNoTraps, IsArithmetic, IsFew, IsFolded, IsSelected, IsUntrapped, IsWithinLimits, ReturnsType, child_count, procedure_at}
+use Rattle.air_select.specs.Contract.{AreExpressed, AreMadeFor, HasArithmeticAlone, HasNoTraps, IsArithmetic, IsFew, IsFolded, IsSelected, IsUntrapped, IsWithinLimits, ReturnsType, child_count, procedure_at}
 use Rattle.air_select.specs.Selected.{selected, tables}
 use Rattle.air_select.proofs.Folded.{is_folded}
 use Rattle.air_select.proofs.Returned as returned
 use Rattle.air_select.proofs.Selecting.{at_is, if_ok, kept_slots, same, valid_at}
-use Rattle.air_select.proofs.OneSite.{sites}
+use Rattle.air_select.proofs.MapFacts.{each_standing, site_light}
+use Rattle.air_select.proofs.OneSite.{all_made_for, are_expressed, sites}
 use Rattle.air_select.proofs.Sites.{are_selected, arithmetic, spills}
 use Rattle.air_select.proofs.Sound.{sound}
 use Rattle.air_select.proofs.Untrapped.{untrapped}
-use Rattle.air_select.proofs.Weights.{few, light}
+use Rattle.air_select.proofs.Weights.{IsLightSite, few, light}
 use Rattle.air_select.proofs.Well.{well}
 use Rattle.air_select.proofs.procedure.select.Goals as goal
 
@@ -53,13 +54,19 @@ pub returns-clause-is : goal.returns-clause-is
 returns-clause-is c = by c (λ q. q ≡ selected (asked c)) refl
 
 pub returns-clause-same : goal.returns-clause-same
-returns-clause-same c = by c (λ q. HasBlocksOf (asked c) q) (same (asked c) (valid c) (fits c) c.requires.built)
+returns-clause-same c = by c (λ q. HasBlocksOf (asked c) q) (same (asked c) (valid c) (fits c))
 
 pub returns-clause-well : goal.returns-clause-well
-returns-clause-well c = by c IsWellFormed (well (asked c) (valid c) (fits c) c.requires.built (tables (asked c)) (sound (asked c) (valid c)))
+returns-clause-well c = by c IsWellFormed (well (asked c) (valid c) (fits c) (tables (asked c)) (sound (asked c) (valid c)))
 
 pub returns-clause-sites : goal.returns-clause-sites
 returns-clause-sites c = by c HasOneSiteEach (sites (asked c) (valid c))
+
+pub returns-clause-made_for : goal.returns-clause-made_for
+returns-clause-made_for c = by c (AreMadeFor (asked c)) (all_made_for (asked c) (valid c) (fits c))
+
+pub returns-clause-expressed : goal.returns-clause-expressed
+returns-clause-expressed c = by c (AreExpressed (asked c)) (are_expressed (asked c) (valid c) (fits c))
 
 pub returns-clause-spills : goal.returns-clause-spills
 returns-clause-spills c = by c (NamesSpillsBelow 0) (spills (asked c))
@@ -74,7 +81,9 @@ pub returns-clause-untrapped : goal.returns-clause-untrapped
 returns-clause-untrapped c = by c (λ q. HasNoTraps (asked c) → IsUntrapped q) (untrapped (asked c))
 
 pub returns-clause-light : goal.returns-clause-light
-returns-clause-light c = by c (λ q. weight q ≤ 120 * total (asked c) + 32 * child_count (asked c) + 256) (light (asked c))
+returns-clause-light c = by c (λ q. weight q ≤ 120 * total (asked c) + 32 * child_count (asked c) + 256)
+    (light (asked c) (each_standing (asked c) (IsLightSite (tables (asked c))) (λ b j v at has.
+    site_light (asked c) (valid c) (fits c) b j v at (tables (asked c)) (sound (asked c) (valid c)) has)))
 
 pub returns-clause-few : goal.returns-clause-few
 returns-clause-few c = by c (IsFew (asked c)) (few (asked c) c.requires.limits)

@@ -1,0 +1,189 @@
+-- Each site of emitted code is that of an instruction, no two are of one value, and the marks stand where they are asked for.
+use Rattle.std.proofs.Common.{◌≡◌, ◌≢◌, ℕ, suc, ◌^◌, ◌<◌, ◌≤◌, true, false, List, [], ◌∷◌, Some, length, refl, sym, ◌∙◌, subst, arith, Bool, Option, ap, None}
+use Rattle.std.specs.Prelude.{All, AllPairs, if◌then◌else◌, slice_get, IsSomeAnd}
+use Rattle.std.specs.List.{flat_map}
+use Rattle.std.proofs.lemmas.List.Elements.{All-append, All-cons, All-head, All-nil, All-tail}
+use Rattle.air_frame.proofs.Stacked.{pairs_append}
+use Rattle.stackmap.specs.declared.site.Site.{Site}
+use Rattle.stackmap.specs.declared.site.Rep.TheVariants.{Slot}
+use Rattle.stackmap.specs.declared.site.SiteKind.TheVariants as site_kind
+use Rattle.exit_table.specs.Good.{IsGoodRep}
+use Rattle.std.proofs.lemmas.Option.{get_or_from_slice_get}
+use Rattle.b3_base.specs.declared.word.Width.TheVariants.{W64}
+use Rattle.air_ir.specs.Forms.{HasOperands}
+use Rattle.air_ir.specs.WellFormed.{IsGoodBlock, IsGoodInst, IsWellFormed, HasOneSiteEach, StandsAt}
+use Rattle.air_ir.specs.declared.op.AirOp.{AirOp}
+use Rattle.air_ir.specs.declared.op.AirOp.TheVariants as op
+use Rattle.air_frame.specs.Frames.{IsFrameOf, row_of}
+use Rattle.air_frame.specs.Needs.{names}
+use Rattle.a64_emit.proofs.Outward.{owns_of}
+use Rattle.a64_emit.proofs.SitesOutward.{call_own, patch_own}
+use Rattle.a64_code.specs.Places.{spill_offset}
+use Rattle.air_ir.specs.Kinds.{Calls, Kind, Loads, Patches, Stores, kind_of, makes_site}
+use Rattle.air_ir.specs.declared.frame.Frame.{Frame}
+use Rattle.air_ir.specs.declared.procedure.AirBlock.{AirBlock}
+use Rattle.air_ir.specs.declared.procedure.AirInst.{AirInst}
+use Rattle.air_ir.specs.declared.procedure.AirProc.{AirProc}
+use Rattle.a64_emit.specs.Code.{has_mark, marks_of}
+use Rattle.a64_emit.specs.Made.{HasSmallValues, HasSmallValuesIn, block_sites, inst_sites, outward_site, patch_size, procedure_sites, sites_by, trap_site}
+use Rattle.a64_emit.specs.Sites.{IsCallOf, IsSiteBy, IsSiteIn, IsStackmapOf}
+use Rattle.a64_emit.proofs.Opened.{all_at}
+use Rattle.a64_emit.proofs.Positions.{inst_counted}
+
+-- ---- lists of what each item gives
+
+-- what holds of what each item gives
+pub all_flat : {X A : Type 0} (P : A → Type 0) (f : X → List A) (xs : List X) → ((k : ℕ) (x : X) → slice_get xs k ≡ Some x → All P (f x))
+    → All P (flat_map f xs)
+all_flat P f [] each = All-nil P
+all_flat P f (x ∷ xs) each =
+    All-append P (f x) (flat_map f xs) (each 0 x refl) (all_flat P f xs (λ k y there. each (suc k) y there))
+
+all_weaker : {A : Type 0} (P Q : A → Type 0) → ((a : A) → P a → Q a) → (xs : List A) → All P xs → All Q xs
+all_weaker P Q weaker [] all = All-nil Q
+all_weaker P Q weaker (x ∷ xs) all = All-cons Q x xs (weaker x (All-head P x xs all)) (all_weaker P Q weaker xs (All-tail P x xs all))
+
+-- what is so of each two that items give, where it is so of those of one, and of those of one and a later one
+pub pairs_flat : {X A : Type 0} (R : A → A → Type 0) (f : X → List A) (xs : List X)
+    → ((k : ℕ) (x : X) → slice_get xs k ≡ Some x → AllPairs R (f x))
+    → ((k l : ℕ) (x y : X) → k < l → slice_get xs k ≡ Some x → slice_get xs l ≡ Some y → All (λ a. All (R a) (f y)) (f x))
+    → AllPairs R (flat_map f xs)
+pairs_flat {A = A} R f [] own other = λ i j d lt within. absurd (omega arith)
+pairs_flat {X = X} {A = A} R f (x ∷ xs) own other =
+    pairs_append R (f x) (flat_map f xs) (own 0 x refl)
+    (pairs_flat R f xs (λ k y there. own (suc k) y there) (λ k l y z lt at_k at_l. other (suc k) (suc l) y z (omega arith) at_k at_l))
+    (later (f x) (λ l y there. other 0 (suc l) x y (omega arith) refl there))
+  where
+    later : (es : List A) → ((l : ℕ) (y : X) → slice_get xs l ≡ Some y → All (λ a. All (R a) (f y)) es) → All (λ a. All (R a) (flat_map f xs)) es
+    later [] each = All-nil (λ a. All (R a) (flat_map f xs))
+    later (a ∷ es) each =
+        All-cons (λ a. All (R a) (flat_map f xs)) a es
+        (all_flat (R a) f xs (λ l y there. All-head (λ a. All (R a) (f y)) a es (each l y there)))
+        (later es (λ l y there. All-tail (λ a. All (R a) (f y)) a es (each l y there)))
+
+-- ---- the sites of an instruction
+
+-- a site of an instruction
+pub record IsOwn (f : Frame) (i : AirInst) (site : Site) : Type 0 where
+  pub makes : makes_site (kind_of i.op) i.traps ≡ true
+  pub value : site.value ≡ i.value
+  pub is : IsSiteBy (kind_of i.op) f i site
+
+-- a site of an instruction of this kind
+record IsOwnBy (f : Frame) (kind : Kind) (i : AirInst) (site : Site) : Type 0 where
+  makes : makes_site kind i.traps ≡ true
+  value : site.value ≡ i.value
+  is : IsSiteBy kind f i site
+
+trap_own : (f : Frame) (kind : Kind) (i : AirInst) → (i.traps ≡ true → IsOwnBy f kind i (trap_site i.value))
+    → All (IsOwnBy f kind i) (if i.traps then trap_site i.value ∷ [] else [])
+trap_own f kind i own =
+    elim i.traps as (λ b. i.traps ≡ b → All (IsOwnBy f kind i) (if b then trap_site i.value ∷ [] else [])) [
+      | true ↦ λ e. All-cons (IsOwnBy f kind i) (trap_site i.value) [] (own e) (All-nil (IsOwnBy f kind i))
+      | false ↦ λ e. All-nil (IsOwnBy f kind i)
+    ] refl
+
+-- what is so of the sites of calls and patchpoints
+record AreOutward (f : Frame) (kind : Kind) (i : AirInst) : Type 0 where
+  calls : (typed : Bool) → kind ≡ Calls typed → IsCallOf typed i (outward_site f site_kind.Call 1 typed 1 i)
+  patches : (typed : Bool) → kind ≡ Patches typed → IsStackmapOf f i (outward_site f site_kind.Patchpoint (patch_size i.op) typed 0 i)
+
+own_by : (f : Frame) (kind : Kind) (i : AirInst) → AreOutward f kind i → All (IsOwnBy f kind i) (sites_by kind f i)
+own_by f (Loads extent extends) i out = trap_own f (Loads extent extends) i
+    (λ traps. record { makes = traps; value = refl; is = record { kind = refl; size = refl; reports = refl; result = refl; clobbers = refl } })
+own_by f (Stores extent) i out = trap_own f (Stores extent) i
+    (λ traps. record { makes = traps; value = refl; is = record { kind = refl; size = refl; reports = refl; result = refl; clobbers = refl } })
+own_by f (Calls typed) i out =
+    All-cons (IsOwnBy f (Calls typed) i) (outward_site f site_kind.Call 1 typed 1 i) []
+    (record { makes = refl; value = refl; is = out.calls typed refl }) (All-nil (IsOwnBy f (Calls typed) i))
+own_by f (Patches typed) i out =
+    All-cons (IsOwnBy f (Patches typed) i) (outward_site f site_kind.Patchpoint (patch_size i.op) typed 0 i) []
+    (record { makes = refl; value = refl; is = out.patches typed refl }) (All-nil (IsOwnBy f (Patches typed) i))
+own_by f kind i out = All-nil (IsOwnBy f kind i)
+
+call_op : (o : AirOp) (typed : Bool) → kind_of o ≡ Calls typed → o ≡ op.Call typed
+call_op (op.Call t) typed e = cc
+call_op o typed e = absurd cc
+
+patch_op : (o : AirOp) (typed : Bool) → kind_of o ≡ Patches typed → o ≡ op.Patch (patch_size o) typed
+patch_op (op.Patch size t) typed e = let same : t ≡ typed = cc in ap (op.Patch size) same
+patch_op o typed e = absurd cc
+
+-- ---- the sites of a procedure
+
+-- a list of one has no two
+few_apart : {A : Type 0} (R : A → A → Type 0) (xs : List A) → length xs ≤ 1 → AllPairs R xs
+few_apart R xs few i j d lt within = absurd (omega arith)
+
+one_mark : (i : AirInst) → marks_of i ≤ 1
+one_mark i = elim (has_mark (kind_of i.op) i.traps) as (λ b. (if b then 1 else 0) ≤ 1) [ true ↦ omega arith | false ↦ omega arith ]
+
+abbrev Differ : Site → Site → Type 0
+Differ a b = a.value ≢ b.value
+
+some_of : (o : Option ℕ) (P : ℕ → Type 0) → IsSomeAnd o P → (n : ℕ) × (o ≡ Some n)
+some_of None P is = absurd is
+some_of (Some n) P is = (n, refl)
+
+module _ (p : AirProc) (f : Frame) (well : IsWellFormed p) (no_tmps : p.tmps ≡ 0) (serves : IsFrameOf p f) where
+  spilled : (n : ℕ) → names p n ≡ true → slice_get f.spills n ≡ Some (spill_offset f n)
+  spilled n named =
+      let there = some_of (slice_get f.spills n) (λ offset. IsGoodRep (row_of f p.slots p.returns) W64 (Slot offset)) (serves.spilled n named) in
+      there.1 ∙ ap Some (sym (get_or_from_slice_get f.spills n there.0 0 there.1))
+
+  own_sites : (b k : ℕ) (i : AirInst) → StandsAt p b k i → All (IsOwn f i) (inst_sites f i)
+  own_sites b k i at =
+      let good : IsGoodInst p i = all_at (IsGoodInst p) at.of.insts k i at.inst_there (all_at (IsGoodBlock p) p.blocks b at.of at.block_there well.blocks).insts in
+      let owns = owns_of p b k i at good.names no_tmps in
+      all_weaker (IsOwnBy f (kind_of i.op) i) (IsOwn f i) (λ site own. record { makes = own.makes; value = own.value; is = own.is }) (inst_sites f i)
+      (own_by f (kind_of i.op) i (record {
+        calls = λ typed e. call_own p f spilled i owns typed (subst (λ o. HasOperands p.returns o i.operands) (call_op i.op typed e) good.operands);
+        patches = λ typed e. patch_own p f spilled i owns (patch_size i.op) typed (patch_op i.op typed e)
+            (subst (λ o. HasOperands p.returns o i.operands) (patch_op i.op typed e) good.operands);
+      }))
+
+  at_place : (b k : ℕ) (block : AirBlock) (i : AirInst) → slice_get p.blocks b ≡ Some block → slice_get block.insts k ≡ Some i → StandsAt p b k i
+  at_place b k block i there at = record { of = block; block_there = there; inst_there = at }
+
+  pub sites_made : HasSmallValues p → All (IsSiteIn p f) (procedure_sites p f)
+  sites_made small =
+      all_flat (IsSiteIn p f) (block_sites f) p.blocks (λ b block there.
+      all_flat (IsSiteIn p f) (inst_sites f) block.insts (λ k i at.
+      all_weaker (IsOwn f i) (IsSiteIn p f) (λ site own. record {
+        block = b;
+        place = k;
+        inst = i;
+        there = at_place b k block i there at;
+        makes = own.makes;
+        value = own.value;
+        small = subst (λ n. n < 2 ^ 32) (sym own.value)
+            (all_at (λ (i : AirInst). i.value < 2 ^ 32) block.insts k i at (all_at HasSmallValuesIn p.blocks b block there small));
+        is = own.is;
+      }) (inst_sites f i) (own_sites b k i (at_place b k block i there at))))
+
+  module _ (one : HasOneSiteEach p) where
+    differ : (b c k l : ℕ) (i j : AirInst) (x y : Site) → StandsAt p b k i → StandsAt p c l j → IsOwn f i x → IsOwn f j y → ((b ≡ c) × (k ≡ l) → ⊥)
+        → Differ x y
+    differ b c k l i j x y at_i at_j own_i own_j other e = other (one b c k l i j at_i at_j own_i.makes own_j.makes (sym own_i.value ∙ e ∙ own_j.value))
+
+    both_apart : (b c k l : ℕ) (i j : AirInst) → StandsAt p b k i → StandsAt p c l j → ((b ≡ c) × (k ≡ l) → ⊥) → (x : Site) → IsOwn f i x
+        → All (Differ x) (inst_sites f j)
+    both_apart b c k l i j at_i at_j other x own =
+        all_weaker (IsOwn f j) (Differ x) (λ y own_y. differ b c k l i j x y at_i at_j own own_y other) (inst_sites f j) (own_sites c l j at_j)
+
+    pub sites_apart : AllPairs (λ (a b : Site). a.value ≢ b.value) (procedure_sites p f)
+    sites_apart =
+        pairs_flat Differ (block_sites f) p.blocks
+        (λ b block there.
+        pairs_flat Differ (inst_sites f) block.insts
+        (λ k i at. few_apart Differ (inst_sites f i) (let count = inst_counted f i in let few = one_mark i in omega arith))
+        (λ k l i j lt at_k at_l.
+        all_weaker (IsOwn f i) (λ x. All (Differ x) (inst_sites f j))
+        (both_apart b b k l i j (at_place b k block i there at_k) (at_place b l block j there at_l) (λ same. let e = same.1 in omega arith))
+        (inst_sites f i) (own_sites b k i (at_place b k block i there at_k))))
+        (λ b c block other lt at_b at_c.
+        all_flat (λ x. All (Differ x) (block_sites f other)) (inst_sites f) block.insts (λ k i at_k.
+        all_weaker (IsOwn f i) (λ x. All (Differ x) (block_sites f other))
+        (λ x own. all_flat (Differ x) (inst_sites f) other.insts
+        (λ l j at_l. both_apart b c k l i j (at_place b k block i at_b at_k) (at_place c l other j at_c at_l) (λ same. let e = same.0 in omega arith) x own))
+        (inst_sites f i) (own_sites b k i (at_place b k block i at_b at_k))))

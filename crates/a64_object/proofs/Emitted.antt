@@ -1,0 +1,120 @@
+-- What is selected of a procedure without checks is emitted.
+use Rattle.std.proofs.Common.{◌≡◌, ℕ, ◌<◌, Bool, true, false, refl, sym, ap, subst, arith, lt-ltb}
+use Rattle.std.specs.Prelude.{All}
+use Rattle.std.proofs.lemmas.List.Elements.{All-get_or}
+use Rattle.b3_ir.proofs.Numbering.{in_blocks}
+use Rattle.b3_ir.specs.Procedure.{AllFit, Block, Procedure, StandsAt as StandsIn, no_block, values_of}
+use Rattle.b3_ir.specs.declared.opcode.Opcode.TheVariants.{Patchpoint}
+use Rattle.b3_ir.specs.declared.value.Stackmap.{Stackmap}
+use Rattle.b3_ir.specs.declared.value.Value.{Value}
+use Rattle.b3_rules.specs.Rules.{HasSize}
+use Rattle.b3_rules.specs.Valid.{IsValidProcedure}
+use Rattle.air_ir.specs.Expressed.{IsOpOf}
+use Rattle.air_ir.specs.Kinds.{Kind, Calls, Checks, ChecksResult, Patches, Copies, Computes, Loads, Stores, SlotAddresses, FramePointers, Branches, Jumps, Switches, Returns, Fails, kind_of}
+use Rattle.air_ir.specs.WellFormed.{StandsAt}
+use Rattle.air_ir.specs.declared.op.AirOp.{AirOp}
+use Rattle.air_ir.specs.declared.op.AirOp.TheVariants as op
+use Rattle.air_ir.specs.declared.procedure.AirBlock.{AirBlock}
+use Rattle.air_ir.specs.declared.procedure.AirInst.{AirInst}
+use Rattle.air_ir.specs.declared.procedure.AirProc.{AirProc}
+use Rattle.air_spill.specs.Stays.{ComesFromEach}
+use Rattle.air_select.specs.Contract.{AreExpressed, IsSelected, has_stackmap, is_selected}
+use Rattle.a64_emit.specs.Built.{IsBuilt, is_built, is_built_kind}
+use Rattle.a64_object.specs.Taken.{HasNoChecks, is_check}
+use Rattle.a64_object.proofs.Lists.{all_of, one_in}
+use Rattle.a64_object.proofs.Placed.{inst_at}
+use Rattle.a64_object.proofs.Values.{has_size, named_in}
+
+-- ---- kinds
+abbrev checks : Kind → Bool
+checks (Checks test) = true
+checks (ChecksResult checked) = true
+checks _ = false
+
+kind_built : (k : Kind) (traps : Bool) → checks k ≡ false → is_built_kind k traps ≡ true
+kind_built Copies traps none = refl
+kind_built Computes traps none = refl
+kind_built (Loads extent extends) traps none = refl
+kind_built (Stores extent) traps none = refl
+kind_built (Calls typed) traps none = refl
+kind_built (Patches typed) traps none = refl
+kind_built SlotAddresses traps none = refl
+kind_built FramePointers traps none = refl
+kind_built (Branches test) traps none = refl
+kind_built Jumps traps none = refl
+kind_built (Switches cases) traps none = refl
+kind_built Returns traps none = refl
+kind_built Fails traps none = refl
+kind_built (Checks test) traps none = cc
+kind_built (ChecksResult checked) traps none = cc
+
+-- a patchpoint has words
+abbrev HasWords : AirOp → Type 0
+HasWords (op.Patch size typed) = 0 < size
+HasWords _ = Unit {0}
+
+op_built : (o : AirOp) (traps : Bool) → is_selected o ≡ true → checks (kind_of o) ≡ false → HasWords o → is_built o traps ≡ true
+op_built op.Shuffle traps is none some = absurd cc
+op_built (op.Patch size typed) traps is none some = lt-ltb 0 size some
+op_built o traps is none some = kind_built (kind_of o) traps none
+
+-- ---- no check
+check_of : (o : AirOp) (map : Stackmap) (v : Value) → IsOpOf map v o → checks (kind_of o) ≡ true → is_check v.kind.opcode ≡ true
+check_of (op.CheckIf test) map v is e = ap is_check is
+check_of op.CheckAdd map v is e = ap is_check is
+check_of op.CheckSub map v is e = ap is_check is
+check_of op.CheckMul map v is e = ap is_check is
+check_of _ map v is e = cc
+
+kind_mapped : (k : Kind) → checks k ≡ true → has_stackmap k ≡ true
+kind_mapped (Checks test) e = refl
+kind_mapped (ChecksResult checked) e = refl
+kind_mapped _ e = cc
+
+module _ (p : Procedure) (valid : IsValidProcedure p) (fit : AllFit p.blocks) (unchecked : HasNoChecks p) where
+  value_unchecked : (b j : ℕ) (v : Value) → StandsIn p b j v → is_check v.kind.opcode ≡ false
+  value_unchecked b j v there =
+      one_in (λ (w : Value). is_check w.kind.opcode ≡ false) (values_of p b) j v there
+      (All-get_or (λ (x : Block). All (λ (w : Value). is_check w.kind.opcode ≡ false) x.values) p.blocks b no_block (in_blocks p b j v there) unchecked)
+
+  none_checks : (q : AirProc) → AreExpressed p q → (block place : ℕ) (i : AirInst) → StandsAt q block place i → checks (kind_of i.op) ≡ false
+  none_checks q expressed block place i at = by (checks (kind_of i.op)) refl
+    where
+      by : (b : Bool) → checks (kind_of i.op) ≡ b → b ≡ false
+      by false e = refl
+      by true e =
+          let of = expressed block place i at (kind_mapped (kind_of i.op) e) in
+          let named = named_in p fit i.value of.0 of.1 in
+          let is : is_check of.0.kind.opcode ≡ true = check_of i.op of.2.stackmap of.0 of.2.op e in
+          let no : is_check of.0.kind.opcode ≡ false = value_unchecked named.block named.place of.0 named.there in
+          cc
+
+  -- the size of a patchpoint is its value's
+  words_of : (o : AirOp) (map : Stackmap) (v : Value) → IsOpOf map v o → (v.kind.opcode ≡ Patchpoint → HasSize map) → has_stackmap (kind_of o) ≡ true → HasWords o
+  words_of (op.Patch size typed) map v is sized e = let most = sized is.0 in omega (arith, is.1, most.0)
+  words_of _ map v is sized e = tt
+
+  inst_words : (q : AirProc) → AreExpressed p q → (block place : ℕ) (i : AirInst) → StandsAt q block place i → HasWords i.op
+  inst_words q expressed block place i at = by (has_stackmap (kind_of i.op)) refl
+    where
+      no_words : (o : AirOp) → has_stackmap (kind_of o) ≡ false → HasWords o
+      no_words (op.Patch size typed) e = cc
+      no_words _ e = tt
+
+      by : (b : Bool) → has_stackmap (kind_of i.op) ≡ b → HasWords i.op
+      by false e = no_words i.op e
+      by true e =
+          let of = expressed block place i at e in
+          let named = named_in p fit i.value of.0 of.1 in
+          words_of i.op of.2.stackmap of.0 of.2.op (has_size p valid named.block named.place of.0 named.there of.2.stackmap of.2.carries) e
+
+  pub built_of : (q r : AirProc) → AreExpressed p q → ComesFromEach q r → IsSelected q → IsBuilt r
+  built_of q r expressed comes selected =
+      all_of (λ (b : AirBlock). All (λ (i : AirInst). is_built i.op i.traps ≡ true) b.insts) r.blocks
+      (λ n block block_there. all_of (λ (i : AirInst). is_built i.op i.traps ≡ true) block.insts
+      (λ k j inst_there.
+      let from = comes n k j (record { of = block; block_there = block_there; inst_there = inst_there }) in
+      let i : AirInst = from.1 in
+      let is = inst_at (λ (x : AirInst). is_selected x.op ≡ true) q n from.0 i selected from.2 in
+      subst (λ o. is_built o j.traps ≡ true) (sym from.3.op) (op_built i.op j.traps is (none_checks q expressed n from.0 i from.2)
+      (inst_words q expressed n from.0 i from.2))))

@@ -1,0 +1,4 @@
+pub mod SiteCode
+pub mod Described
+pub mod Running
+pub mod Laws
