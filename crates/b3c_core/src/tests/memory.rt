@@ -25,6 +25,10 @@ const ARRAY: &str =
 const DOUBLED: &str =
     "procedure f\nBB#0:\n    Int64 b@0 = ArgumentReg(%x0)\n    Int64 b@1 = ArgumentReg(%x1)\n    Int64 b@2 = Const64(1)\n    Void b@3 = Upsilon(b@1, ^5)\n    Void b@4 = Jump()\n  Successors: #1\nBB#1:\n    Int64 b@5 = Phi()\n    Void b@6 = Branch(b@5)\n  Successors: Then:#2, Else:#3\nBB#2:\n    Int64 b@7 = Sub(b@5, b@2)\n    Int64 b@8 = Add(b@7, b@7)\n    Int64 b@9 = Add(b@0, b@8)\n    Int32 b@10 = Load16Z(b@9)\n    Int32 b@11 = Add(b@10, b@10)\n    Void b@12 = Store16(b@11, b@9)\n    Void b@13 = Upsilon(b@7, ^5)\n    Void b@14 = Jump()\n  Successors: #1\nBB#3:\n    Void b@15 = Return()\n";
 
+/// What stands at x0, before and after x1 is stored there.
+const TWICE: &str =
+    "procedure f\nBB#0:\n    Int64 b@0 = ArgumentReg(%x0)\n    Int64 b@1 = ArgumentReg(%x1)\n    Int64 b@2 = Load(b@0)\n    Void b@3 = Store(b@1, b@0)\n    Int64 b@4 = Load(b@0)\n    Int64 b@5 = Add(b@2, b@4)\n    Void b@6 = Return(b@5)\n";
+
 const FRAME: &str =
     "procedure f\nBB#0:\n    Int64 b@0 = FramePointer()\n    Void b@1 = Return(b@0)\n";
 
@@ -74,6 +78,11 @@ fn memory_is_loaded_from_and_stored_to(rt: HostRuntime) -> Result<(), Fail> {
             "status returned 259\nmemory 0x2000 010000000000000002000000000000000001000000000000\n",
         ),
         (ARRAY, "procedure f\nx0 8\n", "status returned 0\n"),
+        (
+            TWICE,
+            "procedure f\nx0 0x2000\nx1 9\nbytes 0x2000 0500000000000000\n",
+            "status returned 14\nmemory 0x2000 0900000000000000\n",
+        ),
         (
             DOUBLED,
             "procedure f\nx0 0x2000\nx1 3\nbytes 0x2000 0100ff7f0180ee\n",
