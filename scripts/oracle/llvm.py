@@ -89,6 +89,9 @@ class Function:
             self.put("select i1 %s, %s %s, %s %s" % (test, mine, names[1], mine, names[2]), own)
         elif opcode == "Upsilon":
             self.lines.append("  store %s %s, %s* %%p%d" % (ty, names[0], ty, v["phi"]))
+        elif opcode == "Load":
+            pointer = self.put("inttoptr i64 %s to %s*" % (names[0], mine))
+            self.put("load %s, %s* %s" % (mine, mine, pointer), own)
         elif opcode == "Phi":
             self.put("load %s, %s* %%p%d" % (mine, mine, v["id"]), own)
         elif opcode in ("Jump", "Branch", "Switch", "Return", "Oops"):
