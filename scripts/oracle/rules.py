@@ -1,4 +1,4 @@
-"""The rules of a valid module, which of them a module breaks first, and what is compiled today.
+"""The rules of a valid module, and which of them a module breaks first.
 
 A second reading of the rules, over what text.py reads. Each rule is stated where it is looked at.
 """
@@ -225,19 +225,7 @@ def first_breach(module):
     return min(found, default=None)
 
 
-# ---- what is not compiled today
-UNCOMPILED = [*CHECKS]
-# What is compiled and touches no memory, no frame, and nothing outside.
+# ---- what touches no memory, no frame, and nothing outside
 ARITHMETIC = [
-    opcode for opcode in FORMS if opcode not in ["SlotBase", "FramePointer", "CCall", "Patchpoint", *ACCESSES, *UNCOMPILED]
+    opcode for opcode in FORMS if opcode not in ["SlotBase", "FramePointer", "CCall", "Patchpoint", *ACCESSES, *CHECKS]
 ]
-
-
-def has_code(v):
-    return v["opcode"] not in UNCOMPILED
-
-
-def unbuilt(module):
-    """The first line of a value without code."""
-    lines = [v["line"] for p in module for block in p["blocks"] for v in block["values"] if not has_code(v)]
-    return min(lines, default=None)

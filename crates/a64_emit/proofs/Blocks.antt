@@ -13,7 +13,7 @@ use Rattle.air_ir.specs.Steps.{Goes, Meaning, Outcome, State, Undefined, go_on, 
 use Rattle.air_ir.specs.declared.procedure.AirBlock.{AirBlock}
 use Rattle.air_ir.specs.declared.procedure.AirInst.{AirInst}
 use Rattle.air_frame.specs.Frames.{IsFrameOf}
-use Rattle.a64_layout.specs.Layout.{place}
+use Rattle.a64_layout.specs.Layout.{place, position_of}
 use Rattle.a64_layout.specs.Machine.{Machine}
 use Rattle.a64_layout.proofs.Least.{place_mono}
 use Rattle.a64_emit.specs.Code.{inst_items, insts_items, labels_of, marks_of}
@@ -48,7 +48,7 @@ pub record BlockEnds (z : Setting) (targets : List ℕ) (insts : List AirInst) (
   pub reaches : ReachesUnlessLost z (log_of s.world) next k c
 
 module _ (z : Setting) (set : IsSet z) (serves : IsFrameOf z.procedure z.frame)
-    (targets : List ℕ) (next : ℕ) (last : AirInst) (end : ℕ) (ahead : place z.code z.long end < place z.code z.long (length z.code))
+    (placed : (k label : ℕ) → slice_get z.code k ≡ Some (Label label) → position_of z.code label ≡ k) (targets : List ℕ) (next : ℕ) (last : AirInst) (end : ℕ) (ahead : place z.code z.long end < place z.code z.long (length z.code))
     (ends_last : (s : State) (c : Machine) → IsRelated z s c → Ends z targets last s end c) where
   one_last : (s : State) (junk : List ℕ) → air.left targets (steps (meaning z.start) (last ∷ []) s junk) ≡ air.left targets (step (meaning z.start) last s junk)
   unfolding steps
@@ -101,7 +101,7 @@ module _ (z : Setting) (set : IsSet z) (serves : IsFrameOf z.procedure z.frame)
       let more : Among z.sites mark_more (flat_map (inst_sites z.frame) (body ++ last ∷ [])) =
       subst (λ n. Among z.sites (mark + n) (flat_map (inst_sites z.frame) (body ++ last ∷ []))) (inst_counted z.frame i)
       (among_rest z.sites mark (inst_sites z.frame i) (flat_map (inst_sites z.frame) (body ++ last ∷ [])) sites) in
-      elim (inner_leads z set serves next label mark targets i s k c (inner 0 i refl) (among_first z.code k items others among) own (omega arith) ranged rel)
+      elim (inner_leads z set serves placed next label mark targets i s k c (inner 0 i refl) (among_first z.code k items others among) own (omega arith) ranged rel)
       as (λ x. BlockEnds z targets (i ∷ (body ++ last ∷ [])) s k c) [
         | IsLost lost ↦ record { junk = []; next = air.Lost; is = λ junk. lost_first i (body ++ last ∷ []) s junk (lost junk); reaches = tt }
         | IsOver stops ↦ record {

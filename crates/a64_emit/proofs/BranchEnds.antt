@@ -159,7 +159,7 @@ word_summed z width (Index base index shift) scratch usable is = absurd usable
 word_summed z width (FrameSlot n) scratch usable is = absurd usable
 
 -- the operands of tests
-two_there : (cond : Cond) (width : Width) (os : List Operand) → AllFit (test_takes (Compare cond) width) os
+pub two_there : (cond : Cond) (width : Width) (os : List Operand) → AllFit (test_takes (Compare cond) width) os
     → (a : Operand) × (b : Operand) × (os ≡ a ∷ b ∷ []) × Fits (Word width NoImmediate) a × Fits (Word width OfSum) b
 unfolding AllFit
 two_there cond width [] fits = absurd fits
@@ -241,7 +241,7 @@ unfolding meaning
 branches_to start i s t rs p rest is e = rw (is, e) refl
 
 module _ (z : Setting) (set : IsSet z) (serves : IsFrameOf z.procedure z.frame) where
-  compare_readied : (s : State) (c : Machine) (cond : Cond) (a b : Operand) (x y : ℕ) → IsRelated z s c → IsUsable z a.arg → IsUsable z b.arg
+  pub compare_readied : (s : State) (c : Machine) (cond : Cond) (a b : Operand) (x y : ℕ) → IsRelated z s c → IsUsable z a.arg → IsUsable z b.arg
       → IsRegister (source_of 15 a.arg) → IsSummed a.width (source_of 16 b.arg) → word_of s.homes a.width a.arg ≡ Some x
       → word_of s.homes a.width b.arg ≡ Some y
       → Readied z s c (fetch_tested z.frame (Compare cond) (a ∷ b ∷ []) ++ compared (Compare cond) (a ∷ b ∷ [])) (Compare cond) a.width
@@ -280,7 +280,7 @@ module _ (z : Setting) (set : IsSet z) (serves : IsFrameOf z.procedure z.frame) 
       }
 
   -- a word that is fetched alone
-  one_readied : (s : State) (c : Machine) (t : Test) (a : Operand) (x : ℕ) (p : Bool) → IsRelated z s c → IsUsable z a.arg
+  pub one_readied : (s : State) (c : Machine) (t : Test) (a : Operand) (x : ℕ) (p : Bool) → IsRelated z s c → IsUsable z a.arg
       → word_of s.homes a.width a.arg ≡ Some x
       → ((m : Machine) → Gives m.registers (source_of 15 a.arg) a.width x → Goes m t a.width (reg_of (source_of 15 a.arg)) p)
       → Readied z s c ((fetch z.frame 15 a.arg ++ []) ++ []) t a.width (reg_of (source_of 15 a.arg)) p
@@ -367,7 +367,7 @@ module _ (z : Setting) (set : IsSet z) (serves : IsFrameOf z.procedure z.frame) 
 
 -- ---- the block's end
 
-branch_size : (long : Bool) (test : Test) (passes : Bool) (width : Width) (reg label : ℕ) → 1 ≤ size_in long (Some (branch_item test passes width reg label))
+pub branch_size : (long : Bool) (test : Test) (passes : Bool) (width : Width) (reg label : ℕ) → 1 ≤ size_in long (Some (branch_item test passes width reg label))
 branch_size true (Compare cond) passes width reg label = omega arith
 branch_size false (Compare cond) passes width reg label = omega arith
 branch_size true NonZero passes width reg label = omega arith

@@ -71,7 +71,7 @@ alike_goes c d test width reg passes same goes taken = holds_alike test ∙ goes
     holds_alike NonZero = ap (λ (m : Machine). test_holds (branch_test NonZero taken width reg) m) same
     holds_alike (Bit bit) = ap (λ (m : Machine). test_holds (branch_test (Bit bit) taken width reg) m) same
 
-branch_safe : (z : Setting) (c : Machine) (test : Test) (passes : Bool) (width : Width) (reg label : ℕ)
+pub branch_safe : (z : Setting) (c : Machine) (test : Test) (passes : Bool) (width : Width) (reg label : ℕ)
     → IsSafeItem z c (Some (branch_item test passes width reg label))
 branch_safe z c (Compare cond) passes width reg label = tt
 branch_safe z c NonZero passes width reg label = tt

@@ -1,4 +1,7 @@
 -- The marks of emitted code are those of its sites.
+use Rattle.b3_meaning.specs.declared.role.Checked.{Checked}
+use Rattle.b3_meaning.specs.declared.role.Checked.TheVariants.{Sum, Difference, Product}
+use Rattle.a64_checked.specs.Checks.{passing}
 use Rattle.air_ir.specs.declared.operand.Home.TheVariants.{Reg, Spill, Tmp}
 use Rattle.a64_emit.proofs.BranchEnds.{word_home}
 use Rattle.a64_emit.proofs.Labelled.{AreSmall, IsSmallArg, names_small}
@@ -35,9 +38,9 @@ use Rattle.air_ir.specs.declared.procedure.AirInst.{AirInst}
 use Rattle.air_ir.specs.declared.procedure.AirProc.{AirProc}
 use Rattle.a64_code.specs.Accesses.{access_kind, offset_access}
 use Rattle.a64_emit.specs.Built.{IsBuilt, is_built}
-use Rattle.a64_emit.specs.Code.{access_inst, arg_at, block_labels, block_marks, blocks_items, branch_item, branches, compared, emitted, fetch, fetch_address, fetch_stored, fetch_tested, inner_items, inst_code, inst_items, insts_items, labels_of, load_inst, load_items, marks_of, put_result, result_reg, source_at, store_inst, store_items, width_at, with_mark, breaks, call_inst, source_of}
+use Rattle.a64_emit.specs.Code.{access_inst, arg_at, block_labels, block_marks, blocks_items, branch_item, branches, compared, emitted, fetch, fetch_address, fetch_stored, fetch_tested, inner_items, inst_code, inst_items, insts_items, labels_of, load_inst, load_items, marks_of, put_result, result_reg, source_at, store_inst, store_items, width_at, with_mark, breaks, call_inst, source_of, guarded, fetch_checked, make_checked, test_count}
 use Rattle.a64_code.specs.Computing.{reg_of}
-use Rattle.a64_emit.specs.Made.{block_sites, inst_sites, procedure_sites, sites_by, trap_site, outward_site, patch_size}
+use Rattle.a64_emit.specs.Made.{block_sites, inst_sites, procedure_sites, sites_by, trap_site, outward_site, patch_size, exit_site}
 use Rattle.a64_code.specs.Places.{epilogue, plains, prologue}
 use Rattle.a64_emit.specs.Sites.{IsAccess, SuitsItems}
 use Rattle.a64_emit.specs.Switched.{case_items, cases_in_order, compare_word, jump_to, search_items, switch_items}
@@ -127,6 +130,24 @@ site_marked site mark front back suits =
     (marked_append mark mark (plains front) (Mark mark ∷ plains back) [] (site ∷ []) (omega arith)
     (marked_none mark (plains front) (plains_unmarked front)) (refl, suits, marked_none (suc mark) (plains back) (plains_unmarked back)))
 
+-- the mark of an exit stands right before its break
+guarded_marked : (site : Site) (mark : ℕ) (before : List Inst) (test : Test) (width : Width) (reg label : ℕ) (behind : List Inst)
+    → site.kind ≡ site_kind.Exit → Marked mark (guarded before test width reg label mark behind) (site ∷ [])
+guarded_marked site mark before test width reg label behind is =
+    marked_append mark mark (plains before) (branch_item test false width reg label ∷ Mark mark ∷ Plain (Break 1) ∷ Label label ∷ plains behind) [] (site ∷ [])
+    (omega arith) (marked_none mark (plains before) (plains_unmarked before))
+    (behind_branch test (
+      refl,
+      subst (λ kind. SuitsItems (Plain (Break 1) ∷ Label label ∷ plains behind) kind site.size 0) (sym is) refl,
+      marked_none (suc mark) (plains behind) (plains_unmarked behind),
+    ))
+  where
+    behind_branch : (test : Test) → Marked mark (Mark mark ∷ Plain (Break 1) ∷ Label label ∷ plains behind) (site ∷ [])
+        → Marked mark (branch_item test false width reg label ∷ Mark mark ∷ Plain (Break 1) ∷ Label label ∷ plains behind) (site ∷ [])
+    behind_branch (Compare cond) h = h
+    behind_branch NonZero h = h
+    behind_branch (Bit bit) h = h
+
 -- a mark right before an access is that of its trap
 access_marked : (value mark : ℕ) (traps : Bool) (front back : List Inst) (inst : Inst) → IsAccess inst
     → Marked mark (with_mark traps mark front (inst ∷ back)) (if traps then trap_site value ∷ [] else [])
@@ -196,10 +217,17 @@ module _ (f : Frame) (next label mark : ℕ) (targets : List ℕ) (i : AirInst) 
   marked_by r op.Store16 os e small has built = store_marked op.Store16 os 2 (second_address W32 2 os has.2)
   marked_by r op.Store os e small has built = let a = stored_address has.0 has.1 os has.2 in store_marked op.Store os a.0 a.1
   marked_by r op.Shuffle os e small has built = absurd cc
-  marked_by r (op.CheckIf test) os e small has built = absurd cc
-  marked_by r op.CheckAdd os e small has built = absurd cc
-  marked_by r op.CheckSub os e small has built = absurd cc
-  marked_by r op.CheckMul os e small has built = absurd cc
+  marked_by r (op.CheckIf test) os e small has built =
+      guarded_marked (exit_site f (test_count test) i) mark (fetch_tested f test os ++ compared test os) test (width_at os 0)
+      (reg_of (source_at os 0 15)) label [] refl
+  marked_by r op.CheckAdd os e small has built =
+      guarded_marked (exit_site f 2 i) mark (fetch_checked f Sum os) (Compare (passing Sum)) (width_at os 0) 0 label (make_checked f Sum os) refl
+  marked_by r op.CheckSub os e small has built =
+      guarded_marked (exit_site f 2 i) mark (fetch_checked f Difference os) (Compare (passing Difference)) (width_at os 0) 0 label
+      (make_checked f Difference os) refl
+  marked_by r op.CheckMul os e small has built =
+      guarded_marked (exit_site f 2 i) mark (fetch_checked f Product os) (Compare (passing Product)) (width_at os 0) 0 label
+      (make_checked f Product os) refl
   marked_by r (op.Call typed) os e small has built =
       site_marked (outward_site f site_kind.Call 1 typed 1 i) mark (fetch f 15 (arg_at os 0)) (call_inst os ∷ [])
       (reg_of (source_at os 0 15), home_most (arg_at os 0) (callee_there typed os has) (small 0), refl)

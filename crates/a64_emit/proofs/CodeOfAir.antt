@@ -228,7 +228,7 @@ module _ (z : Setting) (set : IsSet z) (serves : IsFrameOf z.procedure z.frame) 
   unfolding items_of end
   block_ends s d ranged rel =
       subst (λ insts. BlockEnds z block.targets insts s start d) (sym good.parts)
-      (body_ends z set serves block.targets (b + 1) good.last end words_end
+      (body_ends z set serves placed block.targets (b + 1) good.last end words_end
       (λ s c rel. terminal_ends z set serves placed good.last s block.targets (b + 1) last_label last_mark end c at_end rel)
       good.body stands.own stands.mark s start d inner (subst (λ insts. Among z.code start (items_of insts)) good.parts among_all)
       (subst (λ insts. Among z.sites stands.mark (flat_map (inst_sites z.frame) insts)) good.parts among_sites) refl ranged rel)

@@ -1,5 +1,5 @@
 -- The operands of an op are such as its code takes.
-use Rattle.std.proofs.Common.{◌≡◌, ℕ, ◌<◌, List, [], ◌∷◌, ◌++◌, get_or, refl, sym, subst}
+use Rattle.std.proofs.Common.{◌≡◌, ℕ, ◌<◌, List, [], ◌∷◌, ◌++◌, get_or, refl, sym, subst, ◌∙◌, append_assoc, true}
 use Rattle.std.specs.Prelude.{All}
 use Rattle.b3_base.specs.Word.{bits}
 use Rattle.b3_base.specs.declared.word.Width.{Width}
@@ -8,7 +8,7 @@ use Rattle.stackmap.specs.declared.site.Returns.{Returns}
 use Rattle.a64_inst.specs.StepMemory.{access_bytes}
 use Rattle.a64_inst.specs.declared.inst.AccessKind.{AccessKind}
 use Rattle.a64_inst.specs.declared.inst.AccessKind.TheVariants.{Strb, Ldrb, Ldrsb, Strh, Ldrh, Ldrsh, StrW, LdrW, StrX, LdrX}
-use Rattle.air_ir.specs.Forms.{AllFit, AreThese, BitOf, HasOperands, Immediates, IsAddress, IsWord, OfSum, OfLogic, Takes, Word, home, load, store, takes, test_takes}
+use Rattle.air_ir.specs.Forms.{AllFit, AreThese, BitOf, HasOperands, Immediates, IsAddress, IsWord, OfSum, OfLogic, Takes, Word, home, load, store, takes, test_takes, SiteOperands, Fits, OneIs, Result, listed}
 use Rattle.air_ir.specs.declared.op.AirOp.{AirOp}
 use Rattle.air_ir.specs.declared.op.AirOp.TheVariants as op
 use Rattle.air_ir.specs.declared.op.Test.{Test}
@@ -95,10 +95,42 @@ unfolding AllFit
 switch_fits width cases [] fits differ = absurd fits
 switch_fits width cases (a ∷ os) fits differ = subst (λ w. AreDifferent w cases) (sym fits.0.1) differ
 
+check_fits : (t : Test) (width : Width) (inputs rest : List Operand) → AllFit (test_takes t width) inputs
+    → IsTested t (width_at (inputs ++ rest) 0) (source_at (inputs ++ rest) 1 16)
+unfolding AllFit
+check_fits (Compare cond) width [] rest fits = absurd fits
+check_fits (Compare cond) width (a ∷ []) rest fits = absurd fits.1
+check_fits (Compare cond) width (a ∷ b ∷ os) rest fits =
+    subst (λ w. FitsSource OfSum w (source_of 16 b.arg)) (sym fits.0.1) (word_fits OfSum width b.arg 16 fits.1.0.2)
+check_fits NonZero width inputs rest fits = tt
+check_fits (Bit k) width [] rest fits = absurd fits
+check_fits (Bit k) width (a ∷ os) rest fits = subst (λ w. k < bits w) (sym fits.0.1) fits.0.3
+
+-- the parts behind the inputs
+pub grouped : (s : SiteOperands) → listed s ≡ s.inputs ++ (s.reported ++ (s.changed ++ s.results))
+grouped s = append_assoc (s.inputs ++ s.reported) s.changed s.results ∙ append_assoc s.inputs s.reported (s.changed ++ s.results)
+
+-- the inputs and the result of arithmetic that is checked
+pub two_there : (os : List Operand) (width : Width) → AllFit (home width ∷ home width ∷ []) os
+    → (a : Operand) × (b : Operand) × (os ≡ a ∷ b ∷ []) × Fits (home width) a × Fits (home width) b
+unfolding AllFit
+two_there [] width fits = absurd fits
+two_there (a ∷ []) width fits = absurd fits.1
+two_there (a ∷ b ∷ []) width fits = (a, b, refl, fits.0, fits.1.0)
+two_there (a ∷ b ∷ o ∷ os) width fits = absurd fits.1.1
+
+pub one_result : (os : List Operand) (width : Width) → OneIs true (Fits (Result width)) os → (o : Operand) × (os ≡ o ∷ []) × Fits (Result width) o
+one_result [] width is = absurd is
+one_result (o ∷ []) width is = (o, refl, is)
+one_result (o ∷ p ∷ os) width is = absurd is
+
 pub fitting : (r : Returns) (o : AirOp) (os : List Operand) → HasOperands r o os → IsFitting o os
 fitting r (op.SetIf t) os has = test_fits t has.0 _ os has.2
 fitting r (op.SelectIf t) os has = test_fits t has.0 _ os has.2
 fitting r (op.BranchIf t) os has = branch_fits t has.0 os has.2
+fitting r (op.CheckIf t) os has =
+    subst (λ (xs : List Operand). IsTested t (width_at xs 0) (source_at xs 1 16)) (sym (has.1 ∙ grouped has.0))
+    (check_fits t has.2.width has.0.inputs (has.0.reported ++ (has.0.changed ++ has.0.results)) has.2.fits)
 fitting r op.Add os has = second_fits OfSum has.0 _ os has.2
 fitting r op.And os has = second_fits OfLogic has.0 _ os has.2
 fitting r op.Or os has = second_fits OfLogic has.0 _ os has.2

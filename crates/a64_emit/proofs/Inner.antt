@@ -207,6 +207,10 @@ module _ (f : Frame) (next label mark : ℕ) (targets : List ℕ) (traps : Bool)
   straight_items op.Store16 is = absurd cc
   straight_items op.Store is = absurd cc
   straight_items (op.Call typed) is = absurd cc
+  straight_items (op.CheckIf test) is = absurd cc
+  straight_items op.CheckAdd is = absurd cc
+  straight_items op.CheckSub is = absurd cc
+  straight_items op.CheckMul is = absurd cc
   straight_items (op.Patch size typed) is = absurd cc
   straight_items o is = refl
 

@@ -1,12 +1,18 @@
 -- Each instruction that doesn't end its block.
+use Rattle.a64_emit.proofs.ChecksRun.{check_leads, checked_leads}
+use Rattle.air_ir.specs.declared.op.Test.{Test}
+use Rattle.b3_meaning.specs.declared.role.Checked.TheVariants.{Sum, Difference, Product}
+use Rattle.b3_meaning.specs.declared.role.Checked.{Checked}
+use Rattle.a64_emit.proofs.SitesMade.{check_op, result_site}
+use Rattle.a64_inst.specs.declared.item.Item.TheVariants.{Label}
 use Rattle.std.proofs.lemmas.Bool.Decides.{nat_tests}
 use Rattle.stackmap.specs.declared.site.SiteKind.TheVariants as site_kind
 use Rattle.stackmap.specs.declared.site.Returns.{Returns}
 use Rattle.a64_emit.proofs.Outward.{Owns}
 use Rattle.a64_emit.proofs.OutwardLeads.{call_leads, patch_leads}
 use Rattle.a64_emit.proofs.Inner.{InstLeads, access_leads, runs_leads, straight_items, items_of_load, items_of_store, code_of_load, code_of_store, load_site, store_site, first_site}
-use Rattle.std.proofs.Common.{◌≡◌, ℕ, ◌+◌, ◌<◌, Bool, true, List, [], ◌∷◌, None, length, refl, sym, ap, ◌∙◌, subst, arith}
-use Rattle.std.specs.Prelude.{All, nat_lt}
+use Rattle.std.proofs.Common.{◌≡◌, ℕ, ◌+◌, ◌<◌, Bool, true, List, [], ◌∷◌, None, length, refl, sym, ap, ◌∙◌, subst, arith, Some}
+use Rattle.std.specs.Prelude.{All, nat_lt, slice_get}
 use Rattle.b3_base.specs.Ranged.{IsRangedAnswer}
 use Rattle.a64_inst.specs.declared.item.Item.{Item}
 use Rattle.air_ir.specs.Forms.{HasOperands, HasSite, OfCall}
@@ -18,11 +24,11 @@ use Rattle.air_ir.specs.declared.op.AirOp.TheVariants as op
 use Rattle.air_ir.specs.declared.operand.Operand.{Operand}
 use Rattle.air_ir.specs.declared.procedure.AirInst.{AirInst}
 use Rattle.air_frame.specs.Frames.{IsFrameOf}
-use Rattle.a64_layout.specs.Layout.{place}
+use Rattle.a64_layout.specs.Layout.{place, position_of}
 use Rattle.a64_layout.specs.Machine.{Machine}
 use Rattle.a64_emit.specs.Built.{is_built}
-use Rattle.a64_emit.specs.Code.{arg_at, fetch_address, fetch_stored, inner_items, inst_code, inst_items, load_inst, put_result, result_reg, store_inst, with_mark, breaks, call_inst, fetch}
-use Rattle.a64_emit.specs.Made.{inst_sites, sites_by, trap_site, outward_site, patch_size}
+use Rattle.a64_emit.specs.Code.{arg_at, fetch_address, fetch_stored, inner_items, inst_code, inst_items, load_inst, put_result, result_reg, store_inst, with_mark, breaks, call_inst, fetch, check_items, checked_items, test_count}
+use Rattle.a64_emit.specs.Made.{inst_sites, sites_by, trap_site, outward_site, patch_size, exit_site}
 use Rattle.a64_code.specs.Places.{plains}
 use Rattle.a64_emit.specs.Related.{IsRelated}
 use Rattle.a64_emit.specs.Setting.{IsSet, Setting}
@@ -46,6 +52,8 @@ pub data Shape (o : AirOp) : Type 0 where
   IsAStore : (is : is_store_op o ≡ true) → Shape o
   IsACall : (typed : Bool) (is : o ≡ op.Call typed) → Shape o
   IsAPatch : (size : ℕ) (typed : Bool) (is : o ≡ op.Patch size typed) (some : 0 < size) → Shape o
+  IsACheck : (t : Test) (is : o ≡ op.CheckIf t) → Shape o
+  IsAChecked : (checked : Checked) (is : o ≡ check_op checked) → Shape o
   IsStraight : (is : is_straight o ≡ true) → Shape o
 
 -- the kinds of ops that may stand before the last one
@@ -60,10 +68,10 @@ shape_of op.Store8 traps built inner = IsAStore refl
 shape_of op.Store16 traps built inner = IsAStore refl
 shape_of op.Store traps built inner = IsAStore refl
 shape_of op.Shuffle traps built inner = absurd cc
-shape_of (op.CheckIf test) traps built inner = absurd cc
-shape_of op.CheckAdd traps built inner = absurd cc
-shape_of op.CheckSub traps built inner = absurd cc
-shape_of op.CheckMul traps built inner = absurd cc
+shape_of (op.CheckIf test) traps built inner = IsACheck test refl
+shape_of op.CheckAdd traps built inner = IsAChecked Sum refl
+shape_of op.CheckSub traps built inner = IsAChecked Difference refl
+shape_of op.CheckMul traps built inner = IsAChecked Product refl
 shape_of (op.Call typed) traps built inner = IsACall typed refl
 shape_of (op.Patch size typed) traps built inner = IsAPatch size typed refl (lt_of 0 size built)
 shape_of (op.BranchIf test) traps built inner = absurd cc
@@ -83,6 +91,31 @@ items_of_patch : (f : Frame) (next label mark : ℕ) (targets : List ℕ) (traps
 unfolding inst_items inner_items
 items_of_patch f next label mark targets traps os o size typed is = ap (λ o. inst_items f next label mark targets traps o os) is
 
+items_of_check : (f : Frame) (next label mark : ℕ) (targets : List ℕ) (traps : Bool) (os : List Operand) (o : AirOp) (t : Test) → o ≡ op.CheckIf t
+    → inst_items f next label mark targets traps o os ≡ check_items f label mark t os
+unfolding inst_items
+items_of_check f next label mark targets traps os o t is = ap (λ o. inst_items f next label mark targets traps o os) is
+
+checked_op_items : (f : Frame) (next label mark : ℕ) (targets : List ℕ) (traps : Bool) (os : List Operand) (checked : Checked)
+    → inst_items f next label mark targets traps (check_op checked) os ≡ checked_items f label mark checked os
+unfolding inst_items
+checked_op_items f next label mark targets traps os Sum = refl
+checked_op_items f next label mark targets traps os Difference = refl
+checked_op_items f next label mark targets traps os Product = refl
+
+items_of_checked : (f : Frame) (next label mark : ℕ) (targets : List ℕ) (traps : Bool) (os : List Operand) (o : AirOp) (checked : Checked)
+    → o ≡ check_op checked → inst_items f next label mark targets traps o os ≡ checked_items f label mark checked os
+items_of_checked f next label mark targets traps os o checked is =
+    ap (λ o. inst_items f next label mark targets traps o os) is ∙ checked_op_items f next label mark targets traps os checked
+
+check_operands : (r : Returns) (o : AirOp) (os : List Operand) (t : Test) → o ≡ op.CheckIf t → HasOperands r o os → HasSite (op.CheckIf t) os
+check_operands r o os t is has = subst (λ x. HasOperands r x os) is has
+
+checked_sites : (f : Frame) (i : AirInst) (checked : Checked) → sites_by (kind_of (check_op checked)) f i ≡ exit_site f 2 i ∷ []
+checked_sites f i Sum = refl
+checked_sites f i Difference = refl
+checked_sites f i Product = refl
+
 call_operands : (r : Returns) (o : AirOp) (os : List Operand) (typed : Bool) → o ≡ op.Call typed → HasOperands r o os → OfCall typed os
 call_operands r o os typed is has = subst (λ x. HasOperands r x os) is has
 
@@ -90,7 +123,8 @@ patch_operands : (r : Returns) (o : AirOp) (os : List Operand) (size : ℕ) (typ
     → HasSite (op.Patch size typed) os
 patch_operands r o os size typed is has = subst (λ x. HasOperands r x os) is has
 
-module _ (z : Setting) (set : IsSet z) (serves : IsFrameOf z.procedure z.frame) (next label mark : ℕ) (targets : List ℕ) (i : AirInst) (s : State) (k : ℕ)
+module _ (z : Setting) (set : IsSet z) (serves : IsFrameOf z.procedure z.frame)
+    (placed : (k label : ℕ) → slice_get z.code k ≡ Some (Label label) → position_of z.code label ≡ k) (next label mark : ℕ) (targets : List ℕ) (i : AirInst) (s : State) (k : ℕ)
     (c : Machine) where
   pub inner_leads : IsInner z i → Among z.code k (inst_items z.frame next label mark targets i.traps i.op i.operands)
       → Among z.sites mark (inst_sites z.frame i)
@@ -131,6 +165,22 @@ module _ (z : Setting) (set : IsSet z) (serves : IsFrameOf z.procedure z.frame) 
             (first_site z.sites mark (inst_sites z.frame i) (outward_site z.frame site_kind.Patchpoint size typed 0 i) sites
             (ap (λ o. sites_by (kind_of o) z.frame i) is
             ∙ ap (λ o. outward_site z.frame site_kind.Patchpoint (patch_size o) typed 0 i ∷ []) is))
+            (subst Room same room) ranged rel)
+        | IsACheck t is ↦
+            let same = items_of_check z.frame next label mark targets i.traps i.operands i.op t is in
+            subst Leads (sym same)
+            (check_leads z set serves placed i s k c t is (check_operands z.procedure.returns i.op i.operands t is mine.operands) mine.owns mine.opened label
+            mark (subst (Among z.code k) same among)
+            (first_site z.sites mark (inst_sites z.frame i) (exit_site z.frame (test_count t) i) sites (ap (λ o. sites_by (kind_of o) z.frame i) is)) ranged
+            rel)
+        | IsAChecked checked is ↦
+            let same = items_of_checked z.frame next label mark targets i.traps i.operands i.op checked is in
+            subst Leads (sym same)
+            (checked_leads z set serves placed i s k c checked is
+            (result_site z.procedure.returns checked i.operands (subst (λ o. HasOperands z.procedure.returns o i.operands) is mine.operands)) mine.owns
+            mine.opened label mark (subst (Among z.code k) same among)
+            (first_site z.sites mark (inst_sites z.frame i) (exit_site z.frame 2 i) sites
+            (ap (λ o. sites_by (kind_of o) z.frame i) is ∙ checked_sites z.frame i checked))
             (subst Room same room) ranged rel)
         | IsStraight is ↦
             let same = straight_items z.frame next label mark targets i.traps i.operands i.op is in

@@ -1,4 +1,7 @@
 -- How often labels stand in emitted code.
+use Rattle.air_ir.specs.declared.op.Test.{Test}
+use Rattle.a64_inst.specs.declared.inst.Inst.TheVariants.{Break}
+use Rattle.a64_inst.specs.declared.inst.Inst.{Inst}
 use Rattle.std.proofs.Common.{◌≡◌, ℕ, zero, suc, ◌+◌, ◌<◌, ◌≤◌, ⊎_elim, Bool, true, false, not, cond, List, [], ◌∷◌, ◌++◌, Some, length, get_or, refl, sym, ap, ◌∙◌, subst, arith, eq-eqb}
 use Rattle.std.specs.Prelude.{nat_lt, slice_get, ◌==◌}
 use Rattle.std.specs.List.{count_by, position_or_len, sum_by}
@@ -18,13 +21,13 @@ use Rattle.air_ir.specs.declared.procedure.AirProc.{AirProc}
 use Rattle.a64_layout.specs.Layout.{is_label, position_of}
 use Rattle.a64_layout.specs.Text.{is_any_label, label_count}
 use Rattle.a64_layout.proofs.Labels.{label_stands}
-use Rattle.a64_emit.specs.Code.{arg_at, block_labels, block_marks, blocks_items, emitted, fetch, inst_items, insts_items, labels_of, marks_of, own_labels, source_at, width_at}
+use Rattle.a64_emit.specs.Code.{arg_at, block_labels, block_marks, blocks_items, emitted, fetch, inst_items, insts_items, labels_of, marks_of, own_labels, source_at, width_at, guarded, branch_item}
 use Rattle.a64_code.specs.Computing.{reg_of}
 use Rattle.a64_code.specs.Places.{plains, prologue}
 use Rattle.a64_emit.specs.Switched.{case_items, cases_in_order, compare_word, jump_to, search_items, switch_items, switch_labels}
 use Rattle.a64_emit.specs.Trees.{Leaf, Node, Tree, node_count, tree}
 use Rattle.a64_emit.specs.declared.case.Case.{Case}
-use Rattle.a64_emit.proofs.Positions.{IsUnlabelled, inst_shape, leaf_unlabelled, plains_unlabelled}
+use Rattle.a64_emit.proofs.Positions.{InstShape, IsUnlabelled, guard_unlabelled, inst_shape, leaf_unlabelled, plains_unlabelled, HasNone, IsASwitch, IsGuarded}
 use Rattle.a64_emit.proofs.Sorting.{search_labels}
 use Rattle.a64_emit.proofs.Trees.{Each, each_weaker}
 
@@ -146,25 +149,55 @@ unlabelled_times label own n items each none =
     let same = ap (λ m. below m label) e in
     omega arith
 
+-- the label of a check is its own
+guarded_times : (label : ℕ) (before : List Inst) (test : Test) (width : Width) (reg own mark : ℕ) (behind : List Inst)
+    → label_times label (guarded before test width reg own mark behind) + below own label ≡ below (own + 1) label
+guarded_times label before test width reg own mark behind =
+    let guard : List Item = branch_item test false width reg own ∷ Mark mark ∷ Plain (Break 1) ∷ [] in
+    let first = none_times label (plains before) (plains_unlabelled before) in
+    let second = none_times label guard (guard_unlabelled test width reg own mark) in
+    let last = none_times label (plains behind) (plains_unlabelled behind) in
+    let parts = both_times (is_label label) (plains before) (guard ++ Label own ∷ plains behind) in
+    let rest = both_times (is_label label) guard (Label own ∷ plains behind) in
+    let here = more_times (is_label label) (Label own) (plains behind) in
+    let one = label_one own label in
+    omega arith
+
+guarded_count : (before : List Inst) (test : Test) (width : Width) (reg own mark : ℕ) (behind : List Inst)
+    → label_count (guarded before test width reg own mark behind) ≡ 1
+guarded_count before test width reg own mark behind =
+    let guard : List Item = branch_item test false width reg own ∷ Mark mark ∷ Plain (Break 1) ∷ [] in
+    let first = count_none is_any_label (plains before) (plains_unlabelled before) in
+    let second = count_none is_any_label guard (guard_unlabelled test width reg own mark) in
+    let last = count_none is_any_label (plains behind) (plains_unlabelled behind) in
+    let parts = both_times is_any_label (plains before) (guard ++ Label own ∷ plains behind) in
+    let rest = both_times is_any_label guard (Label own ∷ plains behind) in
+    let here = more_times is_any_label (Label own) (plains behind) in
+    omega arith
+
 inst_times : (label : ℕ) (f : Frame) (next own mark : ℕ) (targets : List ℕ) (traps : Bool) (o : AirOp) (os : List Operand)
     → label_times label (inst_items f next own mark targets traps o os) + below own label ≡ below (own + own_labels o) label
 inst_times label f next own mark targets traps o os =
-    ⊎_elim
-    (λ (none : Each IsUnlabelled (inst_items f next own mark targets traps o os) × (own_labels o ≡ 0)).
-    unlabelled_times label own (own_labels o) (inst_items f next own mark targets traps o os) none.0 none.1)
-    (λ (is : (cases : List ℕ) × (o ≡ op.Switch cases)).
-    subst (λ o. label_times label (inst_items f next own mark targets traps o os) + below own label ≡ below (own + own_labels o) label) (sym is.1)
-    (switch_times label f next own mark targets is.0 traps os))
-    (inst_shape f next own mark targets traps o os)
+    elim (inst_shape f next own mark targets traps o os)
+    as (λ x. label_times label (inst_items f next own mark targets traps o os) + below own label ≡ below (own + own_labels o) label) [
+      | HasNone each none ↦ unlabelled_times label own (own_labels o) (inst_items f next own mark targets traps o os) each none
+      | IsASwitch cases is ↦
+          subst (λ o. label_times label (inst_items f next own mark targets traps o os) + below own label ≡ below (own + own_labels o) label) (sym is)
+          (switch_times label f next own mark targets cases traps os)
+      | IsGuarded before test width reg behind is one ↦
+          ap (λ (xs : List Item). label_times label xs + below own label) is ∙ guarded_times label before test width reg own mark behind
+          ∙ ap (λ n. below (own + n) label) (sym one)
+    ]
 
 inst_count : (f : Frame) (next own mark : ℕ) (targets : List ℕ) (traps : Bool) (o : AirOp) (os : List Operand) → label_count (inst_items f next own mark targets traps o os) ≡ own_labels o
 inst_count f next own mark targets traps o os =
-    ⊎_elim
-    (λ (none : Each IsUnlabelled (inst_items f next own mark targets traps o os) × (own_labels o ≡ 0)).
-    count_none is_any_label (inst_items f next own mark targets traps o os) none.0 ∙ sym none.1)
-    (λ (is : (cases : List ℕ) × (o ≡ op.Switch cases)).
-    subst (λ o. label_count (inst_items f next own mark targets traps o os) ≡ own_labels o) (sym is.1) (switch_count f next own mark targets is.0 traps os))
-    (inst_shape f next own mark targets traps o os)
+    elim (inst_shape f next own mark targets traps o os) as (λ x. label_count (inst_items f next own mark targets traps o os) ≡ own_labels o) [
+      | HasNone each none ↦ count_none is_any_label (inst_items f next own mark targets traps o os) each ∙ sym none
+      | IsASwitch cases is ↦
+          subst (λ o. label_count (inst_items f next own mark targets traps o os) ≡ own_labels o) (sym is)
+          (switch_count f next own mark targets cases traps os)
+      | IsGuarded before test width reg behind is one ↦ ap label_count is ∙ guarded_count before test width reg own mark behind ∙ sym one
+    ]
 
 -- the labels of the instructions of a block are their own ones
 insts_times : (label : ℕ) (f : Frame) (next own mark : ℕ) (targets : List ℕ) (insts : List AirInst)

@@ -6,6 +6,9 @@ use Rattle.std.proofs.lemmas.Bool.Decides.{nat_tests}
 use Rattle.std.proofs.lemmas.Int.{ints}
 use Rattle.std.proofs.lemmas.List.Elements.{All-head, All-tail}
 use Rattle.std.proofs.lemmas.List.Sums.{sum_by-cons}
+use Rattle.b3_meaning.specs.declared.role.Checked.{Checked}
+use Rattle.b3_meaning.specs.declared.role.Checked.TheVariants.{Sum, Difference, Product}
+use Rattle.a64_checked.specs.Checks.{comparing, making, passing}
 use Rattle.air_ir.specs.Meaning.{case_number}
 use Rattle.a64_inst.specs.declared.inst.Cond.TheVariants.{Eq, Hi}
 use Rattle.b3_base.specs.Word.{bits}
@@ -37,7 +40,7 @@ use Rattle.air_ir.specs.declared.procedure.AirBlock.{AirBlock}
 use Rattle.air_ir.specs.declared.procedure.AirInst.{AirInst}
 use Rattle.air_ir.specs.declared.procedure.AirProc.{AirProc}
 use Rattle.a64_code.specs.Accesses.{access_kind, below_x29, upper}
-use Rattle.a64_emit.specs.Code.{arg_at, block_labels, block_marks, blocks_items, branch_item, branches, compared, compute_code, copy_reg, bring, emitted, fetch, fetch_address, fetch_below, fetch_stored, fetch_tested, frame_address, inner_items, inst_code, inst_items, insts_items, labels_of, load_code, load_inst, load_items, marks_of, own_labels, put_result, result_at, result_reg, slot_offset, source_at, source_of, store_code, store_inst, store_items, test_at, test_count, width_at, with_mark, breaks, call_inst}
+use Rattle.a64_emit.specs.Code.{arg_at, block_labels, block_marks, blocks_items, branch_item, branches, compared, compute_code, copy_reg, bring, emitted, fetch, fetch_address, fetch_below, fetch_stored, fetch_tested, frame_address, inner_items, inst_code, inst_items, insts_items, labels_of, load_code, load_inst, load_items, marks_of, own_labels, put_result, result_at, result_reg, slot_offset, source_at, source_of, store_code, store_inst, store_items, test_at, test_count, width_at, with_mark, breaks, call_inst, guarded, fetch_checked, make_checked, checked_items}
 use Rattle.a64_code.specs.Computing.{computing, move_reg, reg_of, sum_with, is_sum_word}
 use Rattle.a64_code.specs.Constants.{constant, filling, half_count, half_move, half_moves, half_word, is_inverted}
 use Rattle.a64_code.specs.Fitting.{IsComputed, IsTested}
@@ -47,7 +50,7 @@ use Rattle.a64_emit.specs.Switched.{case_items, case_of, cases_in_order, compare
 use Rattle.a64_emit.specs.Trees.{Leaf, Node, Tree, node_count, tree}
 use Rattle.a64_emit.specs.declared.case.Case.{Case}
 use Rattle.a64_code.specs.declared.source.Source.{Source}
-use Rattle.a64_code.specs.declared.source.Source.TheVariants.{Constant}
+use Rattle.a64_code.specs.declared.source.Source.TheVariants.{Constant, InReg}
 use Rattle.a64_emit.proofs.AccessesWell.{HasSmallHomes, IsSmallHome, access_well}
 use Rattle.a64_emit.proofs.LabelCounts.{all_labels}
 use Rattle.a64_emit.proofs.Sorting.{each_map, search_labels, sorted_small}
@@ -126,6 +129,29 @@ moves_well width inverted reg word started (suc n) hw le count =
 constant_well : (width : Width) (reg word : ℕ) → reg ≤ 31 → AllWell (constant width reg word)
 unfolding constant
 constant_well width reg word le = moves_well width (is_inverted width word) reg word false (half_count width) 0 le (omega arith)
+
+bits_pos : (width : Width) → 0 < bits width
+bits_pos W32 = omega arith
+bits_pos W64 = omega arith
+
+comparing_well : (kind : Checked) (width : Width) (a b : ℕ) → a ≤ 31 → b ≤ 31 → AllWell (comparing kind width a b)
+unfolding comparing
+comparing_well Sum width a b le_a le_b = ((omega arith, le_a, le_b, omega arith, bits_pos width), tt)
+comparing_well Difference width a b le_a le_b = ((omega arith, le_a, le_b, omega arith, bits_pos width), tt)
+comparing_well Product W32 a b le_a le_b = (
+  (omega arith, le_a, le_b, omega arith),
+  ((omega arith, omega arith, omega arith, omega arith), ((omega arith, omega arith, omega arith, omega arith, omega arith), tt)),
+)
+comparing_well Product W64 a b le_a le_b = (
+  (omega arith, le_a, le_b),
+  ((omega arith, le_a, le_b, omega arith), ((omega arith, omega arith, omega arith, omega arith, omega arith), tt)),
+)
+
+making_well : (kind : Checked) (width : Width) (rd a b : ℕ) → rd ≤ 31 → a ≤ 31 → b ≤ 31 → AllWell (making kind width rd a b)
+unfolding making
+making_well Sum width rd a b le le_a le_b = ((le, le_a, le_b, omega arith, bits_pos width), tt)
+making_well Difference width rd a b le le_a le_b = ((le, le_a, le_b, omega arith, bits_pos width), tt)
+making_well Product width rd a b le le_a le_b = ((le, omega arith, omega arith, omega arith, bits_pos width), tt)
 
 breaks_well : (n : ℕ) → AllWell (breaks n)
 unfolding breaks
@@ -320,6 +346,7 @@ module _ (f : Frame) (limit : f.bytes < 2 ^ 21) where
   code_well op.Store os small fits = store_code_well op.Store os small fits
   code_well op.SlotAddress os small fits = frame_address_well (slot_offset f (arg_at os 0)) (arg_at os 1) (small 1)
   code_well op.FramePointer os small fits = frame_address_well 0 (arg_at os 0) (small 0)
+  code_well (op.CheckIf t) os small fits = compute_well (op.CheckIf t) os small tt
   code_well (op.BranchIf t) os small fits = compute_well (op.BranchIf t) os small tt
   code_well (op.Switch cases) os small fits = compute_well (op.Switch cases) os small tt
   code_well o os small fits = compute_well o os small fits
@@ -508,6 +535,26 @@ module _ (f : Frame) (limit : f.bytes < 2 ^ 21) (goods : All (IsGoodSaved f.byte
   inner_fair mark traps (op.Patch size typed) os small fits = with_mark_fair true mark [] (breaks size) tt (breaks_well size)
   inner_fair mark traps o os small fits = plains_fair n (inst_code f o os) (code_well f limit o os small fits)
 
+  guarded_fair : (before : List Inst) (t : Test) (width : Width) (b : Source) (reg label mark : ℕ) (behind : List Inst) → AllWell before → AllWell behind
+      → IsTested t width b → reg ≤ 31 → label + 1 ≤ n → Each (IsFair n) (guarded before t width reg label mark behind)
+  guarded_fair before t width b reg label mark behind first rest fits le most =
+      each_append (IsFair n) (plains before) _ (plains_fair n before first)
+      (branch_fair n t false width b reg label fits le (omega arith), (tt, (omega arith, (omega arith, plains_fair n behind rest))))
+
+  checked_fair : (label mark : ℕ) (kind : Checked) (os : List Operand) → AreSmall os → label + 1 ≤ n → Each (IsFair n) (checked_items f label mark kind os)
+  checked_fair label mark kind os small most =
+      let a : ℕ = reg_of (source_at os 0 15) in
+      let b : ℕ = reg_of (source_at os 1 16) in
+      let rd : ℕ = result_reg (result_at os) in
+      let le_a = source_small 15 (arg_at os 0) (omega arith) (small 0) in
+      let le_b = source_small 16 (arg_at os 1) (omega arith) (small 1) in
+      let le_rd = result_small (result_at os) (small (length os - 1)) in
+      guarded_fair (fetch_checked f kind os) (Compare (passing kind)) (width_at os 0) (InReg 0) 0 label mark (make_checked f kind os)
+      (well_append (fetch f 15 (arg_at os 0)) _ (fetch_well f limit 15 (arg_at os 0) (omega arith))
+      (well_append (fetch f 16 (arg_at os 1)) _ (fetch_well f limit 16 (arg_at os 1) (omega arith)) (comparing_well kind (width_at os 0) a b le_a le_b)))
+      (well_append (making kind (width_at os 0) rd a b) _ (making_well kind (width_at os 0) rd a b le_rd le_a le_b) (put_well f limit rd (result_at os) le_rd))
+      tt (omega arith) most
+
   pub inst_fair : (next label mark : ℕ) (targets : List ℕ) (traps : Bool) (o : AirOp) (os : List Operand) → IsFairInst n label targets o os
       → Each (IsFair n) (inst_items f next label mark targets traps o os)
   unfolding inst_items
@@ -532,6 +579,13 @@ module _ (f : Frame) (limit : f.bytes < 2 ^ 21) (goods : All (IsGoodSaved f.byte
       (omega (arith, h.most)))
   inst_fair next label mark targets traps op.Return os h = plains_fair n (epilogue f) (epilogue_well f limit goods)
   inst_fair next label mark targets traps op.Oops os h = (omega arith, tt)
+  inst_fair next label mark targets traps (op.CheckIf t) os h =
+      guarded_fair (fetch_tested f t os ++ compared t os) t (width_at os 0) (source_at os 1 16) (reg_of (source_at os 0 15)) label mark []
+      (well_append (fetch_tested f t os) (compared t os) (tested_well f limit t os) (compared_well f limit t os h.small h.fits)) tt h.fits
+      (source_small 15 (arg_at os 0) (omega arith) (h.small 0)) h.most
+  inst_fair next label mark targets traps op.CheckAdd os h = checked_fair label mark Sum os h.small h.most
+  inst_fair next label mark targets traps op.CheckSub os h = checked_fair label mark Difference os h.small h.most
+  inst_fair next label mark targets traps op.CheckMul os h = checked_fair label mark Product os h.small h.most
   inst_fair next label mark targets traps o os h = inner_fair mark traps o os h.small h.fits
 
 -- ---- the procedure

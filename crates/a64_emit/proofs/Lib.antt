@@ -45,6 +45,9 @@ pub mod AccessesWell
 pub mod Labelled
 pub mod SitesMade
 pub mod SitesOutward
+pub mod CheckParts
+pub mod ChecksLead
+pub mod ChecksRun
 pub mod CodeMarked
 pub mod WellLabelled
 pub mod SwitchPushing

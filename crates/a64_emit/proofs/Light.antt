@@ -1,6 +1,11 @@
 -- Emitted code is no longer than its procedure weighs.
+use Rattle.a64_code.specs.Computing.{reg_of}
+use Rattle.a64_emit.proofs.Fits.{grouped, two_there, one_result}
+use Rattle.b3_meaning.specs.declared.role.Checked.{Checked}
+use Rattle.b3_meaning.specs.declared.role.Checked.TheVariants.{Sum, Difference, Product}
+use Rattle.a64_checked.specs.Checks.{passing}
 use Rattle.air_ir.specs.declared.operand.Role.TheVariants.{Clobber, Def}
-use Rattle.std.proofs.Common.{◌≡◌, ℕ, ◌+◌, ◌^◌, ◌<◌, ◌≤◌, Bool, true, false, List, [], ◌∷◌, ◌++◌, length, get_or, refl, ap, ◌∙◌, arith, length-append, zero, suc, sym, subst, map, drop}
+use Rattle.std.proofs.Common.{◌≡◌, ℕ, ◌+◌, ◌^◌, ◌<◌, ◌≤◌, Bool, true, false, List, [], ◌∷◌, ◌++◌, length, get_or, refl, ap, ◌∙◌, arith, length-append, zero, suc, sym, subst, map, drop, append_assoc}
 use Rattle.std.specs.Prelude.{All, if◌then◌else◌}
 use Rattle.std.specs.List.{sum_by}
 use Rattle.std.proofs.lemmas.List.{length-map}
@@ -13,7 +18,7 @@ use Rattle.stackmap.specs.declared.site.SavedRow.{SavedRow}
 use Rattle.a64_inst.specs.declared.inst.Inst.{Inst}
 use Rattle.a64_inst.specs.declared.item.Item.{Item}
 use Rattle.a64_inst.specs.declared.item.Item.TheVariants.{Label}
-use Rattle.air_ir.specs.Forms.{AllFit, AreThese, HasOperands, Takes, home, takes, test_takes, arguments_from, call_clobbers, operand_in, spills_changed}
+use Rattle.air_ir.specs.Forms.{AllFit, AreThese, HasOperands, Takes, home, takes, test_takes, arguments_from, call_clobbers, operand_in, spills_changed, HasSite, SiteOperands, AtSite, Fits, Result, listed, two_homes}
 use Rattle.air_ir.specs.Kinds.{kind_of}
 use Rattle.air_ir.specs.Weight.{inst_weight, op_words, words_by, weight}
 use Rattle.air_ir.specs.WellFormed.{IsGoodBlock, IsGoodInst, IsWellFormed}
@@ -31,7 +36,7 @@ use Rattle.air_frame.specs.Needs.{callee_saved, writes}
 use Rattle.a64_layout.specs.Branch.{size_of}
 use Rattle.a64_layout.specs.Layout.{most_words}
 use Rattle.a64_emit.specs.Built.{IsBuilt, is_built}
-use Rattle.a64_emit.specs.Code.{arg_at, block_labels, block_marks, blocks_items, compute_code, copy_code, emitted, fetch_address, fetch_stored, frame_address, has_mark, inner_items, inst_code, inst_items, insts_items, labels_of, load_inst, load_items, marked_if, marks_of, own_labels, put_result, result_reg, select_code, set_code, slot_offset, store_inst, store_items, test_count, width_at, with_mark, breaks, call_inst, fetch}
+use Rattle.a64_emit.specs.Code.{arg_at, block_labels, block_marks, blocks_items, compute_code, copy_code, emitted, fetch_address, fetch_stored, frame_address, has_mark, inner_items, inst_code, inst_items, insts_items, labels_of, load_inst, load_items, marked_if, marks_of, own_labels, put_result, result_reg, select_code, set_code, slot_offset, store_inst, store_items, test_count, width_at, with_mark, breaks, call_inst, fetch, check_items, checked_items, fetch_tested, compared, source_at}
 use Rattle.a64_emit.specs.Fitting.{AreFitting}
 use Rattle.a64_code.specs.Places.{epilogue, plains, prologue}
 use Rattle.a64_emit.proofs.AccessesLight.{load_code_most, pointer_most, slot_most, store_code_most}
@@ -39,11 +44,11 @@ use Rattle.a64_emit.specs.Switched.{switch_labels}
 use Rattle.a64_emit.specs.Trees.{tree}
 use Rattle.a64_emit.proofs.Sizes.{compute_most, most_is, operand_words, plain_words, words_of, fetch_most, place_least}
 use Rattle.a64_emit.proofs.Trees.{nodes_few, tree_order}
-use Rattle.a64_emit.proofs.Weights.{branch_code_most, copy_most, epilogue_most, fit_count, jump_most, prologue_most, select_most, set_most, switch_code_most}
+use Rattle.a64_emit.proofs.Weights.{branch_code_most, copy_most, epilogue_most, fit_count, jump_most, prologue_most, select_most, set_most, switch_code_most, check_before, guarded_most, checked_most, compare_words}
 
 -- ---- instructions
 
-test_length : (t : Test) (width : Width) → length (test_takes t width) ≡ test_count t
+pub test_length : (t : Test) (width : Width) → length (test_takes t width) ≡ test_count t
 test_length (Compare cond) width = refl
 test_length NonZero width = refl
 test_length (Bit k) width = refl
@@ -121,6 +126,31 @@ module _ (f : Frame) (few : length f.saved ≤ 10) where
       let count = breaks_count size in
       omega arith
 
+  -- a check with its inputs in front
+  check_light : (label mark : ℕ) (t : Test) (os : List Operand) → HasSite (op.CheckIf t) os
+      → words_of (check_items f label mark t os) ≤ 4 + sum_by (operand_words f) os
+  check_light label mark t os h =
+      let rest : List Operand = h.0.reported ++ (h.0.changed ++ h.0.results) in
+      subst (λ (xs : List Operand). words_of (check_items f label mark t xs) ≤ 4 + sum_by (operand_words f) xs) (sym (h.1 ∙ grouped h.0))
+      (let xs : List Operand = h.0.inputs ++ rest in
+      let before = check_before f t h.0.inputs rest (fit_count (test_takes t h.2.width) h.0.inputs h.2.fits ∙ test_length t h.2.width) in
+      let most = guarded_most f (fetch_tested f t xs ++ compared t xs) t (width_at xs 0) (reg_of (source_at xs 0 15)) label mark [] in
+      let both = sum_by-append (operand_words f) h.0.inputs rest in
+      omega arith)
+
+  checked_light : (label mark : ℕ) (kind : Checked) (os : List Operand) (s : SiteOperands) → os ≡ listed s
+      → AtSite two_homes true (λ width. Fits (Result width)) s
+      → words_of (checked_items f label mark kind os) ≤ compare_words f kind + 4 + sum_by (operand_words f) os
+  checked_light label mark kind os s is at =
+      let inputs = two_there s.inputs at.width at.fits in
+      let result = one_result s.results at.width at.result in
+      let parts : os ≡ inputs.0 ∷ inputs.1 ∷ ((s.reported ++ s.changed) ++ result.0 ∷ []) =
+      is ∙ grouped s ∙ ap (λ (xs : List Operand). xs ++ (s.reported ++ (s.changed ++ s.results))) inputs.2
+      ∙ ap (λ (xs : List Operand). inputs.0 ∷ inputs.1 ∷ (s.reported ++ (s.changed ++ xs))) result.1
+      ∙ ap (λ (xs : List Operand). inputs.0 ∷ inputs.1 ∷ xs) (sym (append_assoc s.reported s.changed (result.0 ∷ []))) in
+      subst (λ (xs : List Operand). words_of (checked_items f label mark kind xs) ≤ compare_words f kind + 4 + sum_by (operand_words f) xs) (sym parts)
+      (checked_most f label mark kind inputs.0 inputs.1 (s.reported ++ s.changed) result.0)
+
   pub inst_light : (r : Returns) (next label mark : ℕ) (targets : List ℕ) (traps : Bool) (o : AirOp) (os : List Operand) → HasOperands r o os → is_built o traps ≡ true
       → words_of (inst_items f next label mark targets traps o os) ≤ words_by o os
   unfolding inst_items inner_items inst_code
@@ -162,6 +192,11 @@ module _ (f : Frame) (few : length f.saved ≤ 10) where
       let plain = plain_words (frame_address f 0 (arg_at os 0)) in
       omega arith
   inst_light r next label mark targets traps op.Shuffle os has built = absurd cc
+  inst_light r next label mark targets traps (op.CheckIf t) os has built = check_light label mark t os has
+  inst_light r next label mark targets traps op.CheckAdd os has built = checked_light label mark Sum os has.0 has.1 has.2
+  inst_light r next label mark targets traps op.CheckSub os has built = checked_light label mark Difference os has.0 has.1 has.2
+  inst_light r next label mark targets traps op.CheckMul os has built =
+      let most = checked_light label mark Product os has.0 has.1 has.2 in omega arith
   inst_light r next label mark targets traps (op.Call typed) os has built =
       subst (λ (xs : List Operand). words_of (with_mark true mark (fetch f 15 (arg_at xs 0)) (call_inst xs ∷ [])) ≤ 1 + sum_by (operand_words f) xs)
       (sym has.parts) (call_light mark has.callee (arguments_from 0 has.widths ++ map (operand_in Clobber W64) call_clobbers

@@ -85,7 +85,7 @@ mark_proper z k mark c there whole = record {
   safe = subst (IsSafeItem z (moved_to (address_of z k) c)) (sym there) tt;
 }
 
-mark_step : (z : Setting) (k mark : ℕ) (c : Machine) → slice_get z.code k ≡ Some (Mark mark)
+pub mark_step : (z : Setting) (k mark : ℕ) (c : Machine) → slice_get z.code k ≡ Some (Mark mark)
     → run.item_step (meaning_of z) z.code (run.At k c) ≡ run.At (k + 1) c
 unfolding run.item_step
 mark_step z k mark c there = rw there refl

@@ -61,7 +61,7 @@ contains_later q regs r (zero, lt, is) differ = absurd (differ is)
 contains_later q regs r (suc k, lt, is) differ = (k, omega arith, is)
 
 -- after junk was put in registers each carries its word, where the words are those of the registers
-junk_carries : (x : ℕ → ℕ) (regs : List ℕ) (homes : Homes) (r : Register) → Contains regs r.0 ⊎ Carries (homes (Reg r)) (x r.0)
+pub junk_carries : (x : ℕ → ℕ) (regs : List ℕ) (homes : Homes) (r : Register) → Contains regs r.0 ⊎ Carries (homes (Reg r)) (x r.0)
     → Carries (put_all (reg_targets regs) (map x regs) homes (Reg r)) (x r.0)
 unfolding put_all
 junk_carries x [] homes r had = ⊎_elim (λ (in_none : Contains [] r.0). absurd (omega (arith, in_none.1))) (λ carries. carries) had
@@ -81,14 +81,14 @@ junk_carries x (q ∷ regs) homes r had =
     had)
     (cases_home (Reg r) (Reg reg)))
 
-junk_spills : (ws regs : List ℕ) (homes : Homes) (n : ℕ) → put_all (reg_targets regs) ws homes (Spill n) ≡ homes (Spill n)
+pub junk_spills : (ws regs : List ℕ) (homes : Homes) (n : ℕ) → put_all (reg_targets regs) ws homes (Spill n) ≡ homes (Spill n)
 unfolding put_all
 junk_spills ws [] homes n = refl
 junk_spills ws (q ∷ regs) homes n =
     junk_spills (others ws) regs (put homes (Reg (record { 0 = q })) (Holds W64 (first ws))) n
     ∙ put-other homes (Reg (record { 0 = q })) (Spill n) (Holds W64 (first ws)) (λ e. cc)
 
-put_both : (x : ℕ → ℕ) (regs : List ℕ) (us : List Target) (vs : List ℕ) (homes : Homes)
+pub put_both : (x : ℕ → ℕ) (regs : List ℕ) (us : List Target) (vs : List ℕ) (homes : Homes)
     → put_all (reg_targets regs ++ us) (map x regs ++ vs) homes ≡ put_all us vs (put_all (reg_targets regs) (map x regs) homes)
 unfolding put_all
 put_both x [] us vs homes = refl
@@ -357,14 +357,14 @@ step_with start i s rs ts ws values w exit reads writes means count rest =
 -- ---- what is asked
 
 -- a word for each
-abbrev none_of : List Target → List ℕ
+abbrev pub none_of : List Target → List ℕ
 none_of ts = map (λ t. 0) ts
 
-zeros_count : (ts : List Target) → length ts ≡ length (none_of ts) + 0
+pub zeros_count : (ts : List Target) → length ts ≡ length (none_of ts) + 0
 zeros_count [] = refl
 zeros_count (t ∷ ts) = let more = zeros_count ts in omega arith
 
-regs_count : (x : ℕ → ℕ) (regs : List ℕ) → length (reg_targets regs) ≡ length (map x regs)
+pub regs_count : (x : ℕ → ℕ) (regs : List ℕ) → length (reg_targets regs) ≡ length (map x regs)
 regs_count x [] = refl
 regs_count x (r ∷ regs) = ap suc (regs_count x regs)
 

@@ -287,7 +287,7 @@ AreResults true (o ∷ []) = OneResult o
 AreResults false [] = Unit {0}
 AreResults typed os = ⊥
 
-last_operand : (xs : List Operand) (o d : Operand) → get_or (xs ++ o ∷ []) (length (xs ++ o ∷ []) - 1) d ≡ o
+pub last_operand : (xs : List Operand) (o d : Operand) → get_or (xs ++ o ∷ []) (length (xs ++ o ∷ []) - 1) d ≡ o
 last_operand xs o d = let count = length-append xs (o ∷ []) in
     ap (λ n. get_or (xs ++ o ∷ []) n d) (omega arith) ∙ at_end xs
   where
@@ -455,7 +455,7 @@ placed_result false width [] is = tt
 placed_result false width (o ∷ xs) is = absurd is
 
 -- each reported operand is told
-all_told : (p : AirProc) (i : AirInst) (front reported rest : List Operand) → Owns p i → i.operands ≡ front ++ (reported ++ rest) → All IsReported reported
+pub all_told : (p : AirProc) (i : AirInst) (front reported rest : List Operand) → Owns p i → i.operands ≡ front ++ (reported ++ rest) → All IsReported reported
     → All (IsTold p) reported
 all_told p i front reported rest owns parts reports =
     all_of (IsTold p) reported (λ k o there.
@@ -527,7 +527,7 @@ break_safely r m = refl
 
 module _ (z : Setting) (set : IsSet z) (serves : IsFrameOf z.procedure z.frame) where
   -- an instruction that touches nothing is safe
-  plain_proper : (at : ℕ) (c : Machine) (inst : Inst) → slice_get z.code at ≡ Some (Plain inst) → ((r : Registers) → touched inst r ≡ None)
+  pub plain_proper : (at : ℕ) (c : Machine) (inst : Inst) → slice_get z.code at ≡ Some (Plain inst) → ((r : Registers) → touched inst r ≡ None)
       → ((r : Registers) (m : Memory) → (step_of inst r m).registers.x 18 ≡ r.x 18) → IsWhole z c → IsProperAt z at c
   plain_proper at c inst there touches platform whole = record {
     aligned = whole.aligned;

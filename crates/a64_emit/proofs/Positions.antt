@@ -1,4 +1,5 @@
 -- Where the blocks stand in the code of a procedure.
+use Rattle.a64_inst.specs.declared.inst.Inst.TheVariants.{Break}
 use Rattle.std.proofs.Common.{◌≡◌, ℕ, zero, suc, ◌+◌, ◌<◌, ◌≤◌, ◌⊎◌, inl, inr, Bool, true, false, not, cond, ⊎_elim, List, [], ◌∷◌, ◌++◌, Some, length, get_or, refl, sym, ap, ◌∙◌, subst, arith, append_assoc, length-append, eq-eqb}
 use Rattle.std.proofs.lemmas.List.{append-nil}
 use Rattle.std.proofs.lemmas.Option.{slice_get-get_or, slice_get_within}
@@ -6,6 +7,9 @@ use Rattle.std.specs.Prelude.{nat_eq, slice_get, if◌then◌else◌}
 use Rattle.std.specs.List.{flat_map, position_or_len, sum_by}
 use Rattle.std.proofs.lemmas.List.Sums.{sum_by-cons}
 use Rattle.stackmap.specs.declared.site.Site.{Site}
+use Rattle.b3_meaning.specs.declared.role.Checked.{Checked}
+use Rattle.b3_meaning.specs.declared.role.Checked.TheVariants.{Sum, Difference, Product}
+use Rattle.a64_checked.specs.Checks.{passing}
 use Rattle.air_ir.specs.Kinds.{Kind, Loads, Stores, kind_of}
 use Rattle.std.proofs.lemmas.Bool.{cases_lt, ne_eqb}
 use Rattle.a64_inst.specs.declared.inst.Cond.TheVariants.{Eq, Hi}
@@ -24,7 +28,7 @@ use Rattle.air_ir.specs.declared.procedure.AirInst.{AirInst}
 use Rattle.air_ir.specs.declared.procedure.AirProc.{AirProc}
 use Rattle.a64_layout.specs.Layout.{is_label, position_of}
 use Rattle.a64_layout.specs.Text.{is_any_label}
-use Rattle.a64_emit.specs.Code.{arg_at, block_labels, block_marks, blocks_items, branch_item, branches, compared, emitted, fetch, fetch_address, fetch_stored, fetch_tested, has_mark, inner_items, inst_code, inst_items, insts_items, labels_of, load_inst, load_items, marks_of, own_labels, put_result, result_reg, source_at, store_inst, store_items, width_at, with_mark, breaks, call_inst}
+use Rattle.a64_emit.specs.Code.{arg_at, block_labels, block_marks, blocks_items, branch_item, branches, compared, emitted, fetch, fetch_address, fetch_stored, fetch_tested, has_mark, inner_items, inst_code, inst_items, insts_items, labels_of, load_inst, load_items, marks_of, own_labels, put_result, result_reg, source_at, store_inst, store_items, width_at, with_mark, breaks, call_inst, guarded, fetch_checked, make_checked}
 use Rattle.a64_code.specs.Computing.{reg_of}
 use Rattle.a64_emit.specs.Made.{block_sites, inst_sites, procedure_sites, sites_by, trap_site}
 use Rattle.a64_code.specs.Places.{epilogue, plains, prologue}
@@ -77,6 +81,10 @@ branch_item_unlabelled (Compare cond) passes width reg label = refl
 branch_item_unlabelled NonZero passes width reg label = refl
 branch_item_unlabelled (Bit bit) passes width reg label = refl
 
+pub guard_unlabelled : (test : Test) (width : Width) (reg label mark : ℕ)
+    → Each IsUnlabelled (branch_item test false width reg label ∷ Mark mark ∷ Plain (Break 1) ∷ [])
+guard_unlabelled test width reg label mark = (branch_item_unlabelled test false width reg label, (refl, (refl, tt)))
+
 branches_unlabelled : (test : Test) (width : Width) (reg next then_label else_label : ℕ) → Each IsUnlabelled (branches test width reg next then_label else_label)
 branches_unlabelled test width reg next then_label else_label =
     elim (nat_eq then_label next) as (λ b. Each IsUnlabelled (if b then branch_item test false width reg else_label ∷ [] else
@@ -126,23 +134,38 @@ inner_unlabelled f mark traps (op.Call typed) os = with_mark_unlabelled true mar
 inner_unlabelled f mark traps (op.Patch size typed) os = with_mark_unlabelled true mark [] (breaks size)
 inner_unlabelled f mark traps o os = plains_unlabelled (inst_code f o os)
 
--- an instruction other than a Switch has no label
+-- an instruction has no label, or is a Switch, or is a check with one label
+pub data InstShape (f : Frame) (next label mark : ℕ) (targets : List ℕ) (traps : Bool) (o : AirOp) (os : List Operand) : Type 0 where
+  HasNone : (each : Each IsUnlabelled (inst_items f next label mark targets traps o os)) (none : own_labels o ≡ 0)
+      → InstShape f next label mark targets traps o os
+  IsASwitch : (cases : List ℕ) (is : o ≡ op.Switch cases) → InstShape f next label mark targets traps o os
+  IsGuarded : (before : List Inst) (test : Test) (width : Width) (reg : ℕ) (behind : List Inst)
+      (is : inst_items f next label mark targets traps o os ≡ guarded before test width reg label mark behind) (one : own_labels o ≡ 1)
+      → InstShape f next label mark targets traps o os
+
 pub inst_shape : (f : Frame) (next label mark : ℕ) (targets : List ℕ) (traps : Bool) (o : AirOp) (os : List Operand)
-    → (Each IsUnlabelled (inst_items f next label mark targets traps o os) × (own_labels o ≡ 0)) ⊎ ((cases : List ℕ) × (o ≡ op.Switch cases))
+    → InstShape f next label mark targets traps o os
 unfolding inst_items
 inst_shape f next label mark targets traps (op.BranchIf test) os =
-    inl (
-      each_append IsUnlabelled (plains (fetch_tested f test os ++ compared test os))
-          (branches test (width_at os 0) (reg_of (source_at os 0 15)) next (get_or targets 0 0) (get_or targets 1 0))
-          (plains_unlabelled (fetch_tested f test os ++ compared test os))
-          (branches_unlabelled test (width_at os 0) (reg_of (source_at os 0 15)) next (get_or targets 0 0) (get_or targets 1 0)),
-      refl,
-    )
-inst_shape f next label mark targets traps op.Jump os = inl (jump_unlabelled next (get_or targets 0 0), refl)
-inst_shape f next label mark targets traps (op.Switch cases) os = inr (cases, refl)
-inst_shape f next label mark targets traps op.Return os = inl (plains_unlabelled (epilogue f), refl)
-inst_shape f next label mark targets traps op.Oops os = inl ((refl, tt), refl)
-inst_shape f next label mark targets traps o os = inl (inner_unlabelled f mark traps o os, refl)
+    HasNone
+    (each_append IsUnlabelled (plains (fetch_tested f test os ++ compared test os))
+    (branches test (width_at os 0) (reg_of (source_at os 0 15)) next (get_or targets 0 0) (get_or targets 1 0))
+    (plains_unlabelled (fetch_tested f test os ++ compared test os))
+    (branches_unlabelled test (width_at os 0) (reg_of (source_at os 0 15)) next (get_or targets 0 0) (get_or targets 1 0)))
+    refl
+inst_shape f next label mark targets traps op.Jump os = HasNone (jump_unlabelled next (get_or targets 0 0)) refl
+inst_shape f next label mark targets traps (op.Switch cases) os = IsASwitch cases refl
+inst_shape f next label mark targets traps (op.CheckIf test) os =
+    IsGuarded (fetch_tested f test os ++ compared test os) test (width_at os 0) (reg_of (source_at os 0 15)) [] refl refl
+inst_shape f next label mark targets traps op.CheckAdd os =
+    IsGuarded (fetch_checked f Sum os) (Compare (passing Sum)) (width_at os 0) 0 (make_checked f Sum os) refl refl
+inst_shape f next label mark targets traps op.CheckSub os =
+    IsGuarded (fetch_checked f Difference os) (Compare (passing Difference)) (width_at os 0) 0 (make_checked f Difference os) refl refl
+inst_shape f next label mark targets traps op.CheckMul os =
+    IsGuarded (fetch_checked f Product os) (Compare (passing Product)) (width_at os 0) 0 (make_checked f Product os) refl refl
+inst_shape f next label mark targets traps op.Return os = HasNone (plains_unlabelled (epilogue f)) refl
+inst_shape f next label mark targets traps op.Oops os = HasNone (refl, tt) refl
+inst_shape f next label mark targets traps o os = HasNone (inner_unlabelled f mark traps o os) refl
 
 -- an item that is no label below a number
 abbrev pub IsInner : ℕ → Item → Type 0
@@ -180,15 +203,25 @@ switch_inner n f next label mark targets cases traps os le =
     (search_inner n (width_at os 0) (reg_of (source_at os 0 15)) (get_or targets (length cases) 0) next label
     (tree (cases_in_order (width_at os 0) cases targets)) le)
 
+guarded_inner : (n : ℕ) (before : List Inst) (test : Test) (width : Width) (reg label mark : ℕ) (behind : List Inst) → n ≤ label
+    → Each (IsInner n) (guarded before test width reg label mark behind)
+guarded_inner n before test width reg label mark behind le =
+    each_append (IsInner n) (plains before) _ (unlabelled_inner n (plains before) (plains_unlabelled before))
+    (each_append (IsInner n) (branch_item test false width reg label ∷ Mark mark ∷ Plain (Break 1) ∷ []) (Label label ∷ plains behind)
+    (unlabelled_inner n (branch_item test false width reg label ∷ Mark mark ∷ Plain (Break 1) ∷ []) (guard_unlabelled test width reg label mark))
+    (le, unlabelled_inner n (plains behind) (plains_unlabelled behind)))
+
 inst_inner : (n : ℕ) (f : Frame) (next label mark : ℕ) (targets : List ℕ) (traps : Bool) (o : AirOp) (os : List Operand) → n ≤ label
     → Each (IsInner n) (inst_items f next label mark targets traps o os)
 inst_inner n f next label mark targets traps o os le =
-    ⊎_elim
-    (λ (none : Each IsUnlabelled (inst_items f next label mark targets traps o os) × (own_labels o ≡ 0)).
-    unlabelled_inner n (inst_items f next label mark targets traps o os) none.0)
-    (λ (is : (cases : List ℕ) × (o ≡ op.Switch cases)).
-    subst (λ o. Each (IsInner n) (inst_items f next label mark targets traps o os)) (sym is.1) (switch_inner n f next label mark targets is.0 traps os le))
-    (inst_shape f next label mark targets traps o os)
+    elim (inst_shape f next label mark targets traps o os) as (λ x. Each (IsInner n) (inst_items f next label mark targets traps o os)) [
+      | HasNone each none ↦ unlabelled_inner n (inst_items f next label mark targets traps o os) each
+      | IsASwitch cases is ↦
+          subst (λ o. Each (IsInner n) (inst_items f next label mark targets traps o os)) (sym is)
+          (switch_inner n f next label mark targets cases traps os le)
+      | IsGuarded before test width reg behind is one ↦
+          subst (Each (IsInner n)) (sym is) (guarded_inner n before test width reg label mark behind le)
+    ]
 
 insts_inner : (n : ℕ) (f : Frame) (next label mark : ℕ) (targets : List ℕ) (insts : List AirInst) → n ≤ label
     → Each (IsInner n) (insts_items f next label mark targets insts)

@@ -1,4 +1,13 @@
 -- Each site of emitted code is that of an instruction, no two are of one value, and the marks stand where they are asked for.
+use Rattle.a64_emit.proofs.Weights.{fit_count}
+use Rattle.a64_emit.proofs.Light.{test_length}
+use Rattle.a64_emit.proofs.CheckParts.{exit_own, result_parts, test_parts}
+use Rattle.stackmap.specs.declared.site.Returns.{Returns}
+use Rattle.air_ir.specs.declared.operand.Operand.{Operand}
+use Rattle.air_ir.specs.declared.op.Test.{Test}
+use Rattle.air_ir.specs.SitesInPlaces.{patch_in}
+use Rattle.b3_meaning.specs.declared.role.Checked.TheVariants.{Sum, Difference, Product}
+use Rattle.b3_meaning.specs.declared.role.Checked.{Checked}
 use Rattle.std.proofs.Common.{◌≡◌, ◌≢◌, ℕ, suc, ◌^◌, ◌<◌, ◌≤◌, true, false, List, [], ◌∷◌, Some, length, refl, sym, ◌∙◌, subst, arith, Bool, Option, ap, None}
 use Rattle.std.specs.Prelude.{All, AllPairs, if◌then◌else◌, slice_get, IsSomeAnd}
 use Rattle.std.specs.List.{flat_map}
@@ -10,7 +19,7 @@ use Rattle.stackmap.specs.declared.site.SiteKind.TheVariants as site_kind
 use Rattle.exit_table.specs.Good.{IsGoodRep}
 use Rattle.std.proofs.lemmas.Option.{get_or_from_slice_get}
 use Rattle.b3_base.specs.declared.word.Width.TheVariants.{W64}
-use Rattle.air_ir.specs.Forms.{HasOperands}
+use Rattle.air_ir.specs.Forms.{HasOperands, HasSite, SiteFits, SiteOperands, AtSite, Fits, Result, listed, two_homes, test_takes}
 use Rattle.air_ir.specs.WellFormed.{IsGoodBlock, IsGoodInst, IsWellFormed, HasOneSiteEach, StandsAt}
 use Rattle.air_ir.specs.declared.op.AirOp.{AirOp}
 use Rattle.air_ir.specs.declared.op.AirOp.TheVariants as op
@@ -19,13 +28,13 @@ use Rattle.air_frame.specs.Needs.{names}
 use Rattle.a64_emit.proofs.Outward.{owns_of}
 use Rattle.a64_emit.proofs.SitesOutward.{call_own, patch_own}
 use Rattle.a64_code.specs.Places.{spill_offset}
-use Rattle.air_ir.specs.Kinds.{Calls, Kind, Loads, Patches, Stores, kind_of, makes_site}
+use Rattle.air_ir.specs.Kinds.{Calls, Kind, Loads, Patches, Stores, kind_of, makes_site, Checks, ChecksResult}
 use Rattle.air_ir.specs.declared.frame.Frame.{Frame}
 use Rattle.air_ir.specs.declared.procedure.AirBlock.{AirBlock}
 use Rattle.air_ir.specs.declared.procedure.AirInst.{AirInst}
 use Rattle.air_ir.specs.declared.procedure.AirProc.{AirProc}
-use Rattle.a64_emit.specs.Code.{has_mark, marks_of}
-use Rattle.a64_emit.specs.Made.{HasSmallValues, HasSmallValuesIn, block_sites, inst_sites, outward_site, patch_size, procedure_sites, sites_by, trap_site}
+use Rattle.a64_emit.specs.Code.{has_mark, marks_of, test_count}
+use Rattle.a64_emit.specs.Made.{HasSmallValues, HasSmallValuesIn, block_sites, inst_sites, outward_site, patch_size, procedure_sites, sites_by, trap_site, exit_site}
 use Rattle.a64_emit.specs.Sites.{IsCallOf, IsSiteBy, IsSiteIn, IsStackmapOf}
 use Rattle.a64_emit.proofs.Opened.{all_at}
 use Rattle.a64_emit.proofs.Positions.{inst_counted}
@@ -86,6 +95,8 @@ trap_own f kind i own =
 -- what is so of the sites of calls and patchpoints
 record AreOutward (f : Frame) (kind : Kind) (i : AirInst) : Type 0 where
   calls : (typed : Bool) → kind ≡ Calls typed → IsCallOf typed i (outward_site f site_kind.Call 1 typed 1 i)
+  tests : (t : Test) → kind ≡ Checks t → IsStackmapOf f i (exit_site f (test_count t) i)
+  results : (checked : Checked) → kind ≡ ChecksResult checked → IsStackmapOf f i (exit_site f 2 i)
   patches : (typed : Bool) → kind ≡ Patches typed → IsStackmapOf f i (outward_site f site_kind.Patchpoint (patch_size i.op) typed 0 i)
 
 own_by : (f : Frame) (kind : Kind) (i : AirInst) → AreOutward f kind i → All (IsOwnBy f kind i) (sites_by kind f i)
@@ -99,6 +110,12 @@ own_by f (Calls typed) i out =
 own_by f (Patches typed) i out =
     All-cons (IsOwnBy f (Patches typed) i) (outward_site f site_kind.Patchpoint (patch_size i.op) typed 0 i) []
     (record { makes = refl; value = refl; is = out.patches typed refl }) (All-nil (IsOwnBy f (Patches typed) i))
+own_by f (Checks t) i out =
+    All-cons (IsOwnBy f (Checks t) i) (exit_site f (test_count t) i) [] (record { makes = refl; value = refl; is = out.tests t refl })
+    (All-nil (IsOwnBy f (Checks t) i))
+own_by f (ChecksResult checked) i out =
+    All-cons (IsOwnBy f (ChecksResult checked) i) (exit_site f 2 i) [] (record { makes = refl; value = refl; is = out.results checked refl })
+    (All-nil (IsOwnBy f (ChecksResult checked) i))
 own_by f kind i out = All-nil (IsOwnBy f kind i)
 
 call_op : (o : AirOp) (typed : Bool) → kind_of o ≡ Calls typed → o ≡ op.Call typed
@@ -108,6 +125,38 @@ call_op o typed e = absurd cc
 patch_op : (o : AirOp) (typed : Bool) → kind_of o ≡ Patches typed → o ≡ op.Patch (patch_size o) typed
 patch_op (op.Patch size t) typed e = let same : t ≡ typed = cc in ap (op.Patch size) same
 patch_op o typed e = absurd cc
+
+test_op : (o : AirOp) (t : Test) → kind_of o ≡ Checks t → o ≡ op.CheckIf t
+test_op (op.CheckIf u) t e = cc
+test_op o t e = absurd cc
+
+-- the op that checks a result of this kind
+abbrev pub check_op : Checked → AirOp
+check_op Sum = op.CheckAdd
+check_op Difference = op.CheckSub
+check_op Product = op.CheckMul
+
+result_op : (o : AirOp) (checked : Checked) → kind_of o ≡ ChecksResult checked → o ≡ check_op checked
+result_op op.CheckAdd checked e = let same : Sum ≡ checked = cc in ap check_op same
+result_op op.CheckSub checked e = let same : Difference ≡ checked = cc in ap check_op same
+result_op op.CheckMul checked e = let same : Product ≡ checked = cc in ap check_op same
+result_op o checked e = absurd cc
+
+pub result_site : (r : Returns) (checked : Checked) (os : List Operand) → HasOperands r (check_op checked) os
+    → (s : SiteOperands) × (os ≡ listed s) × AtSite two_homes true (λ width. Fits (Result width)) s
+result_site r Sum os h = h
+result_site r Difference os h = h
+result_site r Product os h = h
+
+result_fits : (checked : Checked) (s : SiteOperands) → AtSite two_homes true (λ width. Fits (Result width)) s → SiteFits (check_op checked) s
+result_fits Sum s h = h
+result_fits Difference s h = h
+result_fits Product s h = h
+
+no_patch : (checked : Checked) → patch_in (check_op checked) ≡ None
+no_patch Sum = refl
+no_patch Difference = refl
+no_patch Product = refl
 
 -- ---- the sites of a procedure
 
@@ -138,6 +187,16 @@ module _ (p : AirProc) (f : Frame) (well : IsWellFormed p) (no_tmps : p.tmps ≡
       all_weaker (IsOwnBy f (kind_of i.op) i) (IsOwn f i) (λ site own. record { makes = own.makes; value = own.value; is = own.is }) (inst_sites f i)
       (own_by f (kind_of i.op) i (record {
         calls = λ typed e. call_own p f spilled i owns typed (subst (λ o. HasOperands p.returns o i.operands) (call_op i.op typed e) good.operands);
+        tests = λ t e.
+            let is = test_op i.op t e in
+            let h : HasSite (op.CheckIf t) i.operands = subst (λ o. HasOperands p.returns o i.operands) is good.operands in
+            exit_own p i owns f spilled h.0 (test_parts p i owns t h) h.1 (subst (λ o. SiteFits o h.0) (sym is) h.2) (ap patch_in is) (test_count t)
+            (fit_count (test_takes t h.2.width) h.0.inputs h.2.fits ∙ test_length t h.2.width);
+        results = λ checked e.
+            let is = result_op i.op checked e in
+            let h = result_site p.returns checked i.operands (subst (λ o. HasOperands p.returns o i.operands) is good.operands) in
+            exit_own p i owns f spilled h.0 (result_parts p i owns h.0 h.1 h.2) h.1 (subst (λ o. SiteFits o h.0) (sym is) (result_fits checked h.0 h.2))
+            (ap patch_in is ∙ no_patch checked) 2 (fit_count (two_homes h.2.width) h.0.inputs h.2.fits);
         patches = λ typed e. patch_own p f spilled i owns (patch_size i.op) typed (patch_op i.op typed e)
             (subst (λ o. HasOperands p.returns o i.operands) (patch_op i.op typed e) good.operands);
       }))

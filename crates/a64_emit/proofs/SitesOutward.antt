@@ -29,7 +29,7 @@ use Rattle.a64_emit.proofs.OutwardLeads.{call_parts, clobbers_are, patch_parts, 
 
 -- ---- places
 
-count_placed : (f : Frame) (os : List Operand) (places : List Place) → ArePlacesOf f os places → length places ≡ length os
+pub count_placed : (f : Frame) (os : List Operand) (places : List Place) → ArePlacesOf f os places → length places ≡ length os
 unfolding ArePlacesOf
 count_placed f [] [] are = refl
 count_placed f [] (place ∷ places) are = absurd are
@@ -45,7 +45,7 @@ rep_of_arg f (Addr base offset) where_ is = absurd is
 rep_of_arg f (Index base index shift) where_ is = absurd is
 rep_of_arg f (FrameSlot n) where_ is = absurd is
 
-each_placed : (f : Frame) (os : List Operand) (places : List Place) → ArePlacesOf f os places → (k : ℕ) (o : Operand) (place : Place)
+pub each_placed : (f : Frame) (os : List Operand) (places : List Place) → ArePlacesOf f os places → (k : ℕ) (o : Operand) (place : Place)
     → slice_get os k ≡ Some o → slice_get places k ≡ Some place → (place.width ≡ o.width) × IsRepOf o.arg place.rep
 unfolding ArePlacesOf
 each_placed f [] places are k o place there placed = absurd cc

@@ -83,7 +83,7 @@ low_same W32 word small = omega arith
 low_same W64 word small = omega arith
 
 -- some words read, the first of them apart
-and_some : (width : Width) (o : Option ℕ) (ws : Option (List Read)) (rs : List Read) → and_word width o ws ≡ Some rs
+pub and_some : (width : Width) (o : Option ℕ) (ws : Option (List Read)) (rs : List Read) → and_word width o ws ≡ Some rs
     → (w : ℕ) × (vs : List Read) × (o ≡ Some w) × (ws ≡ Some vs) × ((width, w) ∷ vs ≡ rs)
 and_some width None ws rs is = absurd cc
 and_some width (Some w) None rs is = absurd cc

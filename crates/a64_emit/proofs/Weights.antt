@@ -1,17 +1,22 @@
 -- The words of each instruction, and of a procedure.
-use Rattle.std.proofs.Common.{◌≡◌, ℕ, suc, ◌+◌, ◌-◌, ◌*◌, ◌/◌, ◌%◌, ◌≤◌, Bool, true, false, List, [], ◌∷◌, ◌++◌, length, get_or, refl, sym, ap, subst, arith, length-append}
+use Rattle.air_ir.specs.declared.operand.Arg.TheVariants.{Imm}
+use Rattle.air_ir.specs.declared.operand.Role.TheVariants.{Use}
+use Rattle.std.proofs.Common.{◌≡◌, ℕ, suc, ◌+◌, ◌-◌, ◌*◌, ◌/◌, ◌%◌, ◌≤◌, Bool, true, false, List, [], ◌∷◌, ◌++◌, length, get_or, refl, sym, ap, subst, arith, length-append, ◌∙◌}
 use Rattle.std.specs.Prelude.{nat_eq, if◌then◌else◌}
 use Rattle.std.specs.List.{sum_by}
 use Rattle.std.proofs.lemmas.List.Sums.{sum_by-append, sum_by-cons}
 use Rattle.b3_base.specs.declared.word.Width.{Width}
-use Rattle.b3_base.specs.declared.word.Width.TheVariants.{W64}
+use Rattle.b3_base.specs.declared.word.Width.TheVariants.{W64, W32}
 use Rattle.stackmap.specs.declared.site.SavedRow.{SavedRow}
 use Rattle.a64_inst.specs.declared.inst.Cond.{Cond}
 use Rattle.a64_inst.specs.declared.inst.Cond.TheVariants.{Eq, Hi}
 use Rattle.a64_inst.specs.declared.inst.Inst.{Inst}
-use Rattle.a64_inst.specs.declared.inst.Inst.TheVariants.{AddSubImm, AddSubReg}
+use Rattle.a64_inst.specs.declared.inst.Inst.TheVariants.{AddSubImm, AddSubReg, Break}
 use Rattle.a64_inst.specs.declared.item.Item.{Item}
-use Rattle.a64_inst.specs.declared.item.Item.TheVariants.{If, Jump, Label}
+use Rattle.a64_inst.specs.declared.item.Item.TheVariants.{If, Jump, Label, Mark, Plain}
+use Rattle.b3_meaning.specs.declared.role.Checked.{Checked}
+use Rattle.b3_meaning.specs.declared.role.Checked.TheVariants.{Sum, Difference, Product}
+use Rattle.a64_checked.specs.Checks.{comparing, making, passing}
 use Rattle.air_ir.specs.Forms.{AllFit, Takes}
 use Rattle.air_ir.specs.Weight.{arg_words}
 use Rattle.air_ir.specs.declared.frame.Frame.{Frame}
@@ -20,7 +25,7 @@ use Rattle.air_ir.specs.declared.op.Test.TheVariants.{Compare, NonZero, Bit}
 use Rattle.air_ir.specs.declared.operand.Arg.{Arg}
 use Rattle.air_ir.specs.declared.operand.Operand.{Operand}
 use Rattle.a64_layout.specs.Branch.{size_of}
-use Rattle.a64_emit.specs.Code.{arg_at, branch_code, branch_item, branches, bring, compared, copy_code, copy_reg, fetch, fetch_tested, put_result, result_reg, select_code, set_code, source_at, test_at, test_count, width_at}
+use Rattle.a64_emit.specs.Code.{arg_at, branch_code, branch_item, branches, bring, compared, copy_code, copy_reg, fetch, fetch_tested, put_result, result_reg, select_code, set_code, source_at, test_at, test_count, width_at, guarded, fetch_checked, make_checked, checked_items, result_at}
 use Rattle.a64_code.specs.Computing.{reg_of, is_sum_word, sum_with}
 use Rattle.a64_code.specs.Constants.{constant}
 use Rattle.a64_code.specs.Places.{above_sp, epilogue, leave, load_at, lower_sp, plains, prologue, restores, saves, store_at, unless_zero}
@@ -29,7 +34,7 @@ use Rattle.a64_emit.specs.Trees.{Leaf, Node, Tree, node_count, tree}
 use Rattle.a64_emit.specs.declared.case.Case.{Case}
 use Rattle.a64_emit.proofs.Sorting.{cases_length}
 use Rattle.a64_emit.proofs.Trees.{in_order, tree_order}
-use Rattle.a64_emit.proofs.Sizes.{bring_most, constant_most, fetch_most, load_most, operand_words, place_least, plain_words, put_most, store_most, words_of}
+use Rattle.a64_emit.proofs.Sizes.{bring_most, constant_most, fetch_most, load_most, operand_words, place_least, plain_words, put_most, store_most, words_of, place_words}
 
 -- ---- operands
 
@@ -298,6 +303,96 @@ module _ (f : Frame) where
           (let alone = fetched_alone a in
           let both = length-append (fetch f 15 a.arg ++ []) [] in
           omega arith)
+
+  -- a test in front of others
+  pub check_before : (t : Test) (inputs rest : List Operand) → length inputs ≡ test_count t
+      → length (fetch_tested f t (inputs ++ rest) ++ compared t (inputs ++ rest)) ≤ 1 + sum_by (operand_words f) inputs
+  check_before (Compare cond) inputs rest count =
+      let shape = of_two inputs count in
+      subst (λ (xs : List Operand). length (fetch_tested f (Compare cond) (xs ++ rest) ++ compared (Compare cond) (xs ++ rest))
+      ≤ 1 + sum_by (operand_words f) xs) (sym shape.2) (before_branches (Compare cond) (shape.0 ∷ shape.1 ∷ []) refl)
+  check_before NonZero inputs rest count =
+      let shape = of_one inputs count in
+      subst (λ (xs : List Operand). length (fetch_tested f NonZero (xs ++ rest) ++ compared NonZero (xs ++ rest)) ≤ 1 + sum_by (operand_words f) xs)
+      (sym shape.1) (before_branches NonZero (shape.0 ∷ []) refl)
+  check_before (Bit k) inputs rest count =
+      let shape = of_one inputs count in
+      subst (λ (xs : List Operand). length (fetch_tested f (Bit k) (xs ++ rest) ++ compared (Bit k) (xs ++ rest)) ≤ 1 + sum_by (operand_words f) xs)
+      (sym shape.1) (before_branches (Bit k) (shape.0 ∷ []) refl)
+
+  -- the words of a check: a long branch and the break
+  pub guarded_most : (before : List Inst) (t : Test) (width : Width) (reg label mark : ℕ) (behind : List Inst)
+      → words_of (guarded before t width reg label mark behind) ≤ length before + 3 + length behind
+  guarded_most before t width reg label mark behind =
+      let guard : List Item = branch_item t false width reg label ∷ Mark mark ∷ Plain (Break 1) ∷ Label label ∷ plains behind in
+      let both = sum_by-append (size_of true) (plains before) guard in
+      let front = plain_words before in
+      let back = plain_words behind in
+      let branch = branch_most t false width reg label in
+      let one = sum_by-cons (size_of true) (branch_item t false width reg label) (Mark mark ∷ Plain (Break 1) ∷ Label label ∷ plains behind) in
+      let two = sum_by-cons (size_of true) (Mark mark) (Plain (Break 1) ∷ Label label ∷ plains behind) in
+      let three = sum_by-cons (size_of true) (Plain (Break 1)) (Label label ∷ plains behind) in
+      let four = sum_by-cons (size_of true) (Label label) (plains behind) in
+      omega arith
+
+  -- how many words compare
+  abbrev pub compare_words : Checked → ℕ
+  compare_words Sum = 1
+  compare_words Difference = 1
+  compare_words Product = 3
+
+  comparing_count : (kind : Checked) (width : Width) (a b : ℕ) → length (comparing kind width a b) ≡ compare_words kind
+  unfolding comparing
+  comparing_count Sum width a b = refl
+  comparing_count Difference width a b = refl
+  comparing_count Product W32 a b = refl
+  comparing_count Product W64 a b = refl
+
+  making_count : (kind : Checked) (width : Width) (rd a b : ℕ) → length (making kind width rd a b) ≡ 1
+  unfolding making
+  making_count Sum width rd a b = refl
+  making_count Difference width rd a b = refl
+  making_count Product width rd a b = refl
+
+  last_of : (xs : List Operand) (o d : Operand) → get_or (xs ++ o ∷ []) (length (xs ++ o ∷ []) - 1) d ≡ o
+  last_of xs o d =
+      let count = length-append xs (o ∷ []) in
+      ap (λ n. get_or (xs ++ o ∷ []) n d) (omega arith) ∙ at_end xs
+    where
+      at_end : (xs : List Operand) → get_or (xs ++ o ∷ []) (length xs) d ≡ o
+      at_end [] = refl
+      at_end (x ∷ xs) = at_end xs
+
+  pub checked_most : (label mark : ℕ) (kind : Checked) (a b : Operand) (more : List Operand) (o : Operand)
+      → words_of (checked_items f label mark kind (a ∷ b ∷ (more ++ o ∷ [])))
+      ≤ compare_words kind + 4 + sum_by (operand_words f) (a ∷ b ∷ (more ++ o ∷ []))
+  checked_most label mark kind a b more o =
+      let os : List Operand = a ∷ b ∷ (more ++ o ∷ []) in
+      let d : Operand = record { role = Use; width = W64; arg = Imm 0 } in
+      let last : result_at os ≡ o.arg = ap (λ (x : Operand). x.arg) (last_of (a ∷ b ∷ more) o d) in
+      let ra : ℕ = reg_of (source_at os 0 15) in
+      let rb : ℕ = reg_of (source_at os 1 16) in
+      let rd : ℕ = result_reg (result_at os) in
+      let compare : List Inst = comparing kind (width_at os 0) ra rb in
+      let make : List Inst = making kind (width_at os 0) rd ra rb in
+      let put : length (put_result f rd (result_at os)) ≤ place_words o.arg =
+      subst (λ (x : Arg). length (put_result f rd x) ≤ place_words o.arg) (sym last) (put_most f rd o.arg) in
+      let most = guarded_most (fetch_checked f kind os) (Compare (passing kind)) (width_at os 0) 0 label mark (make_checked f kind os) in
+      let first = fetch_most f 15 a.arg in
+      let second = fetch_most f 16 b.arg in
+      let least_a = place_least a.arg in
+      let least_b = place_least b.arg in
+      let least_o = place_least o.arg in
+      let one = length-append (fetch f 15 a.arg) (fetch f 16 b.arg ++ compare) in
+      let two = length-append (fetch f 16 b.arg) compare in
+      let three = length-append make (put_result f rd (result_at os)) in
+      let compares = comparing_count kind (width_at os 0) ra rb in
+      let makes = making_count kind (width_at os 0) rd ra rb in
+      let sum_a = sum_by-cons (operand_words f) a (b ∷ (more ++ o ∷ [])) in
+      let sum_b = sum_by-cons (operand_words f) b (more ++ o ∷ []) in
+      let sum_more = sum_by-append (operand_words f) more (o ∷ []) in
+      let sum_o = sum_by-cons (operand_words f) o [] in
+      omega arith
 
   pub branch_code_most : (next : ℕ) (targets : List ℕ) (t : Test) (os : List Operand) → length os ≡ test_count t
       → words_of (branch_code f next targets t os) ≤ 4 + sum_by (operand_words f) os

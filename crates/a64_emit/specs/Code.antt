@@ -10,7 +10,10 @@ use Rattle.a64_inst.specs.declared.inst.Inst.TheVariants.{AccessIndex, BranchReg
 use Rattle.a64_inst.specs.declared.item.Item.{Item}
 use Rattle.a64_inst.specs.declared.item.Item.TheVariants.{If, IfBit, IfZero, Label, Mark, Plain}
 use Rattle.a64_layout.specs.Branch.{opposite_cond}
-use Rattle.air_ir.specs.Kinds.{Calls, Kind, Loads, Patches, Stores, kind_of}
+use Rattle.a64_checked.specs.Checks.{comparing, making, passing}
+use Rattle.b3_meaning.specs.declared.role.Checked.{Checked}
+use Rattle.b3_meaning.specs.declared.role.Checked.TheVariants.{Sum, Difference, Product}
+use Rattle.air_ir.specs.Kinds.{Calls, Checks, ChecksResult, Kind, Loads, Patches, Stores, kind_of}
 use Rattle.air_ir.specs.declared.frame.Frame.{Frame}
 use Rattle.air_ir.specs.declared.op.AirOp.{AirOp}
 use Rattle.air_ir.specs.declared.op.AirOp.TheVariants as op
@@ -233,6 +236,33 @@ branch_code f next targets test os =
     plains (fetch_tested f test os ++ compared test os)
     ++ branches test (width_at os 0) (reg_of (source_at os 0 15)) next (get_or targets 0 0) (get_or targets 1 0)
 
+-- ---- checks
+
+-- an exit: where a test doesn't pass, a branch goes past it
+abbrev pub guarded : List Inst → Test → Width → ℕ → ℕ → ℕ → List Inst → List Item
+guarded before test width reg label mark behind =
+    plains before
+    ++ branch_item test false width reg label ∷ Mark mark ∷ Plain (Break 1) ∷ Label label ∷ plains behind
+
+abbrev pub check_items : Frame → ℕ → ℕ → Test → List Operand → List Item
+check_items f label mark test os =
+    guarded (fetch_tested f test os ++ compared test os) test (width_at os 0) (reg_of (source_at os 0 15)) label mark []
+
+abbrev pub fetch_checked : Frame → Checked → List Operand → List Inst
+fetch_checked f kind os =
+    fetch f 15 (arg_at os 0)
+    ++ (fetch f 16 (arg_at os 1) ++ comparing kind (width_at os 0) (reg_of (source_at os 0 15)) (reg_of (source_at os 1 16)))
+
+abbrev pub make_checked : Frame → Checked → List Operand → List Inst
+make_checked f kind os =
+    making kind (width_at os 0) (result_reg (result_at os)) (reg_of (source_at os 0 15)) (reg_of (source_at os 1 16))
+    ++ put_result f (result_reg (result_at os)) (result_at os)
+
+-- the result is made where it doesn't pass its width
+abbrev pub checked_items : Frame → ℕ → ℕ → Checked → List Operand → List Item
+checked_items f label mark kind os =
+    guarded (fetch_checked f kind os) (Compare (passing kind)) (width_at os 0) 0 label mark (make_checked f kind os)
+
 -- the items of an instruction that doesn't end its block, where its mark has this number
 unfoldable pub inner_items : Frame → ℕ → Bool → AirOp → List Operand → List Item
 inner_items f mark traps op.Load8Z os = load_items f mark traps op.Load8Z os
@@ -248,7 +278,7 @@ inner_items f mark traps (op.Patch size typed) os = with_mark true mark [] (brea
 inner_items f mark traps op os = plains (inst_code f op os)
 
 -- the items of an instruction of a block with these targets, before the block `next`; a Switch may use labels from
--- `label` on
+-- `label` on, and a check uses that one
 unfoldable pub inst_items : Frame → ℕ → ℕ → ℕ → List ℕ → Bool → AirOp → List Operand → List Item
 inst_items f next label mark targets traps (op.BranchIf test) os = branch_code f next targets test os
 inst_items f next label mark targets traps op.Jump os = jump_to next (get_or targets 0 0)
@@ -256,6 +286,10 @@ inst_items f next label mark targets traps (op.Switch cases) os =
     plains (fetch f 15 (arg_at os 0)) ++ switch_items (width_at os 0) (reg_of (source_at os 0 15)) next label cases targets
 inst_items f next label mark targets traps op.Return os = plains (epilogue f)
 inst_items f next label mark targets traps op.Oops os = Plain (Break 3) ∷ []
+inst_items f next label mark targets traps (op.CheckIf test) os = check_items f label mark test os
+inst_items f next label mark targets traps op.CheckAdd os = checked_items f label mark Sum os
+inst_items f next label mark targets traps op.CheckSub os = checked_items f label mark Difference os
+inst_items f next label mark targets traps op.CheckMul os = checked_items f label mark Product os
 inst_items f next label mark targets traps op os = inner_items f mark traps op os
 
 -- ---- blocks
@@ -263,6 +297,10 @@ inst_items f next label mark targets traps op os = inner_items f mark traps op o
 -- how many labels an instruction has of its own
 abbrev pub own_labels : AirOp → ℕ
 own_labels (op.Switch cases) = switch_labels cases
+own_labels (op.CheckIf test) = 1
+own_labels op.CheckAdd = 1
+own_labels op.CheckSub = 1
+own_labels op.CheckMul = 1
 own_labels _ = 0
 
 -- whether a mark stands within the items of an instruction of this kind
@@ -271,6 +309,8 @@ has_mark (Loads extent extends) traps = traps
 has_mark (Stores extent) traps = traps
 has_mark (Calls typed) traps = true
 has_mark (Patches typed) traps = true
+has_mark (Checks test) traps = true
+has_mark (ChecksResult checked) traps = true
 has_mark _ traps = false
 
 -- how many marks stand there

@@ -38,6 +38,7 @@ IsStored op os = IsReached (access_kind op (width_at os 0)) (arg_at os 1)
 abbrev pub IsFitting : AirOp → List Operand → Type 0
 IsFitting (op.SetIf test) os = IsTested test (width_at os 0) (source_at os 1 16)
 IsFitting (op.SelectIf test) os = IsTested test (width_at os 0) (source_at os 1 16)
+IsFitting (op.CheckIf test) os = IsTested test (width_at os 0) (source_at os 1 16)
 IsFitting (op.BranchIf test) os = IsTested test (width_at os 0) (source_at os 1 16)
 IsFitting op.Load8Z os = IsLoaded op.Load8Z os
 IsFitting op.Load8S os = IsLoaded op.Load8S os

@@ -10,7 +10,7 @@ use Rattle.stackmap.specs.declared.site.Rep.TheVariants as rep
 use Rattle.stackmap.specs.declared.site.Site.{Site}
 use Rattle.stackmap.specs.declared.site.SiteKind.{SiteKind}
 use Rattle.stackmap.specs.declared.site.SiteKind.TheVariants as site_kind
-use Rattle.air_ir.specs.Kinds.{Calls, Kind, Loads, Patches, Stores, kind_of}
+use Rattle.air_ir.specs.Kinds.{Calls, Checks, ChecksResult, Kind, Loads, Patches, Stores, kind_of}
 use Rattle.air_ir.specs.Operands.{is_read}
 use Rattle.air_ir.specs.SitesInPlaces.{register_at}
 use Rattle.air_ir.specs.declared.frame.Frame.{Frame}
@@ -23,7 +23,7 @@ use Rattle.air_ir.specs.declared.operand.Operand.{Operand}
 use Rattle.air_ir.specs.declared.procedure.AirBlock.{AirBlock}
 use Rattle.air_ir.specs.declared.procedure.AirInst.{AirInst}
 use Rattle.air_ir.specs.declared.procedure.AirProc.{AirProc}
-use Rattle.a64_emit.specs.Code.{result_at, width_at}
+use Rattle.a64_emit.specs.Code.{result_at, test_count, width_at}
 use Rattle.a64_code.specs.Places.{spill_offset}
 
 -- the site of an access that traps
@@ -81,6 +81,17 @@ outward_site f kind size typed from i = record {
   clobbers = with_written 0 (without_result typed i.operands);
 }
 
+-- the site of a check, whose inputs are the operands below one
+abbrev pub exit_site : Frame → ℕ → AirInst → Site
+exit_site f from i = record {
+  kind = site_kind.Exit;
+  value = i.value;
+  size = 1;
+  reps = places_read f (drop from i.operands);
+  result = None;
+  clobbers = 0;
+}
+
 abbrev pub patch_size : AirOp → ℕ
 patch_size (op.Patch size typed) = size
 patch_size _ = 0
@@ -91,6 +102,8 @@ sites_by (Loads extent extends) f i = if i.traps then trap_site i.value ∷ [] e
 sites_by (Stores extent) f i = if i.traps then trap_site i.value ∷ [] else []
 sites_by (Calls typed) f i = outward_site f site_kind.Call 1 typed 1 i ∷ []
 sites_by (Patches typed) f i = outward_site f site_kind.Patchpoint (patch_size i.op) typed 0 i ∷ []
+sites_by (Checks test) f i = exit_site f (test_count test) i ∷ []
+sites_by (ChecksResult checked) f i = exit_site f 2 i ∷ []
 sites_by _ f i = []
 
 abbrev pub inst_sites : Frame → AirInst → List Site

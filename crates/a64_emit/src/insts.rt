@@ -112,7 +112,7 @@ pub(crate) fn push_result(
 }
 
 /// The last operand.
-fn result_at(operands: &Operands) -> Arg
+pub(crate) fn result_at(operands: &Operands) -> Arg
     ensures { result ≡ result_at operands.now }
 {
     operand_at(operands, operands.len().saturating_sub(1)).arg
@@ -198,7 +198,7 @@ fn push_compute(
 }
 
 /// How many words a test takes.
-fn test_count(test: Test) -> usize
+pub(crate) fn test_count(test: Test) -> usize
     ensures value { result ≡ test_count test }
     ensures most { result ≤ 2 }
 {

@@ -3,6 +3,7 @@
 
 mod accesses;
 mod case;
+mod checks;
 #[cfg(test)]
 mod emission_tests;
 mod insts;

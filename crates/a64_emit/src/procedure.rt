@@ -113,6 +113,7 @@ fn own_labels(op: &AirOp) -> u32
 {
     match op {
         AirOp::Switch(cases) => switch_labels(cases),
+        AirOp::CheckIf(_) | AirOp::CheckAdd | AirOp::CheckSub | AirOp::CheckMul => 1,
         _ => 0,
     }
 }

@@ -3,9 +3,9 @@
 ghost use Rattle.std.specs.Prelude.{◌≡◌, ◌^◌, ◌<◌, ◌≤◌, ◌++◌, [], drop, if◌then◌else◌, length, take, IfOk, OnOk};
 ghost use Rattle.air_ir.specs.Operands.{is_read};
 ghost use Rattle.a64_emit.specs.Code.{marked_if, own_marks};
-ghost use Rattle.a64_emit.specs.Made.{and_place, HasSmallValues, HasSmallValuesIn, block_sites, inst_sites, outward_site, places_read, procedure_sites, rep_of, result_in, trap_site, with_home, with_register, with_written};
+ghost use Rattle.a64_emit.specs.Made.{and_place, exit_site, HasSmallValues, HasSmallValuesIn, block_sites, inst_sites, outward_site, places_read, procedure_sites, rep_of, result_in, trap_site, with_home, with_register, with_written};
 
-use crate::insts::operand_at;
+use crate::insts::{operand_at, test_count};
 use a64_code::spill_offset;
 use a64_inst::{Item, Labelled};
 use air_ir::{AirBlock, AirInst, AirOp, AirProc, Arg, Frame, Home, Operand, Operands, Role};
@@ -37,7 +37,12 @@ pub(crate) fn own_marks(op: &AirOp, traps: bool) -> u32
         | AirOp::Store8
         | AirOp::Store16
         | AirOp::Store => traps as u32,
-        AirOp::Call { .. } | AirOp::Patch { .. } => 1,
+        AirOp::Call { .. }
+        | AirOp::Patch { .. }
+        | AirOp::CheckIf(_)
+        | AirOp::CheckAdd
+        | AirOp::CheckSub
+        | AirOp::CheckMul => 1,
         _ => 0,
     }
 }
@@ -184,6 +189,21 @@ fn outward_site(
     })
 }
 
+/// The site of a check, whose inputs are the operands below one.
+fn exit_site(alloc: Global, frame: &Frame, from: usize, inst: &AirInst) -> Result<Site, NoMemory>
+    ensures { IfOk result (λ site. site ≡ exit_site frame.now from inst.now) }
+{
+    let reps = places_read(alloc, frame, from, &inst.operands)?;
+    Ok(Site {
+        kind: SiteKind::Exit,
+        value: inst.value,
+        size: 1,
+        reps,
+        result: None,
+        clobbers: RegSet::new(),
+    })
+}
+
 /// The sites whose marks stand within the items of an instruction.
 pub(crate) fn push_inst_sites(
     alloc: Global,
@@ -215,6 +235,14 @@ pub(crate) fn push_inst_sites(
         }
         AirOp::Patch { size, typed } => {
             let site = outward_site(alloc, frame, SiteKind::Patchpoint, *size, *typed, 0, inst)?;
+            sites.push(site)
+        }
+        AirOp::CheckIf(test) => {
+            let site = exit_site(alloc, frame, test_count(*test), inst)?;
+            sites.push(site)
+        }
+        AirOp::CheckAdd | AirOp::CheckSub | AirOp::CheckMul => {
+            let site = exit_site(alloc, frame, 2, inst)?;
             sites.push(site)
         }
         _ => Ok(()),

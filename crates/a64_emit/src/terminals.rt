@@ -7,12 +7,14 @@ ghost use Rattle.a64_emit.specs.Fitting.{IsFitting};
 ghost use Rattle.a64_code.specs.Places.{plains};
 ghost use Rattle.a64_emit.specs.Switched.{jump_to};
 
+use crate::checks::{push_check, push_checked};
 use crate::insts::{operand_at, push_fetch, push_inst, push_tested, source_at, test_at};
 use crate::switched::push_switch;
 use a64_code::{opposite, push, push_epilogue, reg_of};
 use a64_inst::{Inst, Item, Labelled};
 use air_ir::{AirInst, AirOp, Frame, Operands, Test};
 use b3_base::{Ids, NoMemory, Width};
+use b3_meaning::Checked;
 use std::alloc::Global;
 
 /// Target k of a block; 0 where there is none.
@@ -36,7 +38,7 @@ pub(crate) fn push_jump(code: &mut Labelled, next: u32, label: u32) -> Result<()
 }
 
 /// A branch to a label where a test passes, or where it doesn't.
-fn branch_item(test: Test, passes: bool, width: Width, reg: u8, label: u32) -> Item
+pub(crate) fn branch_item(test: Test, passes: bool, width: Width, reg: u8, label: u32) -> Item
     ensures { result ≡ branch_item test passes width reg label }
 {
     match test {
@@ -81,7 +83,11 @@ fn push_branches(
 }
 
 /// The comparison of a test that asks flags.
-fn push_compared(code: &mut Labelled, test: Test, operands: &Operands) -> Result<(), NoMemory>
+pub(crate) fn push_compared(
+    code: &mut Labelled,
+    test: Test,
+    operands: &Operands,
+) -> Result<(), NoMemory>
     requires { IsTested test (width_at operands.now 0) (source_at operands.now 1 16) }
     ensures { OnOk result (code.new ≡ code.old ++ plains (compared test operands.now)) }
 {
@@ -138,6 +144,19 @@ pub(crate) fn push_items(
         }
         AirOp::Return => push_epilogue(code, frame),
         AirOp::Oops => push(code, Inst::Break { imm: 3 }),
+        AirOp::CheckIf(test) => push_check(code, frame, label, mark, *test, &inst.operands),
+        AirOp::CheckAdd => push_checked(code, frame, label, mark, Checked::Sum, &inst.operands),
+        AirOp::CheckSub => {
+            push_checked(
+                code,
+                frame,
+                label,
+                mark,
+                Checked::Difference,
+                &inst.operands,
+            )
+        }
+        AirOp::CheckMul => push_checked(code, frame, label, mark, Checked::Product, &inst.operands),
         op => push_inst(code, frame, mark, inst.traps, op, &inst.operands),
     }
 }

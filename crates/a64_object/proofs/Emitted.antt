@@ -1,9 +1,7 @@
--- What is selected of a procedure without checks is emitted.
+-- What is selected is emitted.
 use Rattle.std.proofs.Common.{◌≡◌, ℕ, ◌<◌, Bool, true, false, refl, sym, ap, subst, arith, lt-ltb}
 use Rattle.std.specs.Prelude.{All}
-use Rattle.std.proofs.lemmas.List.Elements.{All-get_or}
-use Rattle.b3_ir.proofs.Numbering.{in_blocks}
-use Rattle.b3_ir.specs.Procedure.{AllFit, Block, Procedure, StandsAt as StandsIn, no_block, values_of}
+use Rattle.b3_ir.specs.Procedure.{AllFit, Procedure}
 use Rattle.b3_ir.specs.declared.opcode.Opcode.TheVariants.{Patchpoint}
 use Rattle.b3_ir.specs.declared.value.Stackmap.{Stackmap}
 use Rattle.b3_ir.specs.declared.value.Value.{Value}
@@ -20,75 +18,40 @@ use Rattle.air_ir.specs.declared.procedure.AirProc.{AirProc}
 use Rattle.air_spill.specs.Stays.{ComesFromEach}
 use Rattle.air_select.specs.Contract.{AreExpressed, IsSelected, has_stackmap, is_selected}
 use Rattle.a64_emit.specs.Built.{IsBuilt, is_built, is_built_kind}
-use Rattle.a64_object.specs.Taken.{HasNoChecks, is_check}
-use Rattle.a64_object.proofs.Lists.{all_of, one_in}
+use Rattle.a64_object.proofs.Lists.{all_of}
 use Rattle.a64_object.proofs.Placed.{inst_at}
 use Rattle.a64_object.proofs.Values.{has_size, named_in}
 
 -- ---- kinds
-abbrev checks : Kind → Bool
-checks (Checks test) = true
-checks (ChecksResult checked) = true
-checks _ = false
-
-kind_built : (k : Kind) (traps : Bool) → checks k ≡ false → is_built_kind k traps ≡ true
-kind_built Copies traps none = refl
-kind_built Computes traps none = refl
-kind_built (Loads extent extends) traps none = refl
-kind_built (Stores extent) traps none = refl
-kind_built (Calls typed) traps none = refl
-kind_built (Patches typed) traps none = refl
-kind_built SlotAddresses traps none = refl
-kind_built FramePointers traps none = refl
-kind_built (Branches test) traps none = refl
-kind_built Jumps traps none = refl
-kind_built (Switches cases) traps none = refl
-kind_built Returns traps none = refl
-kind_built Fails traps none = refl
-kind_built (Checks test) traps none = cc
-kind_built (ChecksResult checked) traps none = cc
+kind_built : (k : Kind) (traps : Bool) → is_built_kind k traps ≡ true
+kind_built Copies traps = refl
+kind_built Computes traps = refl
+kind_built (Loads extent extends) traps = refl
+kind_built (Stores extent) traps = refl
+kind_built (Checks test) traps = refl
+kind_built (ChecksResult checked) traps = refl
+kind_built (Calls typed) traps = refl
+kind_built (Patches typed) traps = refl
+kind_built SlotAddresses traps = refl
+kind_built FramePointers traps = refl
+kind_built (Branches test) traps = refl
+kind_built Jumps traps = refl
+kind_built (Switches cases) traps = refl
+kind_built Returns traps = refl
+kind_built Fails traps = refl
 
 -- a patchpoint has words
 abbrev HasWords : AirOp → Type 0
 HasWords (op.Patch size typed) = 0 < size
 HasWords _ = Unit {0}
 
-op_built : (o : AirOp) (traps : Bool) → is_selected o ≡ true → checks (kind_of o) ≡ false → HasWords o → is_built o traps ≡ true
-op_built op.Shuffle traps is none some = absurd cc
-op_built (op.Patch size typed) traps is none some = lt-ltb 0 size some
-op_built o traps is none some = kind_built (kind_of o) traps none
+op_built : (o : AirOp) (traps : Bool) → is_selected o ≡ true → HasWords o → is_built o traps ≡ true
+op_built op.Shuffle traps is some = absurd cc
+op_built (op.Patch size typed) traps is some = lt-ltb 0 size some
+op_built o traps is some = kind_built (kind_of o) traps
 
--- ---- no check
-check_of : (o : AirOp) (map : Stackmap) (v : Value) → IsOpOf map v o → checks (kind_of o) ≡ true → is_check v.kind.opcode ≡ true
-check_of (op.CheckIf test) map v is e = ap is_check is
-check_of op.CheckAdd map v is e = ap is_check is
-check_of op.CheckSub map v is e = ap is_check is
-check_of op.CheckMul map v is e = ap is_check is
-check_of _ map v is e = cc
-
-kind_mapped : (k : Kind) → checks k ≡ true → has_stackmap k ≡ true
-kind_mapped (Checks test) e = refl
-kind_mapped (ChecksResult checked) e = refl
-kind_mapped _ e = cc
-
-module _ (p : Procedure) (valid : IsValidProcedure p) (fit : AllFit p.blocks) (unchecked : HasNoChecks p) where
-  value_unchecked : (b j : ℕ) (v : Value) → StandsIn p b j v → is_check v.kind.opcode ≡ false
-  value_unchecked b j v there =
-      one_in (λ (w : Value). is_check w.kind.opcode ≡ false) (values_of p b) j v there
-      (All-get_or (λ (x : Block). All (λ (w : Value). is_check w.kind.opcode ≡ false) x.values) p.blocks b no_block (in_blocks p b j v there) unchecked)
-
-  none_checks : (q : AirProc) → AreExpressed p q → (block place : ℕ) (i : AirInst) → StandsAt q block place i → checks (kind_of i.op) ≡ false
-  none_checks q expressed block place i at = by (checks (kind_of i.op)) refl
-    where
-      by : (b : Bool) → checks (kind_of i.op) ≡ b → b ≡ false
-      by false e = refl
-      by true e =
-          let of = expressed block place i at (kind_mapped (kind_of i.op) e) in
-          let named = named_in p fit i.value of.0 of.1 in
-          let is : is_check of.0.kind.opcode ≡ true = check_of i.op of.2.stackmap of.0 of.2.op e in
-          let no : is_check of.0.kind.opcode ≡ false = value_unchecked named.block named.place of.0 named.there in
-          cc
-
+-- ---- patchpoints
+module _ (p : Procedure) (valid : IsValidProcedure p) (fit : AllFit p.blocks) where
   -- the size of a patchpoint is its value's
   words_of : (o : AirOp) (map : Stackmap) (v : Value) → IsOpOf map v o → (v.kind.opcode ≡ Patchpoint → HasSize map) → has_stackmap (kind_of o) ≡ true → HasWords o
   words_of (op.Patch size typed) map v is sized e = let most = sized is.0 in omega (arith, is.1, most.0)
@@ -116,5 +79,4 @@ module _ (p : Procedure) (valid : IsValidProcedure p) (fit : AllFit p.blocks) (u
       let from = comes n k j (record { of = block; block_there = block_there; inst_there = inst_there }) in
       let i : AirInst = from.1 in
       let is = inst_at (λ (x : AirInst). is_selected x.op ≡ true) q n from.0 i selected from.2 in
-      subst (λ o. is_built o j.traps ≡ true) (sym from.3.op) (op_built i.op j.traps is (none_checks q expressed n from.0 i from.2)
-      (inst_words q expressed n from.0 i from.2))))
+      subst (λ o. is_built o j.traps ≡ true) (sym from.3.op) (op_built i.op j.traps is (inst_words q expressed n from.0 i from.2))))

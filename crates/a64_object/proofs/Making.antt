@@ -17,7 +17,6 @@ use Rattle.b3_ir.specs.declared.procedure.SlotLine.{SlotLine}
 use Rattle.b3_ir.specs.declared.value.Value.{Value}
 use Rattle.b3_rules.specs.Valid.{IsValidProcedure, SlotAt}
 use Rattle.b3_rules.specs.declared.rule.Rule.TheVariants as rule
-use Rattle.b3_supported.specs.Forms.{HasCode, opcode_has_code}
 use Rattle.b3_supported.specs.Supported.{IsSupported}
 use Rattle.stackmap.specs.declared.site.SavedRow.{SavedRow}
 use Rattle.stackmap.specs.declared.site.SlotRow.{SlotRow}
@@ -30,7 +29,7 @@ use Rattle.air_frame.specs.Needs.{callee_saved, spill_count, writes}
 use Rattle.a64_run.specs.Agrees.{child_count}
 use Rattle.air_select.specs.Contract.{IsWithinLimits, procedure_at}
 use Rattle.a64_object.specs.Made.{IsMadeOf, IsPlacedOf}
-use Rattle.a64_object.specs.Taken.{HasFewSlots, IsTaken, bytes_in, is_check}
+use Rattle.a64_object.specs.Taken.{HasFewSlots, IsTaken, bytes_in}
 use Rattle.a64_object.proofs.Agreeing.{rows_length, ten_saved}
 use Rattle.a64_layout.proofs.Words.{words_length}
 use Rattle.air_fold.proofs.Places.{take_item}
@@ -38,27 +37,6 @@ use Rattle.air_spill.proofs.Members.{all_left, all_right}
 use Rattle.a64_object.proofs.Lists.{all_of}
 
 -- ---- what is supported is taken
-code_unchecked : (op : Opcode) → opcode_has_code op ≡ true → is_check op ≡ false
-code_unchecked opcode.Check e = cc
-code_unchecked opcode.CheckAdd e = cc
-code_unchecked opcode.CheckSub e = cc
-code_unchecked opcode.CheckMul e = cc
-code_unchecked _ e = refl
-
-value_unchecked : (v : Value) → HasCode v → is_check v.kind.opcode ≡ false
-value_unchecked v has = code_unchecked v.kind.opcode has
-
--- what holds of each value that has code holds of all, block by block
-module _ (P : Value → Type 0) (each : (v : Value) → HasCode v → P v) where
-  in_blocks : (blocks : List Block) → All HasCode (flat_map (λ (b : Block). b.values) blocks) → All (λ (b : Block). All P b.values) blocks
-  in_blocks [] all = All-nil _
-  in_blocks (b ∷ blocks) all =
-      let rest = flat_map (λ (x : Block). x.values) blocks in
-      let parts : All HasCode (b.values ++ rest) = subst (All HasCode) (flat_map-cons (λ (x : Block). x.values) b blocks) all in
-      All-cons (λ (x : Block). All P x.values) b blocks
-      (All-weaker HasCode P each b.values (all_left HasCode b.values rest parts))
-      (in_blocks blocks (all_right HasCode b.values rest parts))
-
 sizes_of : (p : Procedure) → IsValidProcedure p → All (λ (slot : SlotLine). 1 ≤ slot.bytes) p.slots
 sizes_of p valid = all_of (λ (slot : SlotLine). 1 ≤ slot.bytes) p.slots
     (λ k slot there. let keeps : (slot.number ≡ k) × (0 < slot.bytes) = valid rule.Slots (SlotAt k slot) there in omega (arith, keeps.1))
@@ -67,7 +45,6 @@ pub taken : (p : Procedure) → IsSupported p → IsWithinLimits p → HasFewSlo
 taken p is limits slots = record {
   valid = is.valid;
   fit = is.fit;
-  unchecked = in_blocks (λ (v : Value). is_check v.kind.opcode ≡ false) value_unchecked p.blocks is.forms.values;
   sizes = sizes_of p is.valid;
   limits = limits;
   slots = slots;

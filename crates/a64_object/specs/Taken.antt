@@ -1,10 +1,7 @@
--- The procedures that are taken: valid ones without checks, within the limits.
-use Rattle.std.specs.Prelude.{◌≡◌, ℕ, ◌≤◌, Bool, false, true, List, All, length, sum_by}
-use Rattle.b3_ir.specs.Procedure.{AllFit, Block, Procedure, total}
-use Rattle.b3_ir.specs.declared.opcode.Opcode.{Opcode}
-use Rattle.b3_ir.specs.declared.opcode.Opcode.TheVariants as opcode
+-- The procedures that are taken: valid ones within the limits.
+use Rattle.std.specs.Prelude.{ℕ, ◌≤◌, List, All, length, sum_by}
+use Rattle.b3_ir.specs.Procedure.{AllFit, Procedure, total}
 use Rattle.b3_ir.specs.declared.procedure.SlotLine.{SlotLine}
-use Rattle.b3_ir.specs.declared.value.Value.{Value}
 use Rattle.b3_rules.specs.Valid.{IsValidProcedure}
 use Rattle.a64_run.specs.Agrees.{child_count}
 use Rattle.air_select.specs.Contract.{IsWithinLimits}
@@ -17,21 +14,9 @@ pub record HasFewSlots (p : Procedure) : Type 0 where
   pub slots : length p.slots ≤ 4096
   pub bytes : sum_by bytes_in p.slots ≤ 65536
 
--- no value is a check: none is emitted yet
-abbrev pub is_check : Opcode → Bool
-is_check opcode.Check = true
-is_check opcode.CheckAdd = true
-is_check opcode.CheckSub = true
-is_check opcode.CheckMul = true
-is_check _ = false
-
-abbrev pub HasNoChecks : Procedure → Type 0
-HasNoChecks p = All (λ (b : Block). All (λ (v : Value). is_check v.kind.opcode ≡ false) b.values) p.blocks
-
 pub record IsTaken (p : Procedure) : Type 0 where
   pub valid : IsValidProcedure p
   pub fit : AllFit p.blocks
-  pub unchecked : HasNoChecks p
   pub sizes : All (λ (slot : SlotLine). 1 ≤ slot.bytes) p.slots
   pub limits : IsWithinLimits p
   pub slots : HasFewSlots p

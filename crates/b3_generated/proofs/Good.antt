@@ -21,8 +21,7 @@ use Rattle.b3_module.specs.TextModules.{IsTextModule, IsTextProcedure}
 use Rattle.b3_module.specs.Texts.{Spells}
 use Rattle.b3_print.specs.Printed.{canonical}
 use Rattle.b3_rules.specs.Valid.{IsValid, IsValidProcedure}
-use Rattle.b3_supported.specs.Faults.{HaveForms}
-use Rattle.b3_supported.specs.Forms.{HasCode, HasForms}
+use Rattle.b3_supported.specs.Faults.{HaveNames}
 use Rattle.b3_supported.proofs.Telling.{supported}
 use Rattle.b3_trial.specs.Generated.{drawn, next_state, state_behind}
 use Rattle.b3_generated.specs.Laws.{IsGoodText}
@@ -58,21 +57,6 @@ fits = by_form (λ i v. Fits v) (record {
   returned = λ line. record { body = tt; chill = refl; traps = refl };
 })
 
-coded : (i : ℕ) (v : Value) → Form i v → HasCode v
-coded = by_form (λ i v. HasCode v) (record {
-  arguments = λ line i low. refl;
-  constants = λ line i word low high small. refl;
-  first = λ line. refl;
-  jump = λ line. refl;
-  phi = λ line. refl;
-  operations = λ line i number x y low high first second.
-      by_opcode (λ (o : Opcode). HasCode (value_on line Int64 i o (x ∷ y ∷ []) Plain)) refl refl refl refl refl refl number;
-  next = λ line. refl;
-  less = λ line. refl;
-  branch = λ line. refl;
-  returned = λ line. refl;
-})
-
 few_operands : (i : ℕ) (v : Value) → Form i v → operands v ≤ 2
 few_operands = by_form (λ i v. operands v ≤ 2) (record {
   arguments = λ line i low. omega arith;
@@ -93,7 +77,6 @@ record IsGood (k : ℕ) (p : Procedure) : Type 0 where
   pub name : p.name ≡ codes "g" ++ decimal k
   pub valid : IsValidProcedure p
   pub fit : AllFit p.blocks
-  pub forms : HasForms p
   pub parts : HasParts p
   pub values : total p ≡ 517
 
@@ -115,9 +98,6 @@ module _ (name : List ℕ) (line la lb lc : ℕ) (first second third : List Valu
       All-cons P (block_on 0 la first) (block_on 1 lb second ∷ block_on 2 lc third ∷ []) (all_of Fits fits 0 first is.first_forms)
       (All-cons P (block_on 1 lb second) (block_on 2 lc third ∷ []) (all_of Fits fits 12 second is.second_forms)
       (All-cons P (block_on 2 lc third) [] (all_of Fits fits 516 third is.third_forms) (All-nil P)))
-
-  made_forms : HasForms p
-  made_forms = record { values = all_of HasCode coded 0 (all_values p) (all_forms name line la lb lc first second third is) }
 
   made_parts : HasParts p
   made_parts =
@@ -160,7 +140,6 @@ one_good line state k =
       name = refl;
       valid = valid_procedure name line la lb lc first second third is;
       fit = made_fit name line la lb lc first second third is;
-      forms = made_forms name line la lb lc first second third is;
       parts = made_parts name line la lb lc first second third is;
       values = made_total name line la lb lc first second third is;
     }
@@ -225,11 +204,10 @@ module _ (n : ℕ) where
   at_index : (k : ℕ) (d : Procedure) → k < length ps → (k < 16) × IsGood k (slice_index_or ps k d)
   at_index k d lt = good k (slice_index_or ps k d) (slice_get-get_or ps k d lt)
 
-  have : HaveForms ps
+  have : HaveNames ps
   have = record {
     few = omega (arith, as_many);
     names = λ k d lt. let g = at_index k d lt in subst IsName (sym g.1.name) (name_good k (omega (arith, g.0)));
-    each = λ k d lt. (at_index k d lt).1.forms;
   }
 
   listed : IsTextModule (module_of n)

@@ -1,4 +1,4 @@
--- The function that computes gives the least line on which a part is odd.
+-- The function that computes gives the least line on which a header is odd.
 use Rattle.std.proofs.Common.{◌≡◌, ◌≢◌, ℕ, zero, suc, ◌+◌, ◌-◌, ◌<◌, ◌≤◌, ◌⊎◌, inl, inr, Bool, true, false, ◌&&◌, not, List, [], ◌∷◌, ◌++◌, Option, Some, None, length, refl, sym, ap, ◌∙◌, subst, arith, nat_eq, eq-eqb, ⊎_elim}
 use Rattle.std.specs.Prelude.{min, nat_le, slice_get}
 use Rattle.std.specs.List.{flat_map, list_all}
@@ -7,9 +7,8 @@ use Rattle.std.proofs.lemmas.Bool.Decides.{eqb_tells, nat_tests}
 use Rattle.b3_ir.specs.Names.{IsName, begins_name, may_stand_in_name}
 use Rattle.b3_ir.specs.Procedure.{Block, Procedure}
 use Rattle.b3_ir.specs.declared.value.Value.{Value}
-use Rattle.b3_supported.specs.Forms.{has_code}
-use Rattle.b3_supported.specs.Lines.{blocks_line, header_line, is_name, lesser, module_line, procedure_line, unless, value_line, values_line}
-use Rattle.b3_supported.specs.Faults.{IsOdd, IsOddHeader, IsOddIn, IsOddValue}
+use Rattle.b3_supported.specs.Lines.{header_line, is_name, lesser, module_line, unless}
+use Rattle.b3_supported.specs.Faults.{IsOdd, IsOddHeader}
 
 -- ---- the least line of which something holds
 
@@ -60,137 +59,44 @@ name_passes name h =
     let short : nat_le (length name) 255 ≡ true = grind (arith, nat_tests, h.short) in
     rw (short, h.begin, h.all) refl
 
--- ---- values
-
-abbrev OddHere : Value → ℕ → Type 0
-OddHere v line = (v.line ≡ line) × (has_code v.kind ≡ false)
-
--- a value that is odd stands among some
-record OddAmong (vs : List Value) (line : ℕ) : Type 0 where
-  pub place : ℕ
-  pub value : Value
-  pub there : slice_get vs place ≡ Some value
-  pub on_line : value.line ≡ line
-  pub odd : has_code value.kind ≡ false
-
-value_least : (v : Value) → IsLeast (OddHere v) (value_line v)
-value_least v = one_least (has_code v.kind) v.line (has_code v.kind ≡ false) (λ good bad. cc) (λ bad. bad)
-
-among_first : (v : Value) (vs : List Value) (line : ℕ) → OddHere v line ⊎ OddAmong vs line → OddAmong (v ∷ vs) line
-among_first v vs line h =
-    ⊎_elim
-    (λ (here : OddHere v line). record { place = 0; value = v; there = refl; on_line = here.0; odd = here.1 })
-    (λ (more : OddAmong vs line). record { place = suc more.place; value = more.value; there = more.there; on_line = more.on_line; odd = more.odd }) h
-
-among_split : (v : Value) (vs : List Value) (line place : ℕ) (w : Value) → slice_get (v ∷ vs) place ≡ Some w → w.line ≡ line → has_code w.kind ≡ false → OddHere v line ⊎ OddAmong vs line
-among_split v vs line zero w there on odd = let same : w ≡ v = cc in inl (subst (λ (x : Value). OddHere x line) same (on, odd))
-among_split v vs line (suc place) w there on odd = inr (record { place = place; value = w; there = there; on_line = on; odd = odd })
-
-values_least : (vs : List Value) → IsLeast (OddAmong vs) (values_line vs)
-unfolding values_line
-values_least [] = λ line odd. let e : slice_get [] odd.place ≡ Some odd.value = odd.there in cc
-values_least (v ∷ vs) =
-    least_as (λ line. OddHere v line ⊎ OddAmong vs line) (OddAmong (v ∷ vs)) (lesser (value_line v) (values_line vs))
-    (among_first v vs) (λ line h. among_split v vs line h.place h.value h.there h.on_line h.odd)
-    (lesser_least (OddHere v) (OddAmong vs) (value_line v) (values_line vs) (value_least v) (values_least vs))
-
--- ---- values of several blocks
-
-get_front : {X : Type 0} (a b : List X) (n : ℕ) (x : X) → slice_get a n ≡ Some x → slice_get (a ++ b) n ≡ Some x
-get_front [] b n x e = cc
-get_front (y ∷ a) b zero x e = e
-get_front (y ∷ a) b (suc n) x e = get_front a b n x e
-
-get_behind : {X : Type 0} (a b : List X) (n : ℕ) → slice_get (a ++ b) (length a + n) ≡ slice_get b n
-get_behind [] b n = ap (slice_get b) (omega arith)
-get_behind (x ∷ a) b n = let e : length (x ∷ a) + n ≡ suc (length a + n) = omega arith in ap (slice_get (x ∷ (a ++ b))) e ∙ get_behind a b n
-
-get_within : {X : Type 0} (a b : List X) (n : ℕ) (x : X) → n < length a → slice_get (a ++ b) n ≡ Some x → slice_get a n ≡ Some x
-get_within [] b n x lt e = absurd (omega arith)
-get_within (y ∷ a) b zero x lt e = e
-get_within (y ∷ a) b (suc n) x lt e = get_within a b n x (omega arith) e
-
-among_both : (a b : List Value) (line : ℕ) → OddAmong a line ⊎ OddAmong b line → OddAmong (a ++ b) line
-among_both a b line h =
-    ⊎_elim
-    (λ (one : OddAmong a line). record { place = one.place; value = one.value; there = get_front a b one.place one.value one.there; on_line = one.on_line; odd = one.odd })
-    (λ (one : OddAmong b line). record { place = length a + one.place; value = one.value; there = get_behind a b one.place ∙ one.there; on_line = one.on_line; odd = one.odd }) h
-
-among_either : (a b : List Value) (line : ℕ) → OddAmong (a ++ b) line → OddAmong a line ⊎ OddAmong b line
-among_either a b line one =
-    elim (cases_lt one.place (length a)) [
-      | inl less ↦ inl (record { place = one.place; value = one.value; there = get_within a b one.place one.value less one.there; on_line = one.on_line; odd = one.odd })
-      | inr past ↦
-          let m : ℕ = one.place - length a in
-          let split : length a + m ≡ one.place = omega arith in
-          inr (record { place = m; value = one.value; there = sym (get_behind a b m) ∙ ap (slice_get (a ++ b)) split ∙ one.there; on_line = one.on_line; odd = one.odd })
-    ]
-
-abbrev row_of : List Block → List Value
-row_of blocks = flat_map (λ (b : Block). b.values) blocks
-
-blocks_least : (blocks : List Block) → IsLeast (OddAmong (row_of blocks)) (blocks_line blocks)
-unfolding blocks_line
-blocks_least [] = λ line odd. let e : slice_get [] odd.place ≡ Some odd.value = odd.there in cc
-blocks_least (x ∷ blocks) =
-    least_as (λ line. OddAmong x.values line ⊎ OddAmong (row_of blocks) line) (OddAmong (row_of (x ∷ blocks))) (lesser (values_line x.values) (blocks_line blocks))
-    (among_both x.values (row_of blocks)) (among_either x.values (row_of blocks))
-    (lesser_least (OddAmong x.values) (OddAmong (row_of blocks)) (values_line x.values) (blocks_line blocks) (values_least x.values) (blocks_least blocks))
-
 -- ---- procedures
 
 header_least : (k : ℕ) (p : Procedure) → IsLeast (λ line. (p.line ≡ line) × (¬ (IsName p.name) ⊎ (k ≡ 256))) (header_line k p)
 header_least k p = one_least (is_name p.name && not (nat_eq k 256)) p.line (¬ (IsName p.name) ⊎ (k ≡ 256)) (passes (is_name p.name) (IsName p.name) k 256 (name_tested p.name)) (fails (is_name p.name) (IsName p.name) k 256 (name_passes p.name))
 
-abbrev OddPieces : ℕ → Procedure → ℕ → Type 0
-OddPieces k p line = ((p.line ≡ line) × (¬ (IsName p.name) ⊎ (k ≡ 256))) ⊎ OddAmong (row_of p.blocks) line
-
-pieces_join : (k : ℕ) (p : Procedure) (line : ℕ) → OddPieces k p line → IsOddIn k p line
-pieces_join k p line h =
-    ⊎_elim
-    (λ (here : (p.line ≡ line) × (¬ (IsName p.name) ⊎ (k ≡ 256))). inl (record { on_line = here.0; odd = here.1 }))
-    (λ (one : OddAmong (row_of p.blocks) line). inr (record { place = one.place; value = one.value; there = one.there; on_line = one.on_line; odd = one.odd })) h
-
-pieces_split : (k : ℕ) (p : Procedure) (line : ℕ) → IsOddIn k p line → OddPieces k p line
-pieces_split k p line h =
-    ⊎_elim
-    (λ (here : IsOddHeader k p line). inl (here.on_line, here.odd))
-    (λ (one : IsOddValue p line). inr (record { place = one.place; value = one.value; there = one.there; on_line = one.on_line; odd = one.odd })) h
-
-procedure_least : (k : ℕ) (p : Procedure) → IsLeast (IsOddIn k p) (procedure_line k p)
-unfolding procedure_line
-procedure_least k p =
-    least_as (OddPieces k p) (IsOddIn k p) (lesser (header_line k p) (blocks_line p.blocks)) (pieces_join k p) (pieces_split k p)
-    (lesser_least (λ line. (p.line ≡ line) × (¬ (IsName p.name) ⊎ (k ≡ 256))) (OddAmong (row_of p.blocks)) (header_line k p) (blocks_line p.blocks) (header_least k p) (blocks_least p.blocks))
+header_is : (k : ℕ) (p : Procedure) → IsLeast (IsOddHeader k p) (header_line k p)
+header_is k p =
+    least_as (λ line. (p.line ≡ line) × (¬ (IsName p.name) ⊎ (k ≡ 256))) (IsOddHeader k p) (header_line k p)
+    (λ line h. record { on_line = h.0; odd = h.1 }) (λ line h. (h.on_line, h.odd)) (header_least k p)
 
 -- ---- modules
 
--- an odd part of one of some procedures, the first of which is procedure k
+-- an odd header of one of some procedures, the first of which is procedure k
 record OddFrom (k : ℕ) (ps : List Procedure) (line : ℕ) : Type 0 where
   pub place : ℕ
   pub procedure : Procedure
   pub there : slice_get ps place ≡ Some procedure
-  pub part : IsOddIn (k + place) procedure line
+  pub part : IsOddHeader (k + place) procedure line
 
-part_at : (m n : ℕ) (p : Procedure) (line : ℕ) → m ≡ n → IsOddIn m p line → IsOddIn n p line
-part_at m n p line e part = subst (λ i. IsOddIn i p line) e part
+part_at : (m n : ℕ) (p : Procedure) (line : ℕ) → m ≡ n → IsOddHeader m p line → IsOddHeader n p line
+part_at m n p line e part = subst (λ i. IsOddHeader i p line) e part
 
-from_join : (k : ℕ) (p : Procedure) (ps : List Procedure) (line : ℕ) → IsOddIn k p line ⊎ OddFrom (k + 1) ps line → OddFrom k (p ∷ ps) line
+from_join : (k : ℕ) (p : Procedure) (ps : List Procedure) (line : ℕ) → IsOddHeader k p line ⊎ OddFrom (k + 1) ps line → OddFrom k (p ∷ ps) line
 from_join k p ps line h =
     ⊎_elim
-    (λ (here : IsOddIn k p line). record { place = 0; procedure = p; there = refl; part = part_at k (k + 0) p line (omega arith) here })
+    (λ (here : IsOddHeader k p line). record { place = 0; procedure = p; there = refl; part = part_at k (k + 0) p line (omega arith) here })
     (λ (more : OddFrom (k + 1) ps line). record { place = suc more.place; procedure = more.procedure; there = more.there; part = part_at (k + 1 + more.place) (k + suc more.place) more.procedure line (omega arith) more.part }) h
 
-from_split : (k : ℕ) (p : Procedure) (ps : List Procedure) (line place : ℕ) (q : Procedure) → slice_get (p ∷ ps) place ≡ Some q → IsOddIn (k + place) q line → IsOddIn k p line ⊎ OddFrom (k + 1) ps line
-from_split k p ps line zero q there part = let same : q ≡ p = cc in inl (subst (λ (x : Procedure). IsOddIn k x line) same (part_at (k + 0) k q line (omega arith) part))
+from_split : (k : ℕ) (p : Procedure) (ps : List Procedure) (line place : ℕ) (q : Procedure) → slice_get (p ∷ ps) place ≡ Some q → IsOddHeader (k + place) q line → IsOddHeader k p line ⊎ OddFrom (k + 1) ps line
+from_split k p ps line zero q there part = let same : q ≡ p = cc in inl (subst (λ (x : Procedure). IsOddHeader k x line) same (part_at (k + 0) k q line (omega arith) part))
 from_split k p ps line (suc place) q there part = inr (record { place = place; procedure = q; there = there; part = part_at (k + suc place) (k + 1 + place) q line (omega arith) part })
 
 from_least : (k : ℕ) (ps : List Procedure) → IsLeast (OddFrom k ps) (module_line k ps)
 unfolding module_line
 from_least k [] = λ line odd. let e : slice_get [] odd.place ≡ Some odd.procedure = odd.there in cc
 from_least k (p ∷ ps) =
-    least_as (λ line. IsOddIn k p line ⊎ OddFrom (k + 1) ps line) (OddFrom k (p ∷ ps)) (lesser (procedure_line k p) (module_line (k + 1) ps)) (from_join k p ps) (λ line h. from_split k p ps line h.place h.procedure h.there h.part)
-    (lesser_least (IsOddIn k p) (OddFrom (k + 1) ps) (procedure_line k p) (module_line (k + 1) ps) (procedure_least k p) (from_least (k + 1) ps))
+    least_as (λ line. IsOddHeader k p line ⊎ OddFrom (k + 1) ps line) (OddFrom k (p ∷ ps)) (lesser (header_line k p) (module_line (k + 1) ps)) (from_join k p ps) (λ line h. from_split k p ps line h.place h.procedure h.there h.part)
+    (lesser_least (IsOddHeader k p) (OddFrom (k + 1) ps) (header_line k p) (module_line (k + 1) ps) (header_is k p) (from_least (k + 1) ps))
 
 pub module_least : (ps : List Procedure) → IsLeast (IsOdd ps) (module_line 0 ps)
 module_least ps =

@@ -2,9 +2,8 @@
 use Rattle.std.proofs.Common.{◌≡◌, ℕ, suc, ◌+◌, ◌<◌, List, [], ◌∷◌, length, drop, Option, Some, None, refl, sym, ap, ◌∙◌, arith}
 use Rattle.std.specs.Prelude.{slice_index_or}
 use Rattle.std.proofs.Math.Seq.{drop-cons}
-use Rattle.b3_ir.specs.Procedure.{Block, Procedure}
-use Rattle.b3_ir.specs.declared.value.Value.{Value}
-use Rattle.b3_supported.specs.Lines.{blocks_line, lesser, module_line, procedure_line, value_line, values_line}
+use Rattle.b3_ir.specs.Procedure.{Procedure}
+use Rattle.b3_supported.specs.Lines.{header_line, lesser, module_line}
 
 pub lesser_assoc : (a b c : Option ℕ) → lesser (lesser a b) c ≡ lesser a (lesser b c)
 lesser_assoc None b c = refl
@@ -27,25 +26,9 @@ dropped xs at d lt = drop-cons xs at d lt ∙ ap (λ n. slice_index_or xs at d �
     next : (n : ℕ) → suc n ≡ n + 1
     next n = omega arith
 
-pub values_step : (vs rest : List Value) (v : Value) → vs ≡ v ∷ rest → values_line vs ≡ lesser (value_line v) (values_line rest)
-unfolding values_line
-values_step vs rest v is = ap values_line is
-
-pub blocks_step : (blocks rest : List Block) (block : Block) → blocks ≡ block ∷ rest → blocks_line blocks ≡ lesser (values_line block.values) (blocks_line rest)
-unfolding blocks_line
-blocks_step blocks rest block is = ap blocks_line is
-
-pub module_step : (k : ℕ) (ps rest : List Procedure) (p : Procedure) → ps ≡ p ∷ rest → module_line k ps ≡ lesser (procedure_line k p) (module_line (k + 1) rest)
+pub module_step : (k : ℕ) (ps rest : List Procedure) (p : Procedure) → ps ≡ p ∷ rest → module_line k ps ≡ lesser (header_line k p) (module_line (k + 1) rest)
 unfolding module_line
 module_step k ps rest p is = ap (module_line k) is
-
-pub values_end : (vs : List Value) → vs ≡ [] → values_line vs ≡ None
-unfolding values_line
-values_end vs is = ap values_line is
-
-pub blocks_end : (blocks : List Block) → blocks ≡ [] → blocks_line blocks ≡ None
-unfolding blocks_line
-blocks_end blocks is = ap blocks_line is
 
 pub module_end : (k : ℕ) (ps : List Procedure) → ps ≡ [] → module_line k ps ≡ None
 unfolding module_line

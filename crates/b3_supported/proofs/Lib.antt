@@ -1,4 +1,3 @@
 pub mod Lesser
-pub mod Walks
 pub mod Least
 pub mod Telling

@@ -7,13 +7,10 @@ use Rattle.std.proofs.lemmas.List.{length-map}
 use Rattle.std.proofs.lemmas.List.Elements.{All-get_or, All-weaker}
 use Rattle.std.proofs.lemmas.Option.{get_or_from_slice_get, slice_get-get_or, slice_get-map, slice_get_within}
 use Rattle.b3_ir.specs.Names.{IsName}
-use Rattle.b3_ir.specs.Naming.{all_values}
 use Rattle.b3_ir.specs.Procedure.{AllFit, Procedure}
-use Rattle.b3_ir.specs.declared.value.Value.{Value}
 use Rattle.b3_rules.specs.Valid.{IsValid}
-use Rattle.b3_supported.specs.Forms.{HasCode, HasForms, has_code}
 use Rattle.b3_supported.specs.Lines.{is_name}
-use Rattle.b3_supported.specs.Faults.{HaveForms, IsFaultLine, IsOdd, IsOddHeader, IsOddValue}
+use Rattle.b3_supported.specs.Faults.{HaveNames, IsFaultLine, IsOdd}
 use Rattle.b3_supported.specs.Supported.{AreSupported, IsSupported, names_of}
 use Rattle.b3_supported.proofs.Least.{IsLeast, name_passes, name_tested}
 
@@ -25,7 +22,7 @@ get_some (x ∷ xs) (suc k) lt = get_some xs k (omega arith)
 all_at : {X : Type 0} (P : X → Type 0) (xs : List X) (k : ℕ) (x : X) → All P xs → slice_get xs k ≡ Some x → P x
 all_at P xs k x all there = subst P (get_or_from_slice_get xs k x x there) (All-get_or P xs k x (slice_get_within xs k x there) all)
 
--- ---- where no part is odd, all have forms
+-- ---- where no header is odd, all have names
 module _ (ps : List Procedure) (none : (line : ℕ) → ¬ (IsOdd ps line)) where
   module _ (k : ℕ) (p : Procedure) (there : slice_get ps k ≡ Some p) where
     name_at : IsName p.name
@@ -33,50 +30,33 @@ module _ (ps : List Procedure) (none : (line : ℕ) → ¬ (IsOdd ps line)) wher
       where
         by : (b : Bool) → is_name p.name ≡ b → IsName p.name
         by true e = name_tested p.name e
-        by false e = absurd (none p.line (record { place = k; procedure = p; there = there; part = inl (record { on_line = refl; odd = inl (λ name. let bad : false ≡ true = sym e ∙ name_passes p.name name in cc) }) }))
-
-    code_at : (i : ℕ) (v : Value) → slice_get (all_values p) i ≡ Some v → HasCode v
-    code_at i v at = by (has_code v.kind) refl
-      where
-        by : (b : Bool) → has_code v.kind ≡ b → HasCode v
-        by true e = e
-        by false e =
-            absurd (none v.line (record { place = k; procedure = p; there = there; part = inr (record { place = i; value = v; there = at; on_line = refl; odd = e }) }))
-
-    forms_at : HasForms p
-    forms_at = record { values = λ i d lt. code_at i (slice_index_or (all_values p) i d) (slice_get-get_or (all_values p) i d lt) }
+        by false e = absurd (none p.line (record { place = k; procedure = p; there = there; part = record { on_line = refl; odd = inl (λ name. let bad : false ≡ true = sym e ∙ name_passes p.name name in cc) } }))
 
   few_procedures : length ps ≤ 256
   few_procedures =
       elim (cases_lt 256 (length ps)) [
         | inl less ↦
             let p = get_some ps 256 less in
-            absurd (none p.0.line (record { place = 256; procedure = p.0; there = p.1; part = inl (record { on_line = refl; odd = inr refl }) }))
+            absurd (none p.0.line (record { place = 256; procedure = p.0; there = p.1; part = record { on_line = refl; odd = inr refl } }))
         | inr back ↦ back
       ]
 
-  pub have_forms : HaveForms ps
-  have_forms = record {
+  pub have_names : HaveNames ps
+  have_names = record {
     few = few_procedures;
     names = λ k d lt. name_at k (slice_index_or ps k d) (slice_get-get_or ps k d lt);
-    each = λ k d lt. forms_at k (slice_index_or ps k d) (slice_get-get_or ps k d lt);
   }
 
--- ---- where all have forms, no part is odd
-pub none_odd : (ps : List Procedure) → HaveForms ps → (line : ℕ) → ¬ (IsOdd ps line)
+-- ---- where all have names, no header is odd
+pub none_odd : (ps : List Procedure) → HaveNames ps → (line : ℕ) → ¬ (IsOdd ps line)
 none_odd ps have line odd =
-    let p = odd.procedure in
-    let forms : HasForms p = all_at HasForms ps odd.place p have.each odd.there in
     ⊎_elim
-    (λ (header : IsOddHeader odd.place p line). ⊎_elim
-    (λ (no : ¬ (IsName p.name)). no (all_at (λ (q : Procedure). IsName q.name) ps odd.place p have.names odd.there))
-    (λ (last : odd.place ≡ 256). omega (arith, have.few, slice_get_within ps odd.place p odd.there)) header.odd)
-    (λ (one : IsOddValue p line). let good : has_code one.value.kind ≡ true = all_at HasCode (all_values p) one.place one.value forms.values one.there in
-    let odd : has_code one.value.kind ≡ false = one.odd in cc) odd.part
+    (λ (no : ¬ (IsName odd.procedure.name)). no (all_at (λ (q : Procedure). IsName q.name) ps odd.place odd.procedure have.names odd.there))
+    (λ (last : odd.place ≡ 256). omega (arith, have.few, slice_get_within ps odd.place odd.procedure odd.there)) odd.part.odd
 
 -- ---- what the answer tells
-pub none_tells : (ps : List Procedure) (o : Option ℕ) → IsLeast (IsOdd ps) o → (o ≡ None) ↔ HaveForms ps
-none_tells ps None least = ((λ e. have_forms ps least), λ have. refl)
+pub none_tells : (ps : List Procedure) (o : Option ℕ) → IsLeast (IsOdd ps) o → (o ≡ None) ↔ HaveNames ps
+none_tells ps None least = ((λ e. have_names ps least), λ have. refl)
 none_tells ps (Some line) least = ((λ e. cc), λ have. absurd (none_odd ps have line least.0))
 
 same_line : (a b : ℕ) → Some a ≡ Some b → a ≡ b
@@ -89,15 +69,14 @@ some_tells ps (Some m) least line = (
   λ fault. let le = least.1 line fault.odd in let ge = fault.first m least.0 in ap Some (omega arith),
 )
 
--- ---- valid procedures that have forms are supported
-pub supported : (ps : List Procedure) → IsValid ps → All (λ (p : Procedure). AllFit p.blocks) ps → HaveForms ps → AreSupported ps
+-- ---- valid procedures with names are supported
+pub supported : (ps : List Procedure) → IsValid ps → All (λ (p : Procedure). AllFit p.blocks) ps → HaveNames ps → AreSupported ps
 supported ps valid fit have = record {
   few = have.few;
   each = λ k d lt. record {
     name = have.names k d lt;
     valid = valid.each k (slice_index_or ps k d) (slice_get-get_or ps k d lt);
     fit = fit k d lt;
-    forms = have.each k d lt;
   };
   distinct = λ i j d less lt.
       let within : j < length ps = omega (arith, length-map ps (λ (p : Procedure). p.name)) in
@@ -109,12 +88,11 @@ supported ps valid fit have = record {
     its_name : (qs : List Procedure) (k : ℕ) (d : List ℕ) (p : Procedure) → slice_get qs k ≡ Some p → slice_index_or (names_of qs) k d ≡ p.name
     its_name qs k d p there = get_or_from_slice_get (names_of qs) k p.name d (slice_get-map (λ (q : Procedure). q.name) qs k ∙ ap (option_map (λ (q : Procedure). q.name)) there)
 
--- and supported ones have forms
-supported_have : (ps : List Procedure) → AreSupported ps → HaveForms ps
+-- and supported ones have them
+supported_have : (ps : List Procedure) → AreSupported ps → HaveNames ps
 supported_have ps all = record {
   few = all.few;
   names = All-weaker IsSupported (λ (p : Procedure). IsName p.name) (λ p is. is.name) ps all.each;
-  each = All-weaker IsSupported HasForms (λ p is. is.forms) ps all.each;
 }
 
 pub refused : (ps : List Procedure) (o : Option ℕ) → IsLeast (IsOdd ps) o → IfSome o (λ _. ¬ (AreSupported ps))

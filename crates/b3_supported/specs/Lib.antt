@@ -1,4 +1,3 @@
-pub mod Forms
 pub mod Supported
 pub mod Faults
 pub mod Lines

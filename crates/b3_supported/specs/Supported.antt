@@ -1,16 +1,14 @@
--- The procedures that are supported: valid ones that have the forms.
+-- The procedures that are supported: valid ones with names.
 use Rattle.std.specs.Prelude.{◌≢◌, ℕ, ◌≤◌, List, All, AllPairs, length, map}
 use Rattle.b3_ir.specs.Names.{IsName}
 use Rattle.b3_ir.specs.Procedure.{AllFit, Procedure}
 use Rattle.b3_rules.specs.Valid.{IsValidProcedure}
-use Rattle.b3_supported.specs.Forms.{HasForms}
 
--- a valid procedure of the forms: each value is one that may stand in a procedure, and the name is a name
+-- a valid procedure: each value is one that may stand in a procedure, and the name is a name
 pub record IsSupported (p : Procedure) : Type 0 where
   pub name : IsName p.name
   pub valid : IsValidProcedure p
   pub fit : AllFit p.blocks
-  pub forms : HasForms p
 
 -- the names of procedures
 abbrev pub names_of : List Procedure → List (List ℕ)

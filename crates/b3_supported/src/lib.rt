@@ -1,8 +1,7 @@
-//! Which procedures are supported: valid ones all of whose values have code.
+//! Which procedures are supported: valid ones with names, no more than one object may hold.
 #![tactic(auto)]
 
 mod faults;
-mod forms;
 mod lines;
 
 pub use faults::fault_line;

@@ -1,4 +1,4 @@
-//! Calls, patchpoints and accesses that trap: the run of B3 and the run of the machine, which show the same.
+//! Calls, patchpoints, checks and accesses that trap: the run of B3 and the run of the machine, which show the same.
 
 use super::call;
 use super::memory::both_show;
@@ -25,6 +25,18 @@ const STORES: &str =
 /// clobbered late.
 const PATCH: &str =
     "procedure f\nBB#0:\n    Int64 b@0 = ArgumentReg(%x0)\n    Int64 b@1 = ArgumentReg(%x1)\n    Int64 b@2 = ArgumentReg(%x2)\n    Int64 b@3 = Patchpoint(b@0:%x3, b@1:SomeLateRegister, b@2:LateColdAny, resultConstraint = SomeEarlyRegister, size = 4, lateClobbered = [%x0, %x1, %x2, %x3, %x4, %x5, %x6, %x7, %x8, %x9, %x10, %x11, %x12, %x13, %x14])\n    Int64 b@4 = Add(b@3, b@1)\n    Void b@5 = Return(b@4)\n";
+
+/// The sum of the low halves of x0 and x1, where it is a signed number of 32 bits.
+const SUM: &str =
+    "procedure f\nBB#0:\n    Int64 b@0 = ArgumentReg(%x0)\n    Int64 b@1 = ArgumentReg(%x1)\n    Int32 b@2 = Trunc(b@0)\n    Int32 b@3 = Trunc(b@1)\n    Int32 b@4 = CheckAdd(b@2, b@3, b@2:SomeRegister, b@3:WarmAny)\n    Void b@5 = Return(b@4)\n";
+
+/// The product of x0 and x1, where it is a signed number of 64 bits.
+const PRODUCT: &str =
+    "procedure f\nBB#0:\n    Int64 b@0 = ArgumentReg(%x0)\n    Int64 b@1 = ArgumentReg(%x1)\n    Int64 b@2 = CheckMul(b@0, b@1)\n    Void b@3 = Return(b@2)\n";
+
+/// The sum of x1 words from x0 on, of which there are x2.
+const ARRAY: &str =
+    "procedure sum\nBB#0:\n    Int64 b@0 = ArgumentReg(%x0)\n    Int64 b@1 = ArgumentReg(%x1)\n    Int64 b@2 = ArgumentReg(%x2)\n    Int64 b@3 = Const64(0)\n    Int32 b@4 = Const32(3)\n    Int64 b@5 = Const64(1)\n    Void b@6 = Upsilon(b@3, ^9)\n    Void b@7 = Upsilon(b@3, ^10)\n    Void b@8 = Jump()\n  Successors: #1\nBB#1:\n    Int64 b@9 = Phi()\n    Int64 b@10 = Phi()\n    Int32 b@11 = AboveEqual(b@9, b@2)\n    Void b@12 = Check(b@11, b@9:ColdAny, b@10:ColdAny)\n    Int64 b@13 = Shl(b@9, b@4)\n    Int64 b@14 = Add(b@0, b@13)\n    Int64 b@15 = Load(b@14)\n    Int64 b@16 = Add(b@10, b@15)\n    Int64 b@17 = Add(b@9, b@5)\n    Void b@18 = Upsilon(b@17, ^9)\n    Void b@19 = Upsilon(b@16, ^10)\n    Int32 b@20 = LessThan(b@17, b@1)\n    Void b@21 = Branch(b@20)\n  Successors: Then:#1, Else:#2\nBB#2:\n    Void b@22 = Return(b@16)\n";
 
 const ONES: &str = "junk 0xffffffffffffffff\n";
 
@@ -118,5 +130,40 @@ fn accesses_trap(rt: HostRuntime) -> Result<(), Fail> {
     let trial = "procedure f\nx0 0x7ffffff0\n";
     let shown = call(rt.alloc(), &["eval", "t"], LOAD.as_bytes(), trial)?;
     assert_eq!(rt; shown.out.bytes(), b"status undefined\n".as_slice());
+    Ok(())
+}
+
+#[test]
+fn checks_exit(rt: HostRuntime) -> Result<(), Fail> {
+    for (text, trial, seen) in [
+        (
+            SUM,
+            "procedure f\nx0 2147483647\nx1 1\n",
+            "status exited b@4 2147483647 1\n",
+        ),
+        (SUM, "procedure f\nx0 5\nx1 6\n", "status returned 11\n"),
+        (
+            PRODUCT,
+            "procedure f\nx0 0x100000000\nx1 0x80000000\n",
+            "status exited b@2\n",
+        ),
+        (
+            PRODUCT,
+            "procedure f\nx0 0x80000000\nx1 0x80000000\n",
+            "status returned 4611686018427387904\n",
+        ),
+        (
+            ARRAY,
+            "procedure sum\nx0 0x2000\nx1 3\nx2 3\nbytes 0x2000 050000000000000007000000000000000b00000000000000\n",
+            "status returned 23\nmemory 0x2000 050000000000000007000000000000000b00000000000000\n",
+        ),
+        (
+            ARRAY,
+            "procedure sum\nx0 0x2000\nx1 3\nx2 2\nbytes 0x2000 050000000000000007000000000000000b00000000000000\n",
+            "status exited b@12 2 12\nmemory 0x2000 050000000000000007000000000000000b00000000000000\n",
+        ),
+    ] {
+        assert!(rt; both_show(rt.alloc(), text, trial, seen)?, "{text} {trial}");
+    }
     Ok(())
 }

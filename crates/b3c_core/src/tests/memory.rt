@@ -1,4 +1,4 @@
-//! Slots and memory: the run of B3 and the run of the machine, which show the same, and what has no code.
+//! Slots and memory: the run of B3 and the run of the machine, which show the same.
 
 use super::call;
 use super::trials::run_text;
@@ -100,25 +100,5 @@ fn an_access_of_what_is_not_mapped_is_undefined(rt: HostRuntime) -> Result<(), F
     let trial = "procedure f\nx0 0x2000\nx1 3\nbytes 0x2000 01000000000000000200000000000000\n";
     let shown = call(rt.alloc(), &["eval", "t"], ARRAY.as_bytes(), trial)?;
     assert_eq!(rt; shown.out.bytes(), b"status undefined\n".as_slice());
-    Ok(())
-}
-
-/// Two checks.
-#[test]
-fn what_has_no_code_is_refused_at_its_line(rt: HostRuntime) -> Result<(), Fail> {
-    for (text, line) in [
-        (
-            "procedure f\nBB#0:\n    Int64 b@0 = ArgumentReg(%x0)\n    Int64 b@1 = Load(b@0)\n    Int64 b@2 = CheckAdd(b@0, b@1)\n    Void b@3 = Return(b@2)\n",
-            "b3c: line 5: not built\n",
-        ),
-        (
-            "procedure f\nstack0: byteSize = 8\nBB#0:\n    Int64 b@0 = FramePointer()\n    Int64 b@1 = Load<Traps>(b@0)\n    Void b@2 = Patchpoint(b@1)\n    Void b@3 = Check(b@1)\n    Void b@4 = Return()\n",
-            "b3c: line 7: not built\n",
-        ),
-    ] {
-        let called = call(rt.alloc(), &["compile"], text.as_bytes(), "")?;
-        assert_eq!(rt; called.status, 10, "{text}");
-        assert_eq!(rt; called.err.bytes(), line.as_bytes(), "{text}");
-    }
     Ok(())
 }

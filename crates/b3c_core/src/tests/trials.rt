@@ -175,11 +175,6 @@ fn an_input_is_refused_before_its_trial(rt: HostRuntime) -> Result<(), Fail> {
             6,
             "b3c: line 3: invalid rule 5\n",
         ),
-        (
-            "procedure f\nBB#0:\n    Int64 b@0 = ArgumentReg(%x0)\n    Void b@1 = Check(b@0)\n    Void b@2 = Return(b@0)\n",
-            10,
-            "b3c: line 4: not built\n",
-        ),
     ] {
         let shown = call(rt.alloc(), &["eval", "t"], text.as_bytes(), "x31 0")?;
         assert_eq!(rt; shown.status, status);

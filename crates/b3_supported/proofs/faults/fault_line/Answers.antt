@@ -5,7 +5,7 @@ use Rattle.std.proofs.lemmas.List.{drop_all, length-map, take_all}
 use Rattle.std.proofs.lemmas.List.Elements.{All-more}
 use Rattle.std.proofs.lemmas.Option.{get_or_from_slice_get, slice_get-map, slice_get_within}
 use Rattle.b3_ir.specs.Procedure.{AllFit, Kept, Procedure, procedures}
-use Rattle.b3_supported.specs.Lines.{lesser, module_line, procedure_line}
+use Rattle.b3_supported.specs.Lines.{header_line, lesser, module_line}
 use Rattle.b3_supported.specs.Faults.{IsOdd}
 use Rattle.b3_supported.proofs.Least.{IsLeast, module_least}
 use Rattle.b3_supported.proofs.Lesser.{all_seen, dropped, module_end, module_step, one_more}
@@ -27,8 +27,8 @@ loop-at-preserved c =
     let there = its_procedure c.args.module_.now at c.proc-p.result.now c.proc-p.ensures in
     let step : drop at ps ≡ p ∷ drop (at + 1) ps = rw (get_or_from_slice_get ps at p p there) at (dropped ps at p (slice_get_within ps at p there)) in
     record {
-      same = one_more c.loop-at.line c.lesser-line.result (procedure_line at p) (module_line at (drop at ps)) (module_line (at + 1) (drop (at + 1) ps)) (module_line 0 ps) c.loop-at.invariant.same (module_step at (drop at ps) (drop (at + 1) ps) p step)
-          (c.lesser-line.ensures ∙ ap (lesser c.loop-at.line) c.procedure_line.ensures);
+      same = one_more c.loop-at.line c.lesser-line.result (header_line at p) (module_line at (drop at ps)) (module_line (at + 1) (drop (at + 1) ps)) (module_line 0 ps) c.loop-at.invariant.same (module_step at (drop at ps) (drop (at + 1) ps) p step)
+          (c.lesser-line.ensures ∙ ap (lesser c.loop-at.line) c.header_line.ensures);
       fit = fit_more ps at p there c.loop-at.invariant.fit c.whole.ensures.fit;
     }
 
