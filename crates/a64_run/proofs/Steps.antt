@@ -80,7 +80,7 @@ pub step_goes_on : (e : Entry) (s : State) (k next w : ℕ) (inst : Inst) → e.
     → (step_of inst s.registers s.memory).outcome ≡ Next → is_ret inst ≡ false
     → (step_of inst s.registers s.memory).registers.pc ≡ e.start.code + 4 * next → slice_get e.object.text next ≡ Some w
     → machine_step e (Runs s) ≡ Runs
-        (record s { registers = (step_of inst s.registers s.memory).registers; memory = (step_of inst s.registers s.memory).memory })
+    (record s { registers = (step_of inst s.registers s.memory).registers; memory = (step_of inst s.registers s.memory).memory })
 step_goes_on e s k next w inst none at there decodes whole outcome no_ret leads stands =
     step_executes e s k inst none at there decodes
     ∙ rw (whole, outcome, no_ret, word_at-word e next (step_of inst s.registers s.memory).registers.pc w leads stands) refl

@@ -81,7 +81,10 @@ fn calls_and_patchpoints_are_answered(rt: HostRuntime) -> Result<(), Fail> {
         let mut trial = String::new(rt.alloc());
         trial.push_str(front)?;
         trial.push_str(junk.as_str())?;
-        assert!(rt; both_show(rt.alloc(), text, trial.as_str(), seen)?, "{text} {trial}");
+        assert!(rt;
+            both_show(rt.alloc(), text, trial.as_str(), seen)?,
+            "{text} {trial}"
+        );
     }
     // a function in the code
     let trial = "procedure f\nx4 0x40000000\ngive 9\n";
