@@ -7,9 +7,9 @@ use Rattle.a64_inst.specs.declared.item.Item.TheVariants.{Label}
 use Rattle.air_ir.specs.declared.frame.Frame.{Frame}
 use Rattle.air_ir.specs.declared.procedure.AirBlock.{AirBlock}
 use Rattle.air_ir.specs.declared.procedure.AirInst.{AirInst}
-use Rattle.a64_emit.specs.Code.{block_labels, block_marks, blocks_items, inst_items, insts_items, labels_of, marks_of}
+use Rattle.a64_emit.specs.Code.{block_exits, block_labels, block_marks, blocks_exits, blocks_items, exits_of, inst_exits, inst_items, insts_exits, insts_items, labels_of, marks_of}
 
-dropped : {X : Type 0} (xs : List X) (k : ℕ) (x : X) → slice_get xs k ≡ Some x → drop k xs ≡ x ∷ drop (suc k) xs
+pub dropped : {X : Type 0} (xs : List X) (k : ℕ) (x : X) → slice_get xs k ≡ Some x → drop k xs ≡ x ∷ drop (suc k) xs
 dropped [] k x there = absurd cc
 dropped (a ∷ xs) zero x there = let same : a ≡ x = cc in ap (λ y. y ∷ xs) same
 dropped (a ∷ xs) (suc k) x there = dropped xs k x there
@@ -59,6 +59,43 @@ pub blocks_done : (f : Frame) (blocks : List AirBlock) (b label mark : ℕ) (cod
 unfolding blocks_items
 blocks_done f blocks b label mark code whole left le =
     sym (append-nil code) ∙ ap (λ (xs : List AirBlock). code ++ blocks_items f b label mark xs) (sym (none_left blocks b le)) ∙ left
+
+pub exits_next : (label mark : ℕ) (insts : List AirInst) (k : ℕ) (i : AirInst) (code after whole : List Item)
+    → code ++ insts_exits label mark (drop k insts) ≡ whole → slice_get insts k ≡ Some i → after ≡ code ++ inst_exits label mark i
+    → after ++ insts_exits (label + labels_of i) (mark + exits_of i) (drop (k + 1) insts) ≡ whole
+unfolding insts_exits
+exits_next label mark insts k i code after whole left there pushed =
+    let rest : List Item = insts_exits (label + labels_of i) (mark + exits_of i) (drop (suc k) insts) in
+    ap (λ n. after ++ insts_exits (label + labels_of i) (mark + exits_of i) (drop n insts)) (sym (one_more k))
+    ∙ ap (λ (xs : List Item). xs ++ rest) pushed ∙ append_assoc code (inst_exits label mark i) rest
+    ∙ ap (λ (xs : List AirInst). code ++ insts_exits label mark xs) (sym (dropped insts k i there)) ∙ left
+
+pub exits_done : (label mark : ℕ) (insts : List AirInst) (k : ℕ) (code whole : List Item) → code ++ insts_exits label mark (drop k insts) ≡ whole
+    → length insts ≤ k → code ≡ whole
+unfolding insts_exits
+exits_done label mark insts k code whole left le =
+    sym (append-nil code) ∙ ap (λ (xs : List AirInst). code ++ insts_exits label mark xs) (sym (none_left insts k le)) ∙ left
+
+pub all_exits_next : (label mark : ℕ) (blocks : List AirBlock) (b : ℕ) (block : AirBlock) (code after whole : List Item)
+    → code ++ blocks_exits label mark (drop b blocks) ≡ whole → slice_get blocks b ≡ Some block → after ≡ code ++ insts_exits label mark block.insts
+    → after ++ blocks_exits (label + block_labels block) (mark + block_exits block) (drop (b + 1) blocks) ≡ whole
+unfolding blocks_exits
+all_exits_next label mark blocks b block code after whole left there pushed =
+    let rest : List Item = blocks_exits (label + block_labels block) (mark + block_exits block) (drop (suc b) blocks) in
+    ap (λ n. after ++ blocks_exits (label + block_labels block) (mark + block_exits block) (drop n blocks)) (sym (one_more b))
+    ∙ ap (λ (xs : List Item). xs ++ rest) pushed ∙ append_assoc code (insts_exits label mark block.insts) rest
+    ∙ ap (λ (xs : List AirBlock). code ++ blocks_exits label mark xs) (sym (dropped blocks b block there)) ∙ left
+
+pub all_exits_done : (label mark : ℕ) (blocks : List AirBlock) (b : ℕ) (code whole : List Item) → code ++ blocks_exits label mark (drop b blocks) ≡ whole
+    → length blocks ≤ b → code ≡ whole
+unfolding blocks_exits
+all_exits_done label mark blocks b code whole left le =
+    sym (append-nil code) ∙ ap (λ (xs : List AirBlock). code ++ blocks_exits label mark xs) (sym (none_left blocks b le)) ∙ left
+
+-- all of them were counted
+pub sum_done : {X : Type 0} (count : X → ℕ) (xs : List X) (b n total : ℕ) → n + sum_by count (drop b xs) ≡ total → length xs ≤ b → n ≡ total
+sum_done count xs b n total left le =
+    let none = ap (sum_by count) (none_left xs b le) in omega arith
 
 -- what is counted of those that are left
 pub sum_left : {X : Type 0} (count : X → ℕ) (xs : List X) (b : ℕ) (x : X) → slice_get xs b ≡ Some x

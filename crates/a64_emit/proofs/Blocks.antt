@@ -23,6 +23,7 @@ use Rattle.a64_emit.specs.Related.{IsRelated}
 use Rattle.a64_emit.specs.Setting.{IsSet, Setting}
 use Rattle.a64_emit.proofs.Branching.{alike_related, label_runs}
 use Rattle.a64_emit.proofs.Endings.{Ends}
+use Rattle.a64_emit.proofs.Exits.{HaveOwn, own_nearer}
 use Rattle.a64_emit.proofs.Inner.{IsLost, IsOn, IsOver, reaches_after}
 use Rattle.a64_emit.proofs.InnerLeads.{IsInner, inner_leads}
 use Rattle.a64_emit.proofs.Positions.{Among, among_first, among_rest, inst_counted}
@@ -74,11 +75,12 @@ module _ (z : Setting) (set : IsSet z) (serves : IsFrameOf z.procedure z.frame)
       → ((j : ℕ) (i : AirInst) → slice_get body j ≡ Some i → IsInner z i)
       → Among z.code k (insts_items z.frame next label mark targets (body ++ last ∷ []))
       → Among z.sites mark (flat_map (inst_sites z.frame) (body ++ last ∷ []))
+      → (first : ℕ) → end ≤ first → HaveOwn z first label (body ++ last ∷ [])
       → k + length (insts_items z.frame next label mark targets body) ≡ end
       → All IsRangedAnswer s.world.answers → IsRelated z s c
       → BlockEnds z targets (body ++ last ∷ []) s k c
   unfolding insts_items
-  body_ends [] label mark s k c inner among sites at ranged rel =
+  body_ends [] label mark s k c inner among sites first far exits at ranged rel =
       let here : k ≡ end = omega arith in
       let e = ends_last s c rel in
       record {
@@ -87,7 +89,7 @@ module _ (z : Setting) (set : IsSet z) (serves : IsFrameOf z.procedure z.frame)
         is = λ junk. one_last s junk ∙ e.is junk;
         reaches = subst (λ k. ReachesUnlessLost z (log_of s.world) e.next k c) (sym here) e.reaches;
       }
-  body_ends (i ∷ body) label mark s k c inner among sites at ranged rel =
+  body_ends (i ∷ body) label mark s k c inner among sites first far exits at ranged rel =
       let items : List Item = inst_items z.frame next label mark targets i.traps i.op i.operands in
       let label_more : ℕ = label + labels_of i in
       let mark_more : ℕ = mark + marks_of i in
@@ -101,7 +103,8 @@ module _ (z : Setting) (set : IsSet z) (serves : IsFrameOf z.procedure z.frame)
       let more : Among z.sites mark_more (flat_map (inst_sites z.frame) (body ++ last ∷ [])) =
       subst (λ n. Among z.sites (mark + n) (flat_map (inst_sites z.frame) (body ++ last ∷ []))) (inst_counted z.frame i)
       (among_rest z.sites mark (inst_sites z.frame i) (flat_map (inst_sites z.frame) (body ++ last ∷ [])) sites) in
-      elim (inner_leads z set serves placed next label mark targets i s k c (inner 0 i refl) (among_first z.code k items others among) own (omega arith) ranged rel)
+      elim (inner_leads z set serves placed next label mark targets i s k c (inner 0 i refl) (among_first z.code k items others among) own
+      (own_nearer z first (k + length items) label i (omega arith) exits.0) (omega arith) ranged rel)
       as (λ x. BlockEnds z targets (i ∷ (body ++ last ∷ [])) s k c) [
         | IsLost lost ↦ record { junk = []; next = air.Lost; is = λ junk. lost_first i (body ++ last ∷ []) s junk (lost junk); reaches = tt }
         | IsOver stops ↦ record {
@@ -112,7 +115,7 @@ module _ (z : Setting) (set : IsSet z) (serves : IsFrameOf z.procedure z.frame)
         }
         | IsOn goes ↦
             let rest = body_ends body label_more mark_more goes.next (k + length items) goes.last (λ j other there. inner (suc j) other there)
-            (among_rest z.code k items others among) more after goes.ranged goes.related in
+            (among_rest z.code k items others among) more first far exits.1 after goes.ranged goes.related in
             record {
               junk = goes.junk ++ rest.junk;
               next = rest.next;

@@ -1,4 +1,5 @@
--- Checks lead out of the procedure, at the break of an exit, or past it.
+-- Checks lead out of the procedure, at the break of their exit, or on behind their branch.
+use Rattle.a64_emit.proofs.Exits.{ExitAt}
 use Rattle.std.proofs.Common.{◌≡◌, ◌≢◌, ℕ, zero, suc, ◌+◌, ◌-◌, ◌^◌, ◌<◌, ◌≤◌, ◌⊎◌, Bool, true, false, inl, inr, ⊎_elim, List, [], ◌∷◌, ◌++◌, Option, Some, None, length, map, drop, nat_eq, not, refl, sym, ap, ◌∙◌, subst, arith, length-append, append-nil}
 use Rattle.std.specs.Prelude.{All, if◌then◌else◌, slice_get}
 use Rattle.std.proofs.lemmas.Option.{slice_get_within}
@@ -74,47 +75,49 @@ break_safely r m = refl
 
 module _ (z : Setting) (set : IsSet z) (serves : IsFrameOf z.procedure z.frame) (placed : (k label : ℕ) → slice_get z.code k ≡ Some (Label label)
     → position_of z.code label ≡ k) (i : AirInst) (s : State) (k : ℕ) (c : Machine) where
-  -- an exit before which instructions lead to a machine by which its branch goes
-  pub record Guard (from : ℕ) (before : List Inst) (t : Test) (width : Width) (reg label mark : ℕ) (behind : List Inst) (m : Machine) (passes : Bool)
+  -- a check before whose branch instructions lead to a machine by which that goes
+  pub record Guard (from : ℕ) (before : List Inst) (t : Test) (width : Width) (reg label : ℕ) (behind : List Inst) (m : Machine) (passes : Bool)
       : Type 0 where
-    pub among : Among z.code k (guarded before t width reg label mark behind)
-    pub site : slice_get z.sites mark ≡ Some (exit_site z.frame from i)
+    pub among : Among z.code k (guarded before t width reg label behind)
+    pub exit : ExitAt z (k + length (guarded before t width reg label behind)) label (exit_site z.frame from i)
     pub begins : IsRelated z s c
     pub does : Does z c before m
     pub related : IsRelated z s m
     pub goes : TestGoes m t width reg passes
 
-  module _ (from : ℕ) (before : List Inst) (t : Test) (width : Width) (reg label mark : ℕ) (behind : List Inst) (m : Machine) (passes : Bool)
-      (g : Guard from before t width reg label mark behind m passes) where
+  module _ (from : ℕ) (before : List Inst) (t : Test) (width : Width) (reg label : ℕ) (behind : List Inst) (m : Machine) (passes : Bool)
+      (g : Guard from before t width reg label behind m passes) where
     at : ℕ
     at = k + length before
 
-    items : Among z.code at (branch_item t false width reg label ∷ Mark mark ∷ Plain (Break 1) ∷ Label label ∷ plains behind)
+    out : ℕ
+    out = g.exit.at
+
+    items : Among z.code at (branch_item t true width reg label ∷ plains behind)
     unfolding at
     items =
         let count = length_plains before in
-        subst (λ n. Among z.code (k + n) (branch_item t false width reg label ∷ Mark mark ∷ Plain (Break 1) ∷ Label label ∷ plains behind)) count
-        (among_rest z.code k (plains before) (branch_item t false width reg label ∷ Mark mark ∷ Plain (Break 1) ∷ Label label ∷ plains behind) g.among)
+        subst (λ n. Among z.code (k + n) (branch_item t true width reg label ∷ plains behind)) count
+        (among_rest z.code k (plains before) (branch_item t true width reg label ∷ plains behind) g.among)
 
-    branch_there : slice_get z.code at ≡ Some (branch_item t false width reg label)
-    branch_there = ap (slice_get z.code) (omega arith) ∙ items 0 (branch_item t false width reg label) refl
+    ahead : at < out
+    unfolding at out
+    ahead =
+        let both = length-append (plains before) (branch_item t true width reg label ∷ plains behind) in
+        let count = length_plains before in
+        let le = g.exit.behind in
+        omega arith
 
-    mark_there : slice_get z.code (at + 1) ≡ Some (Mark mark)
-    mark_there = items 1 (Mark mark) refl
-
-    break_there : slice_get z.code (at + 1 + 1) ≡ Some (Plain (Break 1))
-    break_there = ap (slice_get z.code) (omega arith) ∙ items 2 (Plain (Break 1)) refl
-
-    label_there : slice_get z.code (at + 3) ≡ Some (Label label)
-    label_there = items 3 (Label label) refl
+    branch_there : slice_get z.code at ≡ Some (branch_item t true width reg label)
+    branch_there = ap (slice_get z.code) (omega arith) ∙ items 0 (branch_item t true width reg label) refl
 
     comes : Runs z k c (length before) m
     unfolding at
     comes =
         straight_runs z set k c m before g.does (among_plains z.code k before (among_first z.code k (plains before)
-        (branch_item t false width reg label ∷ Mark mark ∷ Plain (Break 1) ∷ Label label ∷ plains behind) g.among))
-        (words_there z at (branch_item t false width reg label) branch_there (slice_get_within z.code at (branch_item t false width reg label) branch_there)
-        (branch_size (z.long at) t false width reg label))
+        (branch_item t true width reg label ∷ plains behind) g.among))
+        (words_there z at (branch_item t true width reg label) branch_there (slice_get_within z.code at (branch_item t true width reg label) branch_there)
+        (branch_size (z.long at) t true width reg label))
 
     here : Machine
     here = comes.last
@@ -129,14 +132,15 @@ module _ (z : Setting) (set : IsSet z) (serves : IsFrameOf z.procedure z.frame) 
 
     branch_proper : IsProperAt z at here
     branch_proper =
-        item_proper z set serves s at here (branch_item t false width reg label) branch_there
-        (branch_safe z (moved_to (address_of z at) here) t false width reg label) related_here
+        item_proper z set serves s at here (branch_item t true width reg label) branch_there
+        (branch_safe z (moved_to (address_of z at) here) t true width reg label) related_here
 
-    -- the branch isn't taken: the break of the exit is reached
+    -- the branch is taken: the break of the exit is reached
     module _ (inputs reported changed results : List Operand) (q : CheckParts z.procedure i.operands inputs reported changed results)
         (count : length inputs ≡ from) (rs : List Read) (reads : words s.homes reported ≡ Some rs) where
       exited : (last : Machine) → IsRelated z s last
-          → HasExited z (log_of s.world) (air.seen_as s.world (Exited i.value (map (λ (r : Read). r.1) rs))) (at + 1 + 1) last
+          → HasExited z (log_of s.world) (air.seen_as s.world (Exited i.value (map (λ (r : Read). r.1) rs))) (out + 1 + 1) last
+      unfolding out
       exited last rel =
           let spilled : (n : ℕ) → names z.procedure n ≡ true → slice_get z.frame.spills n ≡ Some (spill_offset z.frame n) =
           λ n named. (spill_stands z set serves n named).0 in
@@ -147,9 +151,9 @@ module _ (z : Setting) (set : IsSet z) (serves : IsFrameOf z.procedure z.frame) 
           record {
             site = exit_site z.frame from i;
             words = map (λ (r : Read). r.1) rs;
-            marked = site_there z (at + 1) mark (exit_site z.frame from i) mark_there g.site;
+            marked = site_there z (g.exit.at + 1) g.exit.mark (exit_site z.frame from i) g.exit.marked g.exit.is_site;
             kind = refl;
-            break = break_there;
+            break = g.exit.breaks;
             frame = rel.frame;
             places = ap (words_in last.registers.x last.memory) reps
                 ∙ words_told z set serves s last rel reported (places_read z.frame reported) q.told are rs reads;
@@ -157,25 +161,25 @@ module _ (z : Setting) (set : IsSet z) (serves : IsFrameOf z.procedure z.frame) 
           }
 
       exit_reaches : passes ≡ true → Reaches z (log_of s.world) (air.Stopped (air.seen_as s.world (Exited i.value (map (λ (r : Read). r.1) rs)))) k c
-      unfolding at here
+      unfolding at out here
       exit_reaches passed_it =
           let log = log_of s.world in
           let next : air.Config = air.Stopped (air.seen_as s.world (Exited i.value (map (λ (r : Read). r.1) rs))) in
-          let falls = goes_here false ∙ ap not passed_it in
-          let branch : Runs z at here 1 here =
-          one_runs z set serves s at here (branch_item t false width reg label) branch_there
-          (branch_safe z (moved_to (address_of z at) here) t false width reg label)
-          (branch_goes z set serves t false width reg at label here false falls branch_there) related_here in
-          let rel_one = alike_related z s here branch.last branch.alike (branch.small related_here.frame.words.pc) related_here in
-          let passed : Runs z (at + 1) branch.last 1 branch.last =
-          one_runs z set serves s (at + 1) branch.last (Mark mark) mark_there tt (mark_step z (at + 1) mark branch.last mark_there) rel_one in
-          let rel_two = alike_related z s branch.last passed.last passed.alike (passed.small rel_one.frame.words.pc) rel_one in
-          let proper = plain_proper z set serves (at + 1 + 1) passed.last (Break 1) break_there (λ r. refl) break_safely
+          let e : ExitAt z (k + length (guarded before t width reg label behind)) label (exit_site z.frame from i) = g.exit in
+          let taken = goes_here true ∙ passed_it in
+          let step = branch_goes z set serves t true width reg at label here true taken branch_there ∙ ap (λ j. At j here) (placed e.at label e.labelled) in
+          let entered : Runs z e.at here 1 here = label_runs z set serves s e.at label here e.labelled related_here in
+          let rel_one = alike_related z s here entered.last entered.alike (entered.small related_here.frame.words.pc) related_here in
+          let passed : Runs z (e.at + 1) entered.last 1 entered.last =
+          one_runs z set serves s (e.at + 1) entered.last (Mark e.mark) e.marked tt (mark_step z (e.at + 1) e.mark entered.last e.marked) rel_one in
+          let rel_two = alike_related z s entered.last passed.last passed.alike (passed.small rel_one.frame.words.pc) rel_one in
+          let proper = plain_proper z set serves (e.at + 1 + 1) passed.last (Break 1) e.breaks (λ r. refl) break_safely
           (whole_of z set serves passed.last rel_two.frame) in
           leads_on z log next k (length before) c m comes
-          (leads_on z log next at 1 here here branch
-          (leads_on z log next (at + 1) 1 branch.last branch.last passed
-          (reaches_here z log next (at + 1 + 1) passed.last proper (inr (inr (exited passed.last rel_two))))))
+          (leads_over z log next at e.at here ahead branch_proper step
+          (leads_on z log next e.at 1 here here entered
+          (leads_on z log next (e.at + 1) 1 entered.last entered.last passed
+          (reaches_here z log next (e.at + 1 + 1) passed.last proper (inr (inr (exited passed.last rel_two)))))))
 
       pub exit_stops : passes ≡ true → (ws : List Read) → words s.homes i.operands ≡ Some ws
           → meaning z.start (operation i) ws s.world ≡ ends s.world (Exited i.value (map (λ (r : Read). r.1) rs)) → Stops z i s k c
@@ -190,42 +194,37 @@ module _ (z : Setting) (set : IsSet z) (serves : IsFrameOf z.procedure z.frame) 
             reaches = exit_reaches passed_it;
           }
 
-    -- the branch is taken: it goes past the break
+    -- the branch isn't taken: the items behind it follow
     pub record IsPast : Type 0 where
       pub last : Machine
       pub alike : AreAlike last m
       pub related : IsRelated z s last
-      pub leads : (config : air.Config) → ReachesUnlessLost z (log_of s.world) config (k + length before + 4) last
+      pub leads : (config : air.Config) → ReachesUnlessLost z (log_of s.world) config (k + length before + 1) last
           → ReachesUnlessLost z (log_of s.world) config k c
 
     pub goes_past : passes ≡ false → IsPast
     unfolding at here
     goes_past failed =
-        let taken = goes_here false ∙ ap not failed in
-        let step = branch_goes z set serves t false width reg at label here true taken branch_there
-        ∙ ap (λ j. At j here) (placed (at + 3) label label_there) in
-        let passed : Runs z (at + 3) here 1 here = label_runs z set serves s (at + 3) label here label_there related_here in
-        let same : AreAlike passed.last m = passed.alike ∙ comes.alike in
+        let falls = goes_here true ∙ failed in
+        let branch : Runs z at here 1 here =
+        one_runs z set serves s at here (branch_item t true width reg label) branch_there
+        (branch_safe z (moved_to (address_of z at) here) t true width reg label)
+        (branch_goes z set serves t true width reg at label here false falls branch_there) related_here in
         record {
-          last = passed.last;
-          alike = same;
-          related = alike_related z s here passed.last passed.alike (passed.small related_here.frame.words.pc) related_here;
-          leads = λ config rest. on_by config passed step rest;
+          last = branch.last;
+          alike = branch.alike ∙ comes.alike;
+          related = alike_related z s here branch.last branch.alike (branch.small related_here.frame.words.pc) related_here;
+          leads = λ config rest. on_by config branch rest;
         }
       where
-        on : (config : air.Config) → (passed : Runs z (k + length before + 3) comes.last 1 comes.last)
-            → item_step (meaning_of z) z.code (At (k + length before) comes.last) ≡ At (k + length before + 3) comes.last
-            → Reaches z (log_of s.world) config (k + length before + 4) passed.last → Reaches z (log_of s.world) config k c
-        on config passed step rest =
-            let e : k + length before + 4 ≡ k + length before + 3 + 1 = omega arith in
+        on : (config : air.Config) → (branch : Runs z (k + length before) comes.last 1 comes.last)
+            → Reaches z (log_of s.world) config (k + length before + 1) branch.last → Reaches z (log_of s.world) config k c
+        on config branch rest =
             leads_on z (log_of s.world) config k (length before) c m comes
-            (leads_over z (log_of s.world) config (k + length before) (k + length before + 3) comes.last (omega arith) branch_proper step
-            (leads_on z (log_of s.world) config (k + length before + 3) 1 comes.last comes.last passed
-            (subst (λ n. Reaches z (log_of s.world) config n passed.last) e rest)))
+            (leads_on z (log_of s.world) config (k + length before) 1 comes.last comes.last branch rest)
 
-        on_by : (config : air.Config) → (passed : Runs z (k + length before + 3) comes.last 1 comes.last)
-            → item_step (meaning_of z) z.code (At (k + length before) comes.last) ≡ At (k + length before + 3) comes.last
-            → ReachesUnlessLost z (log_of s.world) config (k + length before + 4) passed.last → ReachesUnlessLost z (log_of s.world) config k c
-        on_by air.Lost passed step rest = tt
-        on_by (air.At b t) passed step rest = on (air.At b t) passed step rest
-        on_by (air.Stopped seen) passed step rest = on (air.Stopped seen) passed step rest
+        on_by : (config : air.Config) → (branch : Runs z (k + length before) comes.last 1 comes.last)
+            → ReachesUnlessLost z (log_of s.world) config (k + length before + 1) branch.last → ReachesUnlessLost z (log_of s.world) config k c
+        on_by air.Lost branch rest = tt
+        on_by (air.At b t) branch rest = on (air.At b t) branch rest
+        on_by (air.Stopped seen) branch rest = on (air.Stopped seen) branch rest

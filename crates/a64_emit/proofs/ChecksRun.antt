@@ -58,6 +58,7 @@ use Rattle.a64_emit.proofs.AirSteps.{IsWritten, step_lost, targets_result, words
 use Rattle.a64_emit.proofs.BranchEnds.{Readied, bit_goes, compare_goes, compare_readied, home_register, one_readied, one_there, two_there as compare_there, word_home, word_summed, zero_goes}
 use Rattle.a64_emit.proofs.Branching.{Goes as TestGoes, alike_related}
 use Rattle.a64_emit.proofs.CheckParts.{CheckParts, check_reads, check_writes, result_parts, test_parts}
+use Rattle.a64_emit.proofs.Exits.{ExitAt}
 use Rattle.a64_emit.proofs.ChecksLead.{Guard, IsPast, between, between_related, exit_stops, goes_past}
 use Rattle.a64_emit.proofs.Computes.{ends_by, fetch_two, scratch_17}
 use Rattle.a64_emit.proofs.Endings.{among_plains}
@@ -109,10 +110,10 @@ unfolding meaning
 test_means z i s t ws is = rw is refl
 
 -- the length of the items of a check
-guarded_length : (before : List Inst) (t : Test) (width : Width) (reg label mark : ℕ) (behind : List Inst)
-    → length (guarded before t width reg label mark behind) ≡ length before + 4 + length behind
-guarded_length before t width reg label mark behind =
-    let both = length-append (plains before) (branch_item t false width reg label ∷ Mark mark ∷ Plain (Break 1) ∷ Label label ∷ plains behind) in
+guarded_length : (before : List Inst) (t : Test) (width : Width) (reg label : ℕ) (behind : List Inst)
+    → length (guarded before t width reg label behind) ≡ length before + 1 + length behind
+guarded_length before t width reg label behind =
+    let both = length-append (plains before) (branch_item t true width reg label ∷ plains behind) in
     let first = length_plains before in
     let rest = length_plains behind in
     omega arith
@@ -171,10 +172,10 @@ module _ (z : Setting) (set : IsSet z) (serves : IsFrameOf z.procedure z.frame) 
   -- ---- a test
 
   module _ (t : Test) (is : i.op ≡ op.CheckIf t) (h : HasSite (op.CheckIf t) i.operands) (owns : Owns z.procedure i) (opened : AreOpen z i.operands)
-      (label mark : ℕ) (among : Among z.code k (check_items z.frame label mark t i.operands))
-      (site : slice_get z.sites mark ≡ Some (exit_site z.frame (test_count t) i)) (ranged : All IsRangedAnswer s.world.answers) (rel : IsRelated z s c) where
+      (label : ℕ) (among : Among z.code k (check_items z.frame label t i.operands))
+      (exit : ExitAt z (k + length (check_items z.frame label t i.operands)) label (exit_site z.frame (test_count t) i)) (ranged : All IsRangedAnswer s.world.answers) (rel : IsRelated z s c) where
     abbrev To : Type 0
-    To = InstLeads z i s k c (k + length (check_items z.frame label mark t i.operands))
+    To = InstLeads z i s k c (k + length (check_items z.frame label t i.operands))
 
     q : CheckParts z.procedure i.operands h.0.inputs h.0.reported h.0.changed h.0.results
     q = test_parts z.procedure i owns t h
@@ -198,15 +199,15 @@ module _ (z : Setting) (set : IsSet z) (serves : IsFrameOf z.procedure z.frame) 
 
     goes_on_past : (ws : List Read) → words s.homes i.operands ≡ Some ws → meaning z.start (operation i) ws s.world ≡ gives s.world [] → (m : Machine)
         → (g : Guard z set serves placed i s k c (test_count t) (fetch_tested z.frame t i.operands ++ compared t i.operands) t (width_at i.operands 0)
-        (reg_of (source_at i.operands 0 15)) label mark [] m false)
+        (reg_of (source_at i.operands 0 15)) label [] m false)
         → To
     goes_on_past ws reads means m g =
         let insts : List Inst = fetch_tested z.frame t i.operands ++ compared t i.operands in
-        let past = goes_past z set serves placed i s k c (test_count t) insts t (width_at i.operands 0) (reg_of (source_at i.operands 0 15)) label mark [] m
+        let past = goes_past z set serves placed i s k c (test_count t) insts t (width_at i.operands 0) (reg_of (source_at i.operands 0 15)) label [] m
         false g refl in
         let junk : List ℕ = map past.last.registers.x regs in
-        let total = guarded_length insts t (width_at i.operands 0) (reg_of (source_at i.operands 0 15)) label mark [] in
-        let to : k + length (check_items z.frame label mark t i.operands) ≡ k + length insts + 4 = omega arith in
+        let total = guarded_length insts t (width_at i.operands 0) (reg_of (source_at i.operands 0 15)) label [] in
+        let to : k + length (check_items z.frame label t i.operands) ≡ k + length insts + 1 = omega arith in
         let count = regs_count past.last.registers.x regs in
         IsOn (record {
           junk = junk;
@@ -235,7 +236,7 @@ module _ (z : Setting) (set : IsSet z) (serves : IsFrameOf z.procedure z.frame) 
           | true ↦ λ e.
               let g = guard true e in
               IsOver (exit_stops z set serves placed i s k c (test_count t) (fetch_tested z.frame t i.operands ++ compared t i.operands) t
-              (width_at i.operands 0) (reg_of (source_at i.operands 0 15)) label mark [] g.0 true g.1 h.0.inputs h.0.reported h.0.changed h.0.results q
+              (width_at i.operands 0) (reg_of (source_at i.operands 0 15)) label [] g.0 true g.1 h.0.inputs h.0.reported h.0.changed h.0.results q
               (fit_count (test_takes t h.2.width) h.0.inputs h.2.fits ∙ test_length t h.2.width) split.1 split.3 refl ws reads
               (means ∙ ap (λ b. if b then ends s.world (Exited i.value shown) else gives s.world []) e))
           | false ↦ λ e.
@@ -246,8 +247,8 @@ module _ (z : Setting) (set : IsSet z) (serves : IsFrameOf z.procedure z.frame) 
         guard_of : (p : Bool) → Readied z s c (fetch_tested z.frame t i.operands ++ compared t i.operands) t (width_at i.operands 0)
             (reg_of (source_at i.operands 0 15)) p
             → (m : Machine) × Guard z set serves placed i s k c (test_count t) (fetch_tested z.frame t i.operands ++ compared t i.operands) t
-            (width_at i.operands 0) (reg_of (source_at i.operands 0 15)) label mark [] m p
-        guard_of p r = (r.after, record { among = among; site = site; begins = rel; does = r.does; related = r.related; goes = r.goes })
+            (width_at i.operands 0) (reg_of (source_at i.operands 0 15)) label [] m p
+        guard_of p r = (r.after, record { among = among; exit = exit; begins = rel; does = r.does; related = r.related; goes = r.goes })
 
     pub check_leads : To
     check_leads =
@@ -320,12 +321,12 @@ result_means z i s Product ws is = rw is refl
 module _ (z : Setting) (set : IsSet z) (serves : IsFrameOf z.procedure z.frame) (placed : (k label : ℕ) → slice_get z.code k ≡ Some (Label label)
     → position_of z.code label ≡ k) (i : AirInst) (s : State) (k : ℕ) (c : Machine) (kind : Checked) (is : i.op ≡ check_op kind)
     (h : (s : SiteOperands) × (i.operands ≡ listed s) × AtSite two_homes true (λ width. Fits (Result width)) s) (owns : Owns z.procedure i)
-    (opened : AreOpen z i.operands) (label mark : ℕ) (among : Among z.code k (checked_items z.frame label mark kind i.operands))
-    (site : slice_get z.sites mark ≡ Some (exit_site z.frame 2 i))
-    (room : place z.code z.long (k + length (checked_items z.frame label mark kind i.operands)) < place z.code z.long (length z.code))
+    (opened : AreOpen z i.operands) (label : ℕ) (among : Among z.code k (checked_items z.frame label kind i.operands))
+    (exit : ExitAt z (k + length (checked_items z.frame label kind i.operands)) label (exit_site z.frame 2 i))
+    (room : place z.code z.long (k + length (checked_items z.frame label kind i.operands)) < place z.code z.long (length z.code))
     (ranged : All IsRangedAnswer s.world.answers) (rel : IsRelated z s c) where
   abbrev Leads : Type 0
-  Leads = InstLeads z i s k c (k + length (checked_items z.frame label mark kind i.operands))
+  Leads = InstLeads z i s k c (k + length (checked_items z.frame label kind i.operands))
 
   parts_are : CheckParts z.procedure i.operands h.0.inputs h.0.reported h.0.changed h.0.results
   parts_are = result_parts z.procedure i owns h.0 h.1 h.2
@@ -399,9 +400,9 @@ module _ (z : Setting) (set : IsSet z) (serves : IsFrameOf z.procedure z.frame) 
       ++ put_result z.frame (result_reg (At f.to)) (At f.to)
 
   abbrev code_of : Form → List Item
-  code_of f = guarded (first_code f) (Compare (passing kind)) f.width 0 label mark (last_code f)
+  code_of f = guarded (first_code f) (Compare (passing kind)) f.width 0 label (last_code f)
 
-  code_is : (f : Form) → checked_items z.frame label mark kind i.operands ≡ code_of f
+  code_is : (f : Form) → checked_items z.frame label kind i.operands ≡ code_of f
   code_is f =
       let d : Operand = record { role = Use; width = W64; arg = Imm 0 } in
       let os : List Operand = f.a ∷ f.b ∷ (f.more ++ f.o ∷ []) in
@@ -409,8 +410,8 @@ module _ (z : Setting) (set : IsSet z) (serves : IsFrameOf z.procedure z.frame) 
       let ra : ℕ = reg_of (source_of 15 f.a.arg) in
       let rb : ℕ = reg_of (source_of 16 f.b.arg) in
       let Code : Width → Arg → List Item = λ w to. guarded (fetch z.frame 15 f.a.arg ++ (fetch z.frame 16 f.b.arg ++ comparing kind w ra rb))
-      (Compare (passing kind)) w 0 label mark (making kind w (result_reg to) ra rb ++ put_result z.frame (result_reg to) to) in
-      ap (checked_items z.frame label mark kind) f.list ∙ ap (Code f.a.width) last ∙ ap (λ w. Code w (At f.to)) f.fits_a.1
+      (Compare (passing kind)) w 0 label (making kind w (result_reg to) ra rb ++ put_result z.frame (result_reg to) to) in
+      ap (checked_items z.frame label kind) f.list ∙ ap (Code f.a.width) last ∙ ap (λ w. Code w (At f.to)) f.fits_a.1
 
   -- the machine once the words are compared
   record Compared (f : Form) (x y : ℕ) : Type 0 where
@@ -468,7 +469,7 @@ module _ (z : Setting) (set : IsSet z) (serves : IsFrameOf z.procedure z.frame) 
   goes_on_made : (f : Form) (x y : ℕ) (m : Compared f x y) → is_signed f.width (checked_result kind (signed f.width x) (signed f.width y)) ≡ true
       → (ws : List Read) → words s.homes i.operands ≡ Some ws
       → meaning z.start (operation i) ws s.world ≡ gives s.world (unsigned f.width (checked_result kind (signed f.width x) (signed f.width y)) ∷ [])
-      → Guard z set serves placed i s k c 2 (first_code f) (Compare (passing kind)) f.width 0 label mark (last_code f) m.after false → Leads
+      → Guard z set serves placed i s k c 2 (first_code f) (Compare (passing kind)) f.width 0 label (last_code f) m.after false → Leads
   unfolding put_all
   goes_on_made f x y m fits_it ws reads means g =
       let w : ℕ = unsigned f.width (checked_result kind (signed f.width x) (signed f.width y)) in
@@ -478,7 +479,7 @@ module _ (z : Setting) (set : IsSet z) (serves : IsFrameOf z.procedure z.frame) 
       let rb : ℕ = reg_of (source_of 16 f.b.arg) in
       let most = result_most z set serves f.to f.place_to in
       let one = one_makes kind f.width rd ra rb in
-      let past = goes_past z set serves placed i s k c 2 insts (Compare (passing kind)) f.width 0 label mark (last_code f) m.after false g refl in
+      let past = goes_past z set serves placed i s k c 2 insts (Compare (passing kind)) f.width 0 label (last_code f) m.after false g refl in
       let regs : List ℕ = changed_regs h.0.changed in
       let d : Machine = m.after in
       let mid : State = between d regs s in
@@ -491,18 +492,18 @@ module _ (z : Setting) (set : IsSet z) (serves : IsFrameOf z.procedure z.frame) 
       let code : last_code f ≡ one.inst ∷ put_result z.frame rd (At f.to) = ap (λ (xs : List Inst). xs ++ put_result z.frame rd (At f.to)) one.is in
       let does : Does z past.last back fin.after =
       does_alike z past.last d fin.after back past.alike (subst (λ (xs : List Inst). Does z d xs fin.after) (sym code) fin.does) in
-      let total = guarded_length insts (Compare (passing kind)) f.width 0 label mark back in
-      let same : length (checked_items z.frame label mark kind i.operands) ≡ length (code_of f) = ap (λ (xs : List Item). length xs) (code_is f) in
-      let at : ℕ = k + length insts + 4 in
-      let front : List Item = plains insts ++ branch_item (Compare (passing kind)) false f.width 0 label ∷ Mark mark ∷ Plain (Break 1) ∷ Label label ∷ [] in
-      let front_count = length-append (plains insts) (branch_item (Compare (passing kind)) false f.width 0 label ∷ Mark mark ∷ Plain (Break 1) ∷ Label label ∷ []) in
+      let total = guarded_length insts (Compare (passing kind)) f.width 0 label back in
+      let same : length (checked_items z.frame label kind i.operands) ≡ length (code_of f) = ap (λ (xs : List Item). length xs) (code_is f) in
+      let at : ℕ = k + length insts + 1 in
+      let front : List Item = plains insts ++ branch_item (Compare (passing kind)) true f.width 0 label ∷ [] in
+      let front_count = length-append (plains insts) (branch_item (Compare (passing kind)) true f.width 0 label ∷ []) in
       let insts_count = length_plains insts in
       let split : code_of f ≡ front ++ plains back =
-      sym (append_assoc (plains insts) (branch_item (Compare (passing kind)) false f.width 0 label ∷ Mark mark ∷ Plain (Break 1) ∷ Label label ∷ [])
+      sym (append_assoc (plains insts) (branch_item (Compare (passing kind)) true f.width 0 label ∷ [])
       (plains back)) in
       let tail : Among z.code (k + length front) (plains back) = among_rest z.code k front (plains back) (subst (Among z.code k) split g.among) in
       let tail_at : Among z.code at (plains back) = subst (λ n. Among z.code n (plains back)) (omega arith) tail in
-      let end : k + length (checked_items z.frame label mark kind i.operands) ≡ at + length back = omega arith in
+      let end : k + length (checked_items z.frame label kind i.operands) ≡ at + length back = omega arith in
       let runs : Runs z at past.last (length back) fin.after =
       straight_runs z set at past.last fin.after back does (among_plains z.code at back tail_at)
       (subst (λ n. place z.code z.long n < place z.code z.long (length z.code)) end room) in
@@ -560,7 +561,7 @@ module _ (z : Setting) (set : IsSet z) (serves : IsFrameOf z.procedure z.frame) 
             goes_on_made f x y m e ws reads
             (means ∙ ap (λ b. if b then gives s.world (unsigned f.width number ∷ []) else ends s.world (Exited i.value shown)) e) (guard false (ap not e))
         | false ↦ λ e.
-            IsOver (exit_stops z set serves placed i s k c 2 (first_code f) (Compare (passing kind)) f.width 0 label mark (last_code f) m.after true
+            IsOver (exit_stops z set serves placed i s k c 2 (first_code f) (Compare (passing kind)) f.width 0 label (last_code f) m.after true
             (guard true (ap not e)) h.0.inputs h.0.reported h.0.changed h.0.results parts_are
             (ap (λ (xs : List Operand). length xs) f.inputs) split.1 split.3 refl ws reads
             (means ∙ ap (λ b. if b then gives s.world (unsigned f.width number ∷ []) else ends s.world (Exited i.value shown)) e))
@@ -568,10 +569,10 @@ module _ (z : Setting) (set : IsSet z) (serves : IsFrameOf z.procedure z.frame) 
     where
       guard_of : (f : Form) (x y : ℕ) (m : Compared f x y) (p : Bool)
           → not (is_signed f.width (checked_result kind (signed f.width x) (signed f.width y))) ≡ p
-          → Guard z set serves placed i s k c 2 (first_code f) (Compare (passing kind)) f.width 0 label mark (last_code f) m.after p
+          → Guard z set serves placed i s k c 2 (first_code f) (Compare (passing kind)) f.width 0 label (last_code f) m.after p
       guard_of f x y m p e = record {
         among = subst (Among z.code k) (code_is f) among;
-        site = site;
+        exit = subst (λ (xs : List Item). ExitAt z (k + length xs) label (exit_site z.frame 2 i)) (code_is f) exit;
         begins = rel;
         does = m.does;
         related = m.related;

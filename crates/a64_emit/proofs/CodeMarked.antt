@@ -23,7 +23,7 @@ use Rattle.a64_inst.specs.declared.item.Item.TheVariants.{If, Jump, Label, Mark,
 use Rattle.b3_base.specs.declared.word.Width.{Width}
 use Rattle.b3_base.specs.declared.word.Width.TheVariants.{W32, W64}
 use Rattle.air_ir.specs.Forms.{Address, AllFit, AreThese, HasOperands, IsAddress, Takes, Word, OnlyZero, takes, IsHome, OfCall}
-use Rattle.air_ir.specs.Kinds.{kind_of}
+use Rattle.air_ir.specs.Kinds.{Checks, ChecksResult, Kind, kind_of}
 use Rattle.air_ir.specs.WellFormed.{IsGoodBlock, IsGoodInst, IsWellFormed}
 use Rattle.air_ir.specs.declared.frame.Frame.{Frame}
 use Rattle.air_ir.specs.declared.op.AirOp.{AirOp}
@@ -38,16 +38,16 @@ use Rattle.air_ir.specs.declared.procedure.AirInst.{AirInst}
 use Rattle.air_ir.specs.declared.procedure.AirProc.{AirProc}
 use Rattle.a64_code.specs.Accesses.{access_kind, offset_access}
 use Rattle.a64_emit.specs.Built.{IsBuilt, is_built}
-use Rattle.a64_emit.specs.Code.{access_inst, arg_at, block_labels, block_marks, blocks_items, branch_item, branches, compared, emitted, fetch, fetch_address, fetch_stored, fetch_tested, inner_items, inst_code, inst_items, insts_items, labels_of, load_inst, load_items, marks_of, put_result, result_reg, source_at, store_inst, store_items, width_at, with_mark, breaks, call_inst, source_of, guarded, fetch_checked, make_checked, test_count}
+use Rattle.a64_emit.specs.Code.{access_inst, arg_at, block_exits, block_labels, block_marks, blocks_exits, blocks_items, exits_by, exits_of, has_exit, inner_marks, inst_exits, insts_exits, branch_item, branches, compared, emitted, fetch, fetch_address, fetch_stored, fetch_tested, inner_items, inst_code, inst_items, insts_items, labels_of, load_inst, load_items, marks_of, put_result, result_reg, source_at, store_inst, store_items, width_at, with_mark, breaks, call_inst, source_of, guarded, fetch_checked, make_checked, test_count}
 use Rattle.a64_code.specs.Computing.{reg_of}
-use Rattle.a64_emit.specs.Made.{block_sites, inst_sites, procedure_sites, sites_by, trap_site, outward_site, patch_size, exit_site}
+use Rattle.a64_emit.specs.Made.{block_exit_sites, block_sites, exit_by, exit_sites, inner_sites, inst_exit, inst_sites, procedure_sites, sites_by, trap_site, outward_site, patch_size, exit_site}
 use Rattle.a64_code.specs.Places.{epilogue, plains, prologue}
 use Rattle.a64_emit.specs.Sites.{IsAccess, SuitsItems}
 use Rattle.a64_emit.specs.Switched.{case_items, cases_in_order, compare_word, jump_to, search_items, switch_items}
 use Rattle.a64_emit.specs.Trees.{Leaf, Node, Tree, node_count, tree}
 use Rattle.a64_emit.specs.declared.case.Case.{Case}
 use Rattle.a64_emit.proofs.Marks.{IsUnmarked, Marked, marked_append, marked_none, plains_unmarked}
-use Rattle.a64_emit.proofs.Positions.{inst_counted, sites_counted}
+use Rattle.a64_emit.proofs.Positions.{block_exits_counted, exits_counted, inner_sites_counted, inst_counted, sites_counted}
 use Rattle.a64_emit.proofs.Trees.{Each, each_append}
 
 -- ---- items without marks
@@ -130,23 +130,17 @@ site_marked site mark front back suits =
     (marked_append mark mark (plains front) (Mark mark ∷ plains back) [] (site ∷ []) (omega arith)
     (marked_none mark (plains front) (plains_unmarked front)) (refl, suits, marked_none (suc mark) (plains back) (plains_unmarked back)))
 
--- the mark of an exit stands right before its break
-guarded_marked : (site : Site) (mark : ℕ) (before : List Inst) (test : Test) (width : Width) (reg label : ℕ) (behind : List Inst)
-    → site.kind ≡ site_kind.Exit → Marked mark (guarded before test width reg label mark behind) (site ∷ [])
-guarded_marked site mark before test width reg label behind is =
-    marked_append mark mark (plains before) (branch_item test false width reg label ∷ Mark mark ∷ Plain (Break 1) ∷ Label label ∷ plains behind) [] (site ∷ [])
-    (omega arith) (marked_none mark (plains before) (plains_unmarked before))
-    (behind_branch test (
-      refl,
-      subst (λ kind. SuitsItems (Plain (Break 1) ∷ Label label ∷ plains behind) kind site.size 0) (sym is) refl,
-      marked_none (suc mark) (plains behind) (plains_unmarked behind),
-    ))
-  where
-    behind_branch : (test : Test) → Marked mark (Mark mark ∷ Plain (Break 1) ∷ Label label ∷ plains behind) (site ∷ [])
-        → Marked mark (branch_item test false width reg label ∷ Mark mark ∷ Plain (Break 1) ∷ Label label ∷ plains behind) (site ∷ [])
-    behind_branch (Compare cond) h = h
-    behind_branch NonZero h = h
-    behind_branch (Bit bit) h = h
+-- a check has no mark; that of its exit stands right before its break
+guarded_unmarked : (before : List Inst) (test : Test) (width : Width) (reg label : ℕ) (behind : List Inst)
+    → Each IsUnmarked (guarded before test width reg label behind)
+guarded_unmarked before test width reg label behind =
+    each_append IsUnmarked (plains before) (branch_item test true width reg label ∷ plains behind) (plains_unmarked before)
+    (branch_item_unmarked test true width reg label, plains_unmarked behind)
+
+exit_marked : (f : Frame) (label mark : ℕ) (i : AirInst) (kind : Kind) → Marked mark (exits_by (has_exit kind) label mark) (exit_by kind f i)
+exit_marked f label mark i (Checks test) = (refl, refl, tt)
+exit_marked f label mark i (ChecksResult checked) = (refl, refl, tt)
+exit_marked f label mark i kind = tt
 
 -- a mark right before an access is that of its trap
 access_marked : (value mark : ℕ) (traps : Bool) (front back : List Inst) (inst : Inst) → IsAccess inst
@@ -216,18 +210,14 @@ module _ (f : Frame) (next label mark : ℕ) (targets : List ℕ) (i : AirInst) 
   marked_by r op.Store8 os e small has built = store_marked op.Store8 os 1 (second_address W32 1 os has.2)
   marked_by r op.Store16 os e small has built = store_marked op.Store16 os 2 (second_address W32 2 os has.2)
   marked_by r op.Store os e small has built = let a = stored_address has.0 has.1 os has.2 in store_marked op.Store os a.0 a.1
-  marked_by r op.Shuffle os e small has built = absurd cc
   marked_by r (op.CheckIf test) os e small has built =
-      guarded_marked (exit_site f (test_count test) i) mark (fetch_tested f test os ++ compared test os) test (width_at os 0)
-      (reg_of (source_at os 0 15)) label [] refl
+      marked_none mark _ (guarded_unmarked (fetch_tested f test os ++ compared test os) test (width_at os 0) (reg_of (source_at os 0 15)) label [])
   marked_by r op.CheckAdd os e small has built =
-      guarded_marked (exit_site f 2 i) mark (fetch_checked f Sum os) (Compare (passing Sum)) (width_at os 0) 0 label (make_checked f Sum os) refl
+      marked_none mark _ (guarded_unmarked (fetch_checked f Sum os) (Compare (passing Sum)) (width_at os 0) 0 label (make_checked f Sum os))
   marked_by r op.CheckSub os e small has built =
-      guarded_marked (exit_site f 2 i) mark (fetch_checked f Difference os) (Compare (passing Difference)) (width_at os 0) 0 label
-      (make_checked f Difference os) refl
+      marked_none mark _ (guarded_unmarked (fetch_checked f Difference os) (Compare (passing Difference)) (width_at os 0) 0 label (make_checked f Difference os))
   marked_by r op.CheckMul os e small has built =
-      guarded_marked (exit_site f 2 i) mark (fetch_checked f Product os) (Compare (passing Product)) (width_at os 0) 0 label
-      (make_checked f Product os) refl
+      marked_none mark _ (guarded_unmarked (fetch_checked f Product os) (Compare (passing Product)) (width_at os 0) 0 label (make_checked f Product os))
   marked_by r (op.Call typed) os e small has built =
       site_marked (outward_site f site_kind.Call 1 typed 1 i) mark (fetch f 15 (arg_at os 0)) (call_inst os ∷ [])
       (reg_of (source_at os 0 15), home_most (arg_at os 0) (callee_there typed os has) (small 0), refl)
@@ -269,8 +259,28 @@ module _ (p : AirProc) (f : Frame) where
       (blocks_marked (first + 1) (label + block_labels b) (mark + block_marks b) blocks (All-tail (IsGoodBlock p) b blocks good)
       (All-tail (λ (b : AirBlock). All (λ (i : AirInst). is_built i.op i.traps ≡ true) b.insts) b blocks built))
 
+  insts_out : (label mark : ℕ) (insts : List AirInst) → Marked mark (insts_exits label mark insts) (flat_map (inst_exit f) insts)
+  unfolding insts_exits
+  insts_out label mark [] = tt
+  insts_out label mark (i ∷ insts) =
+      marked_append mark (mark + exits_of i) (inst_exits label mark i) (insts_exits (label + labels_of i) (mark + exits_of i) insts) (inst_exit f i)
+      (flat_map (inst_exit f) insts) (ap (λ n. mark + n) (sym (exits_counted f i))) (exit_marked f label mark i (kind_of i.op))
+      (insts_out (label + labels_of i) (mark + exits_of i) insts)
+
+  blocks_out : (label mark : ℕ) (blocks : List AirBlock) → Marked mark (blocks_exits label mark blocks) (flat_map (block_exit_sites f) blocks)
+  unfolding blocks_exits
+  blocks_out label mark [] = tt
+  blocks_out label mark (b ∷ blocks) =
+      marked_append mark (mark + block_exits b) (insts_exits label mark b.insts) (blocks_exits (label + block_labels b) (mark + block_exits b) blocks)
+      (block_exit_sites f b) (flat_map (block_exit_sites f) blocks) (ap (λ n. mark + n) (sym (block_exits_counted f b))) (insts_out label mark b.insts)
+      (blocks_out (label + block_labels b) (mark + block_exits b) blocks)
+
   pub code_marked : IsWellFormed p → IsBuilt p → Marked 0 (emitted p f) (procedure_sites p f)
   unfolding emitted
   code_marked well built =
-      marked_append 0 0 (plains (prologue f)) (blocks_items f 0 (length p.blocks) 0 p.blocks) [] (procedure_sites p f) (omega arith)
-      (marked_none 0 (plains (prologue f)) (plains_unmarked (prologue f))) (blocks_marked 0 (length p.blocks) 0 p.blocks well.blocks built)
+      let rest : List Item = blocks_items f 0 (length p.blocks) 0 p.blocks in
+      let out : List Item = blocks_exits (length p.blocks) (inner_marks p.blocks) p.blocks in
+      marked_append 0 0 (plains (prologue f)) (rest ++ out) [] (procedure_sites p f) (omega arith)
+      (marked_none 0 (plains (prologue f)) (plains_unmarked (prologue f)))
+      (marked_append 0 (inner_marks p.blocks) rest out (inner_sites p f) (exit_sites p f) (let count = inner_sites_counted p f in omega arith)
+      (blocks_marked 0 (length p.blocks) 0 p.blocks well.blocks built) (blocks_out (length p.blocks) (inner_marks p.blocks) p.blocks))

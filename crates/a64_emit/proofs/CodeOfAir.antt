@@ -23,9 +23,9 @@ use Rattle.a64_layout.specs.Layout.{place, position_of}
 use Rattle.a64_layout.specs.Machine.{Machine}
 use Rattle.a64_layout.proofs.Least.{place_mono}
 use Rattle.a64_emit.specs.Built.{IsBuilt, is_built}
-use Rattle.a64_emit.specs.Code.{blocks_items, emitted, insts_items, inst_items, labels_of, marks_of}
+use Rattle.a64_emit.specs.Code.{blocks_exits, blocks_items, emitted, inner_marks, insts_exits, insts_items, inst_items, labels_of, marks_of}
 use Rattle.a64_emit.specs.Emitted.{Begins, CarriesOut, first_state}
-use Rattle.a64_emit.specs.Made.{block_sites, inst_sites, procedure_sites}
+use Rattle.a64_emit.specs.Made.{block_exit_sites, block_sites, inst_sites, procedure_sites}
 use Rattle.a64_code.specs.Places.{plains, prologue}
 use Rattle.a64_emit.specs.Related.{IsRelated}
 use Rattle.a64_emit.specs.Setting.{IsSet, Setting}
@@ -37,7 +37,8 @@ use Rattle.a64_emit.proofs.Entering.{entered_related, entering}
 use Rattle.a64_emit.proofs.InnerLeads.{IsInner}
 use Rattle.a64_emit.proofs.Instructions.{AreOpen}
 use Rattle.a64_emit.proofs.Opened.{all_at, operands_open, terminal_usable}
-use Rattle.a64_emit.proofs.Positions.{Among, BlockStands, among_first, among_rest, block_stands}
+use Rattle.a64_emit.proofs.Exits.{HaveOwn, exits_stand}
+use Rattle.a64_emit.proofs.Positions.{Among, BlockStands, among_first, among_rest, block_stands, inner_length}
 use Rattle.a64_emit.proofs.Straight.{straight_runs}
 
 -- ---- the parts of a block
@@ -84,9 +85,10 @@ insts_both f next label mark targets (i ∷ body) last =
 -- the prologue stands first
 front_among : (p : AirProc) (f : Frame) → Among (emitted p f) 0 (plains (prologue f))
 unfolding emitted
-front_among p f = among_first (plains (prologue f) ++ blocks_items f 0 (length p.blocks) 0 p.blocks) 0 (plains (prologue f))
-    (blocks_items f 0 (length p.blocks) 0 p.blocks)
-    (λ j item there. ap (slice_get (plains (prologue f) ++ blocks_items f 0 (length p.blocks) 0 p.blocks)) (omega arith) ∙ there)
+front_among p f =
+    let rest : List Item = blocks_items f 0 (length p.blocks) 0 p.blocks ++ blocks_exits (length p.blocks) (inner_marks p.blocks) p.blocks in
+    among_first (plains (prologue f) ++ rest) 0 (plains (prologue f)) rest
+    (λ j item there. ap (slice_get (plains (prologue f) ++ rest)) (omega arith) ∙ there)
 
 prologue_some : (f : Frame) → 1 ≤ length (prologue f)
 unfolding prologue
@@ -224,6 +226,21 @@ module _ (z : Setting) (set : IsSet z) (serves : IsFrameOf z.procedure z.frame) 
   among_sites : Among z.sites stands.mark (block_sites z.frame block)
   among_sites = subst (λ (sites : List Site). Among sites stands.mark (block_sites z.frame block)) (sym is_sites) stands.sites
 
+  -- the exits of the block stand behind its end
+  far : end ≤ inner_length z.procedure z.frame
+  unfolding end start items_of
+  far =
+      let at = ap (λ code. position_of code b) is_code in
+      let inside = stands.inside in
+      let all = count in
+      omega arith
+
+  exits : HaveOwn z (inner_length z.procedure z.frame) stands.own block.insts
+  exits =
+      exits_stand z (inner_length z.procedure z.frame) stands.exits_at stands.own stands.exits_mark block.insts stands.behind
+      (subst (λ code. Among code stands.exits_at (insts_exits stands.own stands.exits_mark block.insts)) (sym is_code) stands.exits)
+      (subst (λ (sites : List Site). Among sites stands.exits_mark (block_exit_sites z.frame block)) (sym is_sites) stands.exit_sites)
+
   block_ends : (s : State) (d : Machine) → All IsRangedAnswer s.world.answers → IsRelated z s d → BlockEnds z block.targets block.insts s start d
   unfolding items_of end
   block_ends s d ranged rel =
@@ -231,7 +248,8 @@ module _ (z : Setting) (set : IsSet z) (serves : IsFrameOf z.procedure z.frame) 
       (body_ends z set serves placed block.targets (b + 1) good.last end words_end
       (λ s c rel. terminal_ends z set serves placed good.last s block.targets (b + 1) last_label last_mark end c at_end rel)
       good.body stands.own stands.mark s start d inner (subst (λ insts. Among z.code start (items_of insts)) good.parts among_all)
-      (subst (λ insts. Among z.sites stands.mark (flat_map (inst_sites z.frame) insts)) good.parts among_sites) refl ranged rel)
+      (subst (λ insts. Among z.sites stands.mark (flat_map (inst_sites z.frame) insts)) good.parts among_sites) (inner_length z.procedure z.frame) far
+      (subst (HaveOwn z (inner_length z.procedure z.frame) stands.own) good.parts exits) refl ranged rel)
 
   label_there : slice_get z.code (position_of z.code b) ≡ Some (Label b)
   label_there = subst (λ code. slice_get code (position_of code b) ≡ Some (Label b)) (sym is_code) stands.label

@@ -167,30 +167,44 @@ module _ (z : Setting) (set : IsSet z) (serves : IsFrameOf z.procedure z.frame) 
   result_most (Spill n) may = (omega arith, λ e. absurd (omega arith))
   result_most (Tmp n) may = absurd may
 
-  -- a word is stored in its spill place
-  pub spill_stores : (s : State) (c m : Machine) (reg n word result : ℕ) (width : Width) → IsRelated z s c → KeepsAll c m → names z.procedure n ≡ true
+  -- a word is stored in its spill place, by way of x15 alone
+  pub record Stored (s : State) (c : Machine) (insts : List Inst) (home : Home) (held : Held) : Type 0 where
+    pub finished : Finished s c insts home held
+    pub others : (r : ℕ) → r ≢ 15 → finished.after.registers.x r ≡ c.registers.x r
+
+  pub spill_stored : (s : State) (c m : Machine) (reg n word result : ℕ) (width : Width) → IsRelated z s c → KeepsAll c m → names z.procedure n ≡ true
       → reg ≤ 30 → reg ≢ 15
-      → m.registers.x reg ≡ word → word < 2 ^ 64 → low width word ≡ low width result
-      → Finished s m (store_at reg (above_sp z.frame (spill_offset z.frame n))) (Spill n) (Holds width result)
-  spill_stores s c m reg n word result width rel keeps named le other is small same =
+      → m.registers.x reg ≡ word → low width word ≡ low width result
+      → Stored s m (store_at reg (above_sp z.frame (spill_offset z.frame n))) (Spill n) (Holds width result)
+  spill_stored s c m reg n word result width rel keeps named le other is same =
       let stands = spill_stands z set serves n named in
       let mine = keeps_related z s c m keeps rel in
       let f = store_puts z m reg (spill_offset z.frame n) (whole_of z set serves m mine.frame) mine.frame.words le other
       (placed z set serves m (spill_offset z.frame n) mine.frame stands.1.0)
       (word_mapped z set serves.good m (spill_offset z.frame n) stands.1.0 mine.frame.whole) in
       record {
-        after = f.after;
-        does = f.does;
-        related = spill_related z set serves s m f.after n (m.registers.x reg) result width named
-            (record {
-              sp = f.sp;
-              memory = f.memory;
-              small = mine.frame.words.x reg;
-              others = λ r kept. f.others r (kept_differs 15 r (omega arith, omega arith) kept);
-              words = f.words;
-            })
-            (ap (low width) is ∙ same) mine;
+        finished = record {
+          after = f.after;
+          does = f.does;
+          related = spill_related z set serves s m f.after n (m.registers.x reg) result width named
+              (record {
+                sp = f.sp;
+                memory = f.memory;
+                small = mine.frame.words.x reg;
+                others = λ r kept. f.others r (kept_differs 15 r (omega arith, omega arith) kept);
+                words = f.words;
+              })
+              (ap (low width) is ∙ same) mine;
+        };
+        others = f.others;
       }
+
+  pub spill_stores : (s : State) (c m : Machine) (reg n word result : ℕ) (width : Width) → IsRelated z s c → KeepsAll c m → names z.procedure n ≡ true
+      → reg ≤ 30 → reg ≢ 15
+      → m.registers.x reg ≡ word → word < 2 ^ 64 → low width word ≡ low width result
+      → Finished s m (store_at reg (above_sp z.frame (spill_offset z.frame n))) (Spill n) (Holds width result)
+  spill_stores s c m reg n word result width rel keeps named le other is small same =
+      (spill_stored s c m reg n word result width rel keeps named le other is same).finished
 
   pub finish : (s : State) (c : Machine) (inst : Inst) (home : Home) (width : Width) (result : ℕ) → IsRelated z s c → IsPlaceFor z home
       → DoesOne z c inst (with_reg c (result_reg (At home)) result) → result < 2 ^ 64

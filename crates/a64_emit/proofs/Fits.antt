@@ -4,7 +4,6 @@ use Rattle.std.specs.Prelude.{All}
 use Rattle.b3_base.specs.Word.{bits}
 use Rattle.b3_base.specs.declared.word.Width.{Width}
 use Rattle.b3_base.specs.declared.word.Width.TheVariants.{W32, W64}
-use Rattle.stackmap.specs.declared.site.Returns.{Returns}
 use Rattle.a64_inst.specs.StepMemory.{access_bytes}
 use Rattle.a64_inst.specs.declared.inst.AccessKind.{AccessKind}
 use Rattle.a64_inst.specs.declared.inst.AccessKind.TheVariants.{Strb, Ldrb, Ldrsb, Strh, Ldrh, Ldrsh, StrW, LdrW, StrX, LdrX}
@@ -19,12 +18,13 @@ use Rattle.air_ir.specs.declared.operand.Home.TheVariants.{Reg, Spill, Tmp}
 use Rattle.air_ir.specs.declared.operand.Operand.{Operand}
 use Rattle.air_ir.specs.declared.procedure.AirInst.{AirInst}
 use Rattle.air_ir.specs.declared.procedure.AirProc.{AirProc}
-use Rattle.air_ir.specs.WellFormed.{IsGoodInst, IsWellFormed}
+use Rattle.air_ir.specs.WellFormed.{IsGoodInst, IsWellFormed, NamesOwn}
 use Rattle.a64_code.specs.Accesses.{access_kind}
 use Rattle.a64_emit.specs.Code.{source_at, source_of, width_at}
 use Rattle.a64_emit.specs.Switched.{AreDifferent}
 use Rattle.a64_code.specs.Fitting.{FitsSource, IsTested}
 use Rattle.a64_emit.specs.Fitting.{IsFitting, IsFittingBlock, IsLoaded, IsReached, IsStored}
+use Rattle.a64_emit.proofs.ShuffleMoves.{shuffle_fits}
 
 word_fits : (immediates : Immediates) (width : Width) (arg : Arg) (scratch : ℕ) → IsWord immediates width arg
     → FitsSource immediates width (source_of scratch arg)
@@ -124,30 +124,31 @@ one_result [] width is = absurd is
 one_result (o ∷ []) width is = (o, refl, is)
 one_result (o ∷ p ∷ os) width is = absurd is
 
-pub fitting : (r : Returns) (o : AirOp) (os : List Operand) → HasOperands r o os → IsFitting o os
-fitting r (op.SetIf t) os has = test_fits t has.0 _ os has.2
-fitting r (op.SelectIf t) os has = test_fits t has.0 _ os has.2
-fitting r (op.BranchIf t) os has = branch_fits t has.0 os has.2
-fitting r (op.CheckIf t) os has =
+pub fitting : (p : AirProc) (o : AirOp) (os : List Operand) → HasOperands p.returns o os → All (λ (o : Operand). NamesOwn p o.role o.arg) os → IsFitting o os
+fitting p op.Shuffle os has named = shuffle_fits p os has.0 has.1 named
+fitting p (op.SetIf t) os has named = test_fits t has.0 _ os has.2
+fitting p (op.SelectIf t) os has named = test_fits t has.0 _ os has.2
+fitting p (op.BranchIf t) os has named = branch_fits t has.0 os has.2
+fitting p (op.CheckIf t) os has named =
     subst (λ (xs : List Operand). IsTested t (width_at xs 0) (source_at xs 1 16)) (sym (has.1 ∙ grouped has.0))
     (check_fits t has.2.width has.0.inputs (has.0.reported ++ (has.0.changed ++ has.0.results)) has.2.fits)
-fitting r op.Add os has = second_fits OfSum has.0 _ os has.2
-fitting r op.And os has = second_fits OfLogic has.0 _ os has.2
-fitting r op.Or os has = second_fits OfLogic has.0 _ os has.2
-fitting r op.Xor os has = second_fits OfLogic has.0 _ os has.2
-fitting r op.Load8Z os has = load_fits op.Load8Z W32 Ldrb os refl has.2
-fitting r op.Load8S os has = load_fits op.Load8S W32 Ldrsb os refl has.2
-fitting r op.Load16Z os has = load_fits op.Load16Z W32 Ldrh os refl has.2
-fitting r op.Load16S os has = load_fits op.Load16S W32 Ldrsh os refl has.2
-fitting r op.Load os has = word_load_fits has.0 has.1 os has.2
-fitting r op.Store8 os has = store_fits op.Store8 W32 Strb os refl has.2
-fitting r op.Store16 os has = store_fits op.Store16 W32 Strh os refl has.2
-fitting r op.Store os has = word_store_fits has.0 has.1 os has.2
-fitting r (op.Switch cases) os has = switch_fits has.0 cases os has.1 has.2
-fitting r o os has = tt
+fitting p op.Add os has named = second_fits OfSum has.0 _ os has.2
+fitting p op.And os has named = second_fits OfLogic has.0 _ os has.2
+fitting p op.Or os has named = second_fits OfLogic has.0 _ os has.2
+fitting p op.Xor os has named = second_fits OfLogic has.0 _ os has.2
+fitting p op.Load8Z os has named = load_fits op.Load8Z W32 Ldrb os refl has.2
+fitting p op.Load8S os has named = load_fits op.Load8S W32 Ldrsb os refl has.2
+fitting p op.Load16Z os has named = load_fits op.Load16Z W32 Ldrh os refl has.2
+fitting p op.Load16S os has named = load_fits op.Load16S W32 Ldrsh os refl has.2
+fitting p op.Load os has named = word_load_fits has.0 has.1 os has.2
+fitting p op.Store8 os has named = store_fits op.Store8 W32 Strb os refl has.2
+fitting p op.Store16 os has named = store_fits op.Store16 W32 Strh os refl has.2
+fitting p op.Store os has named = word_store_fits has.0 has.1 os has.2
+fitting p (op.Switch cases) os has named = switch_fits has.0 cases os has.1 has.2
+fitting p o os has named = tt
 
 fit_at : (p : AirProc) (i : AirInst) → IsGoodInst p i → IsFitting i.op i.operands
-fit_at p i good = fitting p.returns i.op i.operands good.operands
+fit_at p i good = fitting p i.op i.operands good.operands good.names
 
 pub blocks_fit : (p : AirProc) → IsWellFormed p → All IsFittingBlock p.blocks
 blocks_fit p well k d lt j i within = fit_at p (get_or (get_or p.blocks k d).insts j i) ((well.blocks k d lt).insts j i within)

@@ -192,7 +192,6 @@ module _ (z : Setting) (set : IsSet z) (serves : IsFrameOf z.procedure z.frame) 
 module _ (f : Frame) (next label mark : ℕ) (targets : List ℕ) (traps : Bool) (os : List Operand) where
   pub straight_items : (o : AirOp) → is_straight o ≡ true → inst_items f next label mark targets traps o os ≡ plains (inst_code f o os)
   unfolding inst_items inner_items
-  straight_items op.Shuffle is = absurd cc
   straight_items (op.BranchIf test) is = absurd cc
   straight_items op.Jump is = absurd cc
   straight_items (op.Switch cases) is = absurd cc

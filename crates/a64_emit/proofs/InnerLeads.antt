@@ -28,12 +28,14 @@ use Rattle.a64_layout.specs.Layout.{place, position_of}
 use Rattle.a64_layout.specs.Machine.{Machine}
 use Rattle.a64_emit.specs.Built.{is_built}
 use Rattle.a64_emit.specs.Code.{arg_at, fetch_address, fetch_stored, inner_items, inst_code, inst_items, load_inst, put_result, result_reg, store_inst, with_mark, breaks, call_inst, fetch, check_items, checked_items, test_count}
-use Rattle.a64_emit.specs.Made.{inst_sites, sites_by, trap_site, outward_site, patch_size, exit_site}
+use Rattle.stackmap.specs.declared.site.Site.{Site}
+use Rattle.a64_emit.specs.Made.{exit_by, inst_sites, sites_by, trap_site, outward_site, patch_size, exit_site}
 use Rattle.a64_code.specs.Places.{plains}
 use Rattle.a64_emit.specs.Related.{IsRelated}
 use Rattle.a64_emit.specs.Setting.{IsSet, Setting}
 use Rattle.a64_emit.proofs.Instructions.{AreOpen, inst_runs, is_load, is_store_op, is_straight, load_by, store_by}
 use Rattle.a64_emit.proofs.MarkedRuns.{insts_plains, plains_passed}
+use Rattle.a64_emit.proofs.Exits.{ExitAt, HasOwn}
 use Rattle.a64_emit.proofs.Positions.{Among}
 
 -- an instruction that may stand before the last one
@@ -67,7 +69,6 @@ shape_of op.Load traps built inner = IsALoad refl
 shape_of op.Store8 traps built inner = IsAStore refl
 shape_of op.Store16 traps built inner = IsAStore refl
 shape_of op.Store traps built inner = IsAStore refl
-shape_of op.Shuffle traps built inner = absurd cc
 shape_of (op.CheckIf test) traps built inner = IsACheck test refl
 shape_of op.CheckAdd traps built inner = IsAChecked Sum refl
 shape_of op.CheckSub traps built inner = IsAChecked Difference refl
@@ -92,26 +93,26 @@ unfolding inst_items inner_items
 items_of_patch f next label mark targets traps os o size typed is = ap (λ o. inst_items f next label mark targets traps o os) is
 
 items_of_check : (f : Frame) (next label mark : ℕ) (targets : List ℕ) (traps : Bool) (os : List Operand) (o : AirOp) (t : Test) → o ≡ op.CheckIf t
-    → inst_items f next label mark targets traps o os ≡ check_items f label mark t os
+    → inst_items f next label mark targets traps o os ≡ check_items f label t os
 unfolding inst_items
 items_of_check f next label mark targets traps os o t is = ap (λ o. inst_items f next label mark targets traps o os) is
 
 checked_op_items : (f : Frame) (next label mark : ℕ) (targets : List ℕ) (traps : Bool) (os : List Operand) (checked : Checked)
-    → inst_items f next label mark targets traps (check_op checked) os ≡ checked_items f label mark checked os
+    → inst_items f next label mark targets traps (check_op checked) os ≡ checked_items f label checked os
 unfolding inst_items
 checked_op_items f next label mark targets traps os Sum = refl
 checked_op_items f next label mark targets traps os Difference = refl
 checked_op_items f next label mark targets traps os Product = refl
 
 items_of_checked : (f : Frame) (next label mark : ℕ) (targets : List ℕ) (traps : Bool) (os : List Operand) (o : AirOp) (checked : Checked)
-    → o ≡ check_op checked → inst_items f next label mark targets traps o os ≡ checked_items f label mark checked os
+    → o ≡ check_op checked → inst_items f next label mark targets traps o os ≡ checked_items f label checked os
 items_of_checked f next label mark targets traps os o checked is =
     ap (λ o. inst_items f next label mark targets traps o os) is ∙ checked_op_items f next label mark targets traps os checked
 
 check_operands : (r : Returns) (o : AirOp) (os : List Operand) (t : Test) → o ≡ op.CheckIf t → HasOperands r o os → HasSite (op.CheckIf t) os
 check_operands r o os t is has = subst (λ x. HasOperands r x os) is has
 
-checked_sites : (f : Frame) (i : AirInst) (checked : Checked) → sites_by (kind_of (check_op checked)) f i ≡ exit_site f 2 i ∷ []
+checked_sites : (f : Frame) (i : AirInst) (checked : Checked) → exit_by (kind_of (check_op checked)) f i ≡ exit_site f 2 i ∷ []
 checked_sites f i Sum = refl
 checked_sites f i Difference = refl
 checked_sites f i Product = refl
@@ -128,11 +129,13 @@ module _ (z : Setting) (set : IsSet z) (serves : IsFrameOf z.procedure z.frame)
     (c : Machine) where
   pub inner_leads : IsInner z i → Among z.code k (inst_items z.frame next label mark targets i.traps i.op i.operands)
       → Among z.sites mark (inst_sites z.frame i)
+      → HasOwn z (k + length (inst_items z.frame next label mark targets i.traps i.op i.operands)) label i
       → place z.code z.long (k + length (inst_items z.frame next label mark targets i.traps i.op i.operands)) < place z.code z.long (length z.code)
       → All IsRangedAnswer s.world.answers → IsRelated z s c
       → InstLeads z i s k c (k + length (inst_items z.frame next label mark targets i.traps i.op i.operands))
-  inner_leads mine among sites room ranged rel =
+  inner_leads mine among sites exit room ranged rel =
       let Leads : List Item → Type 0 = λ items. InstLeads z i s k c (k + length items) in
+      let Exit : Site → List Item → Type 0 = λ site items. ExitAt z (k + length items) label site in
       let Room : List Item → Type 0 = λ items. place z.code z.long (k + length items) < place z.code z.long (length z.code) in
       elim (shape_of i.op i.traps mine.built mine.inner) as (λ x. Leads (inst_items z.frame next label mark targets i.traps i.op i.operands)) [
         | IsALoad is ↦
@@ -170,17 +173,17 @@ module _ (z : Setting) (set : IsSet z) (serves : IsFrameOf z.procedure z.frame)
             let same = items_of_check z.frame next label mark targets i.traps i.operands i.op t is in
             subst Leads (sym same)
             (check_leads z set serves placed i s k c t is (check_operands z.procedure.returns i.op i.operands t is mine.operands) mine.owns mine.opened label
-            mark (subst (Among z.code k) same among)
-            (first_site z.sites mark (inst_sites z.frame i) (exit_site z.frame (test_count t) i) sites (ap (λ o. sites_by (kind_of o) z.frame i) is)) ranged
-            rel)
+            (subst (Among z.code k) same among)
+            (subst (Exit (exit_site z.frame (test_count t) i)) same (exit (exit_site z.frame (test_count t) i) (ap (λ o. exit_by (kind_of o) z.frame i) is)))
+            ranged rel)
         | IsAChecked checked is ↦
             let same = items_of_checked z.frame next label mark targets i.traps i.operands i.op checked is in
             subst Leads (sym same)
             (checked_leads z set serves placed i s k c checked is
             (result_site z.procedure.returns checked i.operands (subst (λ o. HasOperands z.procedure.returns o i.operands) is mine.operands)) mine.owns
-            mine.opened label mark (subst (Among z.code k) same among)
-            (first_site z.sites mark (inst_sites z.frame i) (exit_site z.frame 2 i) sites
-            (ap (λ o. sites_by (kind_of o) z.frame i) is ∙ checked_sites z.frame i checked))
+            mine.opened label (subst (Among z.code k) same among)
+            (subst (Exit (exit_site z.frame 2 i)) same
+            (exit (exit_site z.frame 2 i) (ap (λ o. exit_by (kind_of o) z.frame i) is ∙ checked_sites z.frame i checked)))
             (subst Room same room) ranged rel)
         | IsStraight is ↦
             let same = straight_items z.frame next label mark targets i.traps i.operands i.op is in

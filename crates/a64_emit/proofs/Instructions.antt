@@ -1,6 +1,7 @@
 -- Each instruction that doesn't end its block does what its code does.
-use Rattle.std.proofs.Common.{◌≡◌, ℕ, ◌<◌, ◌≤◌, Bool, length, true, false, inl, inr, List, [], ◌∷◌, ◌++◌, Option, Some, None, refl, sym, ap, ◌∙◌, subst, arith}
-use Rattle.std.specs.Prelude.{if◌then◌else◌, slice_get}
+use Rattle.std.proofs.Common.{◌≡◌, ℕ, suc, ◌<◌, ◌≤◌, Bool, length, true, false, inl, inr, List, [], ◌∷◌, ◌++◌, Option, Some, None, refl, sym, ap, ◌∙◌, subst, arith}
+use Rattle.std.specs.Prelude.{All, if◌then◌else◌, slice_get}
+use Rattle.std.proofs.lemmas.List.Elements.{All-cons, All-nil}
 use Rattle.b3_base.specs.declared.word.Width.{Width}
 use Rattle.b3_base.specs.declared.word.Width.TheVariants.{W32, W64}
 use Rattle.b3_meaning.specs.Opcodes.{truth}
@@ -18,7 +19,7 @@ use Rattle.a64_layout.specs.Branch.{opposite_cond}
 use Rattle.air_ir.specs.Words.{computed}
 use Rattle.air_ir.specs.declared.frame.Frame.{Frame}
 use Rattle.a64_code.specs.declared.source.Source.{Source}
-use Rattle.air_ir.specs.Forms.{Address, AllFit, AnyWord, AreThese, BitOf, Fits, HasOperands, Immediates, IsAddress, IsHome, IsSlot, IsWord, NoImmediate, OfLogic, OfSum, OnlyZero, Result, Slot, Takes, Word, home, load, store, takes}
+use Rattle.air_ir.specs.Forms.{Address, AllFit, AnyWord, ArePairs, AreThese, BitOf, Fits, HasOperands, Immediates, IsAddress, IsHome, IsSlot, IsWord, NoImmediate, OfLogic, OfSum, OnlyZero, Result, Slot, Takes, Word, WritesApart, home, load, store, takes}
 use Rattle.air_ir.specs.Kinds.{Computes, Copies, FramePointers, Kind, Loads, SlotAddresses, Stores, kind_of}
 use Rattle.air_ir.specs.Operands.{Read, and_word, targets, word_of, words}
 use Rattle.air_ir.specs.Steps.{State}
@@ -35,7 +36,7 @@ use Rattle.air_ir.specs.declared.operand.Role.TheVariants.{Use}
 use Rattle.air_ir.specs.declared.procedure.AirInst.{AirInst}
 use Rattle.air_frame.specs.Frames.{IsFrameOf}
 use Rattle.a64_code.specs.Accesses.{access_kind}
-use Rattle.a64_emit.specs.Code.{arg_at, compute_code, fetch, fetch_address, fetch_stored, inst_code, load_code, load_inst, put_result, result_reg, source_of, store_code, store_inst}
+use Rattle.a64_emit.specs.Code.{arg_at, compute_code, fetch, fetch_address, fetch_stored, home_of, inst_code, load_code, load_inst, moves_of, put_result, result_reg, source_of, store_code, store_inst}
 use Rattle.a64_code.specs.Computing.{condition, reg_of, testing}
 use Rattle.a64_code.specs.Fitting.{FitsSource, IsComputed, IsTested}
 use Rattle.a64_emit.specs.Related.{IsRelated}
@@ -45,6 +46,7 @@ use Rattle.a64_emit.proofs.AccessesRun.{AccessRuns, IsLoad, IsStore, load_16s, l
 use Rattle.a64_emit.proofs.AirSteps.{IsWritten, computes_word, step_gives, step_lost, targets_result, targets_use, words_result, words_use, written_home}
 use Rattle.a64_emit.proofs.Computes.{InstRuns, one_runs, place_usable, source_most, three_runs, two_runs}
 use Rattle.a64_emit.proofs.Copies.{IsConstantOf, copy_runs}
+use Rattle.a64_emit.proofs.ShufflesRun.{IsGiven, shuffle_runs}
 use Rattle.a64_emit.proofs.Fetching.{IsPlaceFor, IsUsable}
 use Rattle.a64_emit.proofs.FrameAddresses.{IsOwnSlot, pointer_runs, slot_runs}
 use Rattle.a64_code.proofs.Ops.{IsRegister, IsWidthOf, second_width, takes_constant}
@@ -130,13 +132,13 @@ abbrev pub is_store_op : AirOp → Bool
 is_store_op o = is_store_kind (kind_of o)
 
 abbrev pub is_straight : AirOp → Bool
-is_straight op.Shuffle = false
 is_straight o = is_straight_kind (kind_of o)
 
 -- ---- ops of one instruction
 
 abbrev IsSimple : AirOp → Type 0
 IsSimple op.Move = ⊥
+IsSimple op.Shuffle = ⊥
 IsSimple (op.SetIf test) = ⊥
 IsSimple (op.SelectIf test) = ⊥
 IsSimple op.Load8Z = ⊥
@@ -205,6 +207,7 @@ module _ (z : Setting) (set : IsSet z) (serves : IsFrameOf z.procedure z.frame) 
   simple_code : (o : AirOp) (os : List Operand) → IsSimple o → inst_code z.frame o os ≡ compute_code z.frame o os
   unfolding inst_code
   simple_code op.Move os simple = absurd simple
+  simple_code op.Shuffle os simple = absurd simple
   simple_code (op.SetIf test) os simple = absurd simple
   simple_code (op.SelectIf test) os simple = absurd simple
   simple_code op.Load8Z os simple = absurd simple
@@ -291,6 +294,30 @@ module _ (z : Setting) (set : IsSet z) (serves : IsFrameOf z.procedure z.frame) 
       copy_runs z set serves i s c a.0 d.0 written.0 operands (ap (λ o. inst_code z.frame o (a.0 ∷ d.0 ∷ [])) e) (ap kind_of e) a.3.0 (d.3.1 ∙ sym a.3.1) written.1 rel
       usable (subst (λ w. IsConstantOf w a.0.arg) (sym a.3.1) (constant_of z AnyWord width a.0.arg usable a.3.2))
       ((opened 1 d.0 (ap (λ os. slice_get os 1) operands)).writes written.0 written.1)
+
+  -- the moves of a Shuffle are from what may be fetched to homes in which a result may be put
+  given_moves : (os : List Operand) → ArePairs os → AreOpen z os → All (IsGiven z) (moves_of os)
+  unfolding moves_of ArePairs AllFit
+  given_moves [] are opened = All-nil (IsGiven z)
+  given_moves (o ∷ []) are opened = absurd are
+  given_moves (from ∷ to ∷ os) are opened =
+      let a = are.1.0 in
+      let d = are.1.1.0 in
+      let written = written_home are.0 to d in
+      let usable = (opened 0 from refl).reads a.0 are.0 AnyWord a.2 in
+      All-cons (IsGiven z) _ (moves_of os)
+      (record {
+        usable = usable;
+        place = subst (IsPlaceFor z) (sym (ap home_of written.1.arg)) ((opened 1 to refl).writes written.0 written.1);
+        constant = subst (λ w. IsConstantOf w from.arg) (sym a.1) (constant_of z AnyWord are.0 from.arg usable a.2);
+      })
+      (given_moves os are.2 (λ k o there. opened (suc (suc k)) o there))
+
+  shuffle_form : (i : AirInst) (s : State) (c : Machine) → i.op ≡ op.Shuffle → ArePairs i.operands × WritesApart i.operands
+      → AreOpen z i.operands → IsRelated z s c → InstRuns z i s c
+  unfolding inst_code
+  shuffle_form i s c e has opened rel =
+      shuffle_runs z set serves i s c e (given_moves i.operands has.0 opened) has.0 has.1 rel (ap (λ o. inst_code z.frame o i.operands) e)
 
   -- ---- memory
 
@@ -593,6 +620,7 @@ module _ (z : Setting) (set : IsSet z) (serves : IsFrameOf z.procedure z.frame) 
       → AreOpen z i.operands → IsRelated z s c → InstRuns z i s c
   unfolding inst_code
   by_op i s c returns op.Move e straight h opened rel = move_form i s c h.0 e h.2 opened rel
+  by_op i s c returns op.Shuffle e straight h opened rel = shuffle_form i s c e h opened rel
   by_op i s c returns op.Add e straight h opened rel = two_form i s c op.Add h.0 h.0 h.0 OfSum e tt refl h.2 tt refl (λ n. absurd cc) (λ b usable is. fits_source z OfSum h.0 16 b usable is) opened rel
   by_op i s c returns op.Sub e straight h opened rel = two_form i s c op.Sub h.0 h.0 h.0 NoImmediate e tt refl h.2 tt refl (λ n. refl) (λ b usable is. tt) opened rel
   by_op i s c returns op.Neg e straight h opened rel = one_form i s c op.Neg h.0 h.0 e tt refl h.2 tt (λ b. tt) opened rel

@@ -3,7 +3,7 @@ use Rattle.air_ir.specs.declared.op.Test.{Test}
 use Rattle.a64_inst.specs.declared.inst.Inst.TheVariants.{Break}
 use Rattle.a64_inst.specs.declared.inst.Inst.{Inst}
 use Rattle.std.proofs.Common.{◌≡◌, ℕ, zero, suc, ◌+◌, ◌<◌, ◌≤◌, ⊎_elim, Bool, true, false, not, cond, List, [], ◌∷◌, ◌++◌, Some, length, get_or, refl, sym, ap, ◌∙◌, subst, arith, eq-eqb}
-use Rattle.std.specs.Prelude.{nat_lt, slice_get, ◌==◌}
+use Rattle.std.specs.Prelude.{if◌then◌else◌, nat_lt, slice_get, ◌==◌}
 use Rattle.std.specs.List.{count_by, position_or_len, sum_by}
 use Rattle.std.proofs.lemmas.Bool.Decides.{nat_tests}
 use Rattle.std.proofs.lemmas.List.Sums.{sum_by-append, sum_by-cons}
@@ -11,6 +11,7 @@ use Rattle.a64_inst.specs.declared.inst.Cond.TheVariants.{Eq, Hi}
 use Rattle.a64_inst.specs.declared.item.Item.{Item}
 use Rattle.a64_inst.specs.declared.item.Item.TheVariants.{If, IfBit, IfZero, Jump, Label, Mark, Plain}
 use Rattle.b3_base.specs.declared.word.Width.{Width}
+use Rattle.air_ir.specs.Kinds.{kind_of}
 use Rattle.air_ir.specs.declared.frame.Frame.{Frame}
 use Rattle.air_ir.specs.declared.op.AirOp.{AirOp}
 use Rattle.air_ir.specs.declared.op.AirOp.TheVariants as op
@@ -21,13 +22,13 @@ use Rattle.air_ir.specs.declared.procedure.AirProc.{AirProc}
 use Rattle.a64_layout.specs.Layout.{is_label, position_of}
 use Rattle.a64_layout.specs.Text.{is_any_label, label_count}
 use Rattle.a64_layout.proofs.Labels.{label_stands}
-use Rattle.a64_emit.specs.Code.{arg_at, block_labels, block_marks, blocks_items, emitted, fetch, inst_items, insts_items, labels_of, marks_of, own_labels, source_at, width_at, guarded, branch_item}
+use Rattle.a64_emit.specs.Code.{arg_at, block_exits, block_labels, block_marks, blocks_exits, blocks_items, emitted, exits_by, exits_of, fetch, has_exit, inner_marks, inst_exits, inst_items, insts_exits, insts_items, labels_of, marks_of, own_labels, source_at, width_at, guarded, branch_item}
 use Rattle.a64_code.specs.Computing.{reg_of}
 use Rattle.a64_code.specs.Places.{plains, prologue}
 use Rattle.a64_emit.specs.Switched.{case_items, cases_in_order, compare_word, jump_to, search_items, switch_items, switch_labels}
 use Rattle.a64_emit.specs.Trees.{Leaf, Node, Tree, node_count, tree}
 use Rattle.a64_emit.specs.declared.case.Case.{Case}
-use Rattle.a64_emit.proofs.Positions.{InstShape, IsUnlabelled, guard_unlabelled, inst_shape, leaf_unlabelled, plains_unlabelled, HasNone, IsASwitch, IsGuarded}
+use Rattle.a64_emit.proofs.Positions.{InstShape, IsUnlabelled, inst_shape, leaf_unlabelled, plains_unlabelled, HasNone, IsASwitch}
 use Rattle.a64_emit.proofs.Sorting.{search_labels}
 use Rattle.a64_emit.proofs.Trees.{Each, each_weaker}
 
@@ -141,112 +142,116 @@ switch_count f next own mark targets cases traps os =
     let same = search_labels width cases targets in
     omega arith
 
--- no label stands among these
-unlabelled_times : (label own n : ℕ) (items : List Item) → Each IsUnlabelled items → n ≡ 0 → label_times label items + below own label ≡ below (own + n) label
-unlabelled_times label own n items each none =
-    let times = none_times label items each in
-    let e : own ≡ own + n = omega arith in
-    let same = ap (λ m. below m label) e in
-    omega arith
-
--- the label of a check is its own
-guarded_times : (label : ℕ) (before : List Inst) (test : Test) (width : Width) (reg own mark : ℕ) (behind : List Inst)
-    → label_times label (guarded before test width reg own mark behind) + below own label ≡ below (own + 1) label
-guarded_times label before test width reg own mark behind =
-    let guard : List Item = branch_item test false width reg own ∷ Mark mark ∷ Plain (Break 1) ∷ [] in
-    let first = none_times label (plains before) (plains_unlabelled before) in
-    let second = none_times label guard (guard_unlabelled test width reg own mark) in
-    let last = none_times label (plains behind) (plains_unlabelled behind) in
-    let parts = both_times (is_label label) (plains before) (guard ++ Label own ∷ plains behind) in
-    let rest = both_times (is_label label) guard (Label own ∷ plains behind) in
-    let here = more_times (is_label label) (Label own) (plains behind) in
+-- the label of an exit
+exit_times : (label own mark : ℕ) (b : Bool) → label_times label (exits_by b own mark) + below own label ≡ below (own + (if b then 1 else 0)) label
+exit_times label own mark true =
+    let rest : List Item = Mark mark ∷ Plain (Break 1) ∷ [] in
+    let none = none_times label rest (refl, (refl, tt)) in
+    let here = more_times (is_label label) (Label own) rest in
     let one = label_one own label in
     omega arith
-
-guarded_count : (before : List Inst) (test : Test) (width : Width) (reg own mark : ℕ) (behind : List Inst)
-    → label_count (guarded before test width reg own mark behind) ≡ 1
-guarded_count before test width reg own mark behind =
-    let guard : List Item = branch_item test false width reg own ∷ Mark mark ∷ Plain (Break 1) ∷ [] in
-    let first = count_none is_any_label (plains before) (plains_unlabelled before) in
-    let second = count_none is_any_label guard (guard_unlabelled test width reg own mark) in
-    let last = count_none is_any_label (plains behind) (plains_unlabelled behind) in
-    let parts = both_times is_any_label (plains before) (guard ++ Label own ∷ plains behind) in
-    let rest = both_times is_any_label guard (Label own ∷ plains behind) in
-    let here = more_times is_any_label (Label own) (plains behind) in
-    omega arith
-
-inst_times : (label : ℕ) (f : Frame) (next own mark : ℕ) (targets : List ℕ) (traps : Bool) (o : AirOp) (os : List Operand)
-    → label_times label (inst_items f next own mark targets traps o os) + below own label ≡ below (own + own_labels o) label
-inst_times label f next own mark targets traps o os =
-    elim (inst_shape f next own mark targets traps o os)
-    as (λ x. label_times label (inst_items f next own mark targets traps o os) + below own label ≡ below (own + own_labels o) label) [
-      | HasNone each none ↦ unlabelled_times label own (own_labels o) (inst_items f next own mark targets traps o os) each none
-      | IsASwitch cases is ↦
-          subst (λ o. label_times label (inst_items f next own mark targets traps o os) + below own label ≡ below (own + own_labels o) label) (sym is)
-          (switch_times label f next own mark targets cases traps os)
-      | IsGuarded before test width reg behind is one ↦
-          ap (λ (xs : List Item). label_times label xs + below own label) is ∙ guarded_times label before test width reg own mark behind
-          ∙ ap (λ n. below (own + n) label) (sym one)
-    ]
-
-inst_count : (f : Frame) (next own mark : ℕ) (targets : List ℕ) (traps : Bool) (o : AirOp) (os : List Operand) → label_count (inst_items f next own mark targets traps o os) ≡ own_labels o
-inst_count f next own mark targets traps o os =
-    elim (inst_shape f next own mark targets traps o os) as (λ x. label_count (inst_items f next own mark targets traps o os) ≡ own_labels o) [
-      | HasNone each none ↦ count_none is_any_label (inst_items f next own mark targets traps o os) each ∙ sym none
-      | IsASwitch cases is ↦
-          subst (λ o. label_count (inst_items f next own mark targets traps o os) ≡ own_labels o) (sym is)
-          (switch_count f next own mark targets cases traps os)
-      | IsGuarded before test width reg behind is one ↦ ap label_count is ∙ guarded_count before test width reg own mark behind ∙ sym one
-    ]
-
--- the labels of the instructions of a block are their own ones
-insts_times : (label : ℕ) (f : Frame) (next own mark : ℕ) (targets : List ℕ) (insts : List AirInst)
-    → label_times label (insts_items f next own mark targets insts) + below own label ≡ below (own + sum_by labels_of insts) label
-unfolding insts_items
-insts_times label f next own mark targets [] =
+exit_times label own mark false =
     let e : own ≡ own + 0 = omega arith in
     let same = ap (λ n. below n label) e in
     omega arith
-insts_times label f next own mark targets (i ∷ insts) =
+
+exit_count : (own mark : ℕ) (b : Bool) → label_count (exits_by b own mark) ≡ (if b then 1 else 0)
+exit_count own mark true =
+    let rest : List Item = Mark mark ∷ Plain (Break 1) ∷ [] in
+    let none = count_none is_any_label rest (refl, (refl, tt)) in
+    let here = more_times is_any_label (Label own) rest in
+    omega arith
+exit_count own mark false = refl
+
+-- the labels of an instruction are those within it and that of its exit
+inst_times : (label : ℕ) (f : Frame) (next own mark exit : ℕ) (targets : List ℕ) (traps : Bool) (o : AirOp) (os : List Operand)
+    → label_times label (inst_items f next own mark targets traps o os) + label_times label (exits_by (has_exit (kind_of o)) own exit) + below own label
+    ≡ below (own + own_labels o) label
+inst_times label f next own mark exit targets traps o os =
+    elim (inst_shape f next own mark targets traps o os)
+    as (λ x. label_times label (inst_items f next own mark targets traps o os) + label_times label (exits_by (has_exit (kind_of o)) own exit)
+    + below own label ≡ below (own + own_labels o) label) [
+      | HasNone each same ↦
+          let none = none_times label (inst_items f next own mark targets traps o os) each in
+          let out = exit_times label own exit (has_exit (kind_of o)) in
+          let e = ap (λ n. below (own + n) label) same in
+          omega arith
+      | IsASwitch cases is ↦
+          subst (λ o. label_times label (inst_items f next own mark targets traps o os) + label_times label (exits_by (has_exit (kind_of o)) own exit)
+          + below own label ≡ below (own + own_labels o) label) (sym is)
+          (let times = switch_times label f next own mark targets cases traps os in omega arith)
+    ]
+
+inst_count : (f : Frame) (next own mark exit : ℕ) (targets : List ℕ) (traps : Bool) (o : AirOp) (os : List Operand)
+    → label_count (inst_items f next own mark targets traps o os) + label_count (exits_by (has_exit (kind_of o)) own exit) ≡ own_labels o
+inst_count f next own mark exit targets traps o os =
+    elim (inst_shape f next own mark targets traps o os)
+    as (λ x. label_count (inst_items f next own mark targets traps o os) + label_count (exits_by (has_exit (kind_of o)) own exit) ≡ own_labels o) [
+      | HasNone each same ↦
+          let none = count_none is_any_label (inst_items f next own mark targets traps o os) each in
+          let out = exit_count own exit (has_exit (kind_of o)) in
+          omega arith
+      | IsASwitch cases is ↦
+          subst (λ o. label_count (inst_items f next own mark targets traps o os) + label_count (exits_by (has_exit (kind_of o)) own exit) ≡ own_labels o) (sym is)
+          (let count = switch_count f next own mark targets cases traps os in omega arith)
+    ]
+
+-- the labels of the instructions of a block are their own ones
+insts_times : (label : ℕ) (f : Frame) (next own mark exit : ℕ) (targets : List ℕ) (insts : List AirInst)
+    → label_times label (insts_items f next own mark targets insts) + label_times label (insts_exits own exit insts) + below own label
+    ≡ below (own + sum_by labels_of insts) label
+unfolding insts_items insts_exits
+insts_times label f next own mark exit targets [] =
+    let e : own ≡ own + 0 = omega arith in
+    let same = ap (λ n. below n label) e in
+    omega arith
+insts_times label f next own mark exit targets (i ∷ insts) =
     let items : List Item = inst_items f next own mark targets i.traps i.op i.operands in
     let rest : List Item = insts_items f next (own + labels_of i) (mark + marks_of i) targets insts in
+    let out : List Item = inst_exits own exit i in
+    let others : List Item = insts_exits (own + labels_of i) (exit + exits_of i) insts in
     let parts = both_times (is_label label) items rest in
-    let here = inst_times label f next own mark targets i.traps i.op i.operands in
-    let more = insts_times label f next (own + labels_of i) (mark + marks_of i) targets insts in
+    let outs = both_times (is_label label) out others in
+    let here = inst_times label f next own mark exit targets i.traps i.op i.operands in
+    let more = insts_times label f next (own + labels_of i) (mark + marks_of i) (exit + exits_of i) targets insts in
     let sum = sum_by-cons labels_of i insts in
     let e : own + labels_of i + sum_by labels_of insts ≡ own + sum_by labels_of (i ∷ insts) = omega arith in
     let same = ap (λ n. below n label) e in
     omega arith
 
-insts_count : (f : Frame) (next own mark : ℕ) (targets : List ℕ) (insts : List AirInst)
-    → label_count (insts_items f next own mark targets insts) ≡ sum_by labels_of insts
-unfolding insts_items
-insts_count f next own mark targets [] = refl
-insts_count f next own mark targets (i ∷ insts) =
+insts_count : (f : Frame) (next own mark exit : ℕ) (targets : List ℕ) (insts : List AirInst)
+    → label_count (insts_items f next own mark targets insts) + label_count (insts_exits own exit insts) ≡ sum_by labels_of insts
+unfolding insts_items insts_exits
+insts_count f next own mark exit targets [] = refl
+insts_count f next own mark exit targets (i ∷ insts) =
     let parts = both_times is_any_label (inst_items f next own mark targets i.traps i.op i.operands)
     (insts_items f next (own + labels_of i) (mark + marks_of i) targets insts) in
-    let here = inst_count f next own mark targets i.traps i.op i.operands in
-    let more = insts_count f next (own + labels_of i) (mark + marks_of i) targets insts in
+    let outs = both_times is_any_label (inst_exits own exit i) (insts_exits (own + labels_of i) (exit + exits_of i) insts) in
+    let here = inst_count f next own mark exit targets i.traps i.op i.operands in
+    let more = insts_count f next (own + labels_of i) (mark + marks_of i) (exit + exits_of i) targets insts in
     let sum = sum_by-cons labels_of i insts in
     omega arith
 
 -- the labels of blocks are their numbers and their own ones
-blocks_times : (label : ℕ) (f : Frame) (first own mark : ℕ) (blocks : List AirBlock)
-    → label_times label (blocks_items f first own mark blocks) + below first label + below own label
+blocks_times : (label : ℕ) (f : Frame) (first own mark exit : ℕ) (blocks : List AirBlock)
+    → label_times label (blocks_items f first own mark blocks) + label_times label (blocks_exits own exit blocks) + below first label + below own label
     ≡ below (first + length blocks) label + below (own + sum_by block_labels blocks) label
-unfolding blocks_items
-blocks_times label f first own mark [] =
+unfolding blocks_items blocks_exits
+blocks_times label f first own mark exit [] =
     let a : first ≡ first + 0 = omega arith in
     let b : own ≡ own + 0 = omega arith in
     let same_a = ap (λ n. below n label) a in
     let same_b = ap (λ n. below n label) b in
     omega arith
-blocks_times label f first own mark (block ∷ blocks) =
+blocks_times label f first own mark exit (block ∷ blocks) =
     let inside : List Item = insts_items f (first + 1) own mark block.targets block.insts in
     let rest : List Item = blocks_items f (first + 1) (own + block_labels block) (mark + block_marks block) blocks in
-    let here = insts_times label f (first + 1) own mark block.targets block.insts in
-    let more = blocks_times label f (first + 1) (own + block_labels block) (mark + block_marks block) blocks in
+    let out : List Item = insts_exits own exit block.insts in
+    let others : List Item = blocks_exits (own + block_labels block) (exit + block_exits block) blocks in
+    let here = insts_times label f (first + 1) own mark exit block.targets block.insts in
+    let more = blocks_times label f (first + 1) (own + block_labels block) (mark + block_marks block) (exit + block_exits block) blocks in
     let parts = both_times (is_label label) inside rest in
+    let outs = both_times (is_label label) out others in
     let total = more_times (is_label label) (Label first) (inside ++ rest) in
     let one = label_one first label in
     let sum = sum_by-cons block_labels block blocks in
@@ -256,33 +261,35 @@ blocks_times label f first own mark (block ∷ blocks) =
     let same_b = ap (λ n. below n label) b in
     omega arith
 
-blocks_count : (f : Frame) (first own mark : ℕ) (blocks : List AirBlock)
-    → label_count (blocks_items f first own mark blocks) ≡ length blocks + sum_by block_labels blocks
-unfolding blocks_items
-blocks_count f first own mark [] = refl
-blocks_count f first own mark (block ∷ blocks) =
+blocks_count : (f : Frame) (first own mark exit : ℕ) (blocks : List AirBlock)
+    → label_count (blocks_items f first own mark blocks) + label_count (blocks_exits own exit blocks) ≡ length blocks + sum_by block_labels blocks
+unfolding blocks_items blocks_exits
+blocks_count f first own mark exit [] = refl
+blocks_count f first own mark exit (block ∷ blocks) =
     let inside : List Item = insts_items f (first + 1) own mark block.targets block.insts in
     let rest : List Item = blocks_items f (first + 1) (own + block_labels block) (mark + block_marks block) blocks in
-    let here = insts_count f (first + 1) own mark block.targets block.insts in
-    let more = blocks_count f (first + 1) (own + block_labels block) (mark + block_marks block) blocks in
+    let here = insts_count f (first + 1) own mark exit block.targets block.insts in
+    let more = blocks_count f (first + 1) (own + block_labels block) (mark + block_marks block) (exit + block_exits block) blocks in
     let parts = both_times is_any_label inside rest in
+    let outs = both_times is_any_label (insts_exits own exit block.insts) (blocks_exits (own + block_labels block) (exit + block_exits block) blocks) in
     let total = more_times is_any_label (Label first) (inside ++ rest) in
     let sum = sum_by-cons block_labels block blocks in
     omega arith
 
--- how many labels a procedure has: those of its blocks, and the own ones of Switches
+-- how many labels a procedure has: those of its blocks, and the own ones of Switches and checks
 abbrev pub all_labels : AirProc → ℕ
 all_labels p = length p.blocks + sum_by block_labels p.blocks
 
--- the labels of a procedure are those of its blocks, and the own ones of Switches
 pub labels_counted : (p : AirProc) (f : Frame) → label_count (emitted p f) ≡ all_labels p
 unfolding emitted
 labels_counted p f =
     let front : List Item = plains (prologue f) in
     let rest : List Item = blocks_items f 0 (length p.blocks) 0 p.blocks in
+    let out : List Item = blocks_exits (length p.blocks) (inner_marks p.blocks) p.blocks in
     let none = count_none is_any_label front (plains_unlabelled (prologue f)) in
-    let more = blocks_count f 0 (length p.blocks) 0 p.blocks in
-    let both = both_times is_any_label front rest in
+    let more = blocks_count f 0 (length p.blocks) 0 (inner_marks p.blocks) p.blocks in
+    let both = both_times is_any_label front (rest ++ out) in
+    let behind = both_times is_any_label rest out in
     omega arith
 
 all_below : (n label : ℕ) → below 0 label ≡ 0
@@ -294,9 +301,11 @@ unfolding emitted
 code_times p f label =
     let front : List Item = plains (prologue f) in
     let rest : List Item = blocks_items f 0 (length p.blocks) 0 p.blocks in
+    let out : List Item = blocks_exits (length p.blocks) (inner_marks p.blocks) p.blocks in
     let none = none_times label front (plains_unlabelled (prologue f)) in
-    let more = blocks_times label f 0 (length p.blocks) 0 p.blocks in
-    let both = both_times (is_label label) front rest in
+    let more = blocks_times label f 0 (length p.blocks) 0 (inner_marks p.blocks) p.blocks in
+    let both = both_times (is_label label) front (rest ++ out) in
+    let behind = both_times (is_label label) rest out in
     let zero_below = all_below 0 label in
     let e : 0 + length p.blocks ≡ length p.blocks = omega arith in
     let same = ap (λ n. below n label) e in

@@ -4,7 +4,7 @@ use Rattle.std.specs.Prelude.{All, nat_eq, nat_le, nat_lt, if◌then◌else◌, 
 use Rattle.std.proofs.lemmas.Bool.{cases_lt}
 use Rattle.std.proofs.lemmas.Bool.Decides.{nat_tests}
 use Rattle.std.proofs.lemmas.Int.{ints}
-use Rattle.std.proofs.lemmas.List.Elements.{All-head, All-tail}
+use Rattle.std.proofs.lemmas.List.Elements.{All-cons, All-head, All-nil, All-tail}
 use Rattle.std.proofs.lemmas.List.Sums.{sum_by-cons}
 use Rattle.b3_meaning.specs.declared.role.Checked.{Checked}
 use Rattle.b3_meaning.specs.declared.role.Checked.TheVariants.{Sum, Difference, Product}
@@ -35,16 +35,20 @@ use Rattle.air_ir.specs.declared.operand.Operand.{Operand}
 use Rattle.air_ir.specs.declared.operand.Role.{Role}
 use Rattle.air_ir.specs.declared.operand.Role.TheVariants.{Use, LateUse, EarlyDef, Def, Clobber}
 use Rattle.air_ir.specs.WellFormed.{IsGoodBlock, IsGoodInst, MayName, NamesOwn, IsWellFormed as IsGoodProc}
+use Rattle.air_shuffle.specs.Sequenced.{sequenced}
+use Rattle.air_shuffle.specs.declared.moves.Move.{Move}
 use Rattle.a64_emit.proofs.Fits.{fitting}
+use Rattle.a64_emit.proofs.ShuffleMoves.{all_made, sequence_of}
 use Rattle.air_ir.specs.declared.procedure.AirBlock.{AirBlock}
 use Rattle.air_ir.specs.declared.procedure.AirInst.{AirInst}
 use Rattle.air_ir.specs.declared.procedure.AirProc.{AirProc}
 use Rattle.a64_code.specs.Accesses.{access_kind, below_x29, upper}
-use Rattle.a64_emit.specs.Code.{arg_at, block_labels, block_marks, blocks_items, branch_item, branches, compared, compute_code, copy_reg, bring, emitted, fetch, fetch_address, fetch_below, fetch_stored, fetch_tested, frame_address, inner_items, inst_code, inst_items, insts_items, labels_of, load_code, load_inst, load_items, marks_of, own_labels, put_result, result_at, result_reg, slot_offset, source_at, source_of, store_code, store_inst, store_items, test_at, test_count, width_at, with_mark, breaks, call_inst, guarded, fetch_checked, make_checked, checked_items}
+use Rattle.air_ir.specs.Kinds.{kind_of}
+use Rattle.a64_emit.specs.Code.{arg_at, block_exits, block_labels, block_marks, blocks_exits, blocks_items, exits_by, exits_of, has_exit, inner_marks, inst_exits, insts_exits, branch_item, branches, compared, compute_code, copy_reg, bring, emitted, fetch, fetch_address, fetch_below, fetch_stored, fetch_tested, frame_address, inner_items, inst_code, inst_items, insts_items, labels_of, load_code, load_inst, load_items, marks_of, own_labels, put_result, result_at, result_reg, slot_offset, source_at, source_of, store_code, store_inst, store_items, test_at, test_count, width_at, with_mark, breaks, call_inst, guarded, fetch_checked, make_checked, checked_items, copies_code, home_of, kept_register, moves_of, shuffle_code}
 use Rattle.a64_code.specs.Computing.{computing, move_reg, reg_of, sum_with, is_sum_word}
 use Rattle.a64_code.specs.Constants.{constant, filling, half_count, half_move, half_moves, half_word, is_inverted}
 use Rattle.a64_code.specs.Fitting.{IsComputed, IsTested}
-use Rattle.a64_emit.specs.Fitting.{IsFitting, IsLoaded, IsStored}
+use Rattle.a64_emit.specs.Fitting.{AreOrderable, IsFitting, IsLoaded, IsStored}
 use Rattle.a64_code.specs.Places.{above_sp, epilogue, leave, load_at, lower_sp, plains, prologue, restores, saves, spill_offset, store_at, unless_zero}
 use Rattle.a64_emit.specs.Switched.{case_items, case_of, cases_in_order, compare_word, jump_to, search_items, sorted_words, switch_items}
 use Rattle.a64_emit.specs.Trees.{Leaf, Node, Tree, node_count, tree}
@@ -226,18 +230,44 @@ module _ (f : Frame) (limit : f.bytes < 2 ^ 21) where
 
   copy_small : (from to : Arg) → IsSmallArg from → IsSmallArg to → copy_reg from to ≤ 31
   copy_small (At (Reg r)) (At (Spill n)) small_from small_to = omega arith
-  copy_small (At (Reg r)) (At (Reg q)) small_from small_to = omega arith
-  copy_small (At (Reg r)) (At (Tmp q)) small_from small_to = omega arith
-  copy_small (At (Reg r)) (Imm word) small_from small_to = omega arith
-  copy_small (At (Reg r)) (Addr base offset) small_from small_to = omega arith
-  copy_small (At (Reg r)) (Index base index shift) small_from small_to = omega arith
-  copy_small (At (Reg r)) (FrameSlot n) small_from small_to = omega arith
-  copy_small (At (Spill n)) to small_from small_to = result_small to small_to
-  copy_small (At (Tmp n)) to small_from small_to = result_small to small_to
-  copy_small (Imm word) to small_from small_to = result_small to small_to
-  copy_small (Addr base offset) to small_from small_to = result_small to small_to
-  copy_small (Index base index shift) to small_from small_to = result_small to small_to
-  copy_small (FrameSlot n) to small_from small_to = result_small to small_to
+  copy_small from (At (Spill n)) small_from small_to = omega arith
+  copy_small from to small_from small_to = result_small to small_to
+
+  -- the registers of a move are those of the processor
+  abbrev IsSmallMove : Move → Type 0
+  IsSmallMove m = IsSmallArg m.from × IsSmallHome m.to
+
+  copies_well : (ms : List Move) → All IsSmallMove ms → AllWell (copies_code f ms)
+  unfolding copies_code
+  copies_well [] each = tt
+  copies_well (m ∷ ms) each =
+      let reg : ℕ = copy_reg m.from (At m.to) in
+      let small = All-head IsSmallMove m ms each in
+      let le = copy_small m.from (At m.to) small.0 small.1 in
+      well_append (bring f m.width reg m.from ++ put_result f reg (At m.to)) (copies_code f ms)
+      (well_append (bring f m.width reg m.from) (put_result f reg (At m.to)) (bring_well m.width reg m.from le small.0) (put_well reg (At m.to) le))
+      (copies_well ms (All-tail IsSmallMove m ms each))
+
+  small_home : (arg : Arg) → IsSmallArg arg → IsSmallHome (home_of arg)
+  small_home (At home) small = small
+  small_home (Imm word) small = tt
+  small_home (Addr base offset) small = tt
+  small_home (Index base index shift) small = tt
+  small_home (FrameSlot n) small = tt
+
+  small_moves : (os : List Operand) → AreSmall os → All IsSmallMove (moves_of os)
+  unfolding moves_of
+  small_moves [] small = All-nil IsSmallMove
+  small_moves (o ∷ []) small = All-nil IsSmallMove
+  small_moves (from ∷ to ∷ os) small =
+      All-cons IsSmallMove _ (moves_of os) (small 0, small_home to.arg (small 1)) (small_moves os (λ k. small (suc (suc k))))
+
+  shuffle_well : (os : List Operand) → AreSmall os → AreOrderable (moves_of os) → AllWell (shuffle_code f os)
+  shuffle_well os small may =
+      let ms : List Move = moves_of os in
+      copies_well (sequenced kept_register ms)
+      (all_made IsSmallMove ms (sequenced kept_register ms) (sequence_of ms may) (λ m own. (own.0, omega arith)) (λ m own. (omega arith, own.1))
+      (small_moves os small))
 
   compute_well : (o : AirOp) (os : List Operand) → AreSmall os → IsComputed o (width_at os 0) (source_at os 1 16) → AllWell (compute_code f o os)
   compute_well o os small fits =
@@ -323,6 +353,7 @@ module _ (f : Frame) (limit : f.bytes < 2 ^ 21) where
       let reg : ℕ = copy_reg (arg_at os 0) (arg_at os 1) in
       let le = copy_small (arg_at os 0) (arg_at os 1) (small 0) (small 1) in
       well_append (bring f (width_at os 0) reg (arg_at os 0)) (put_result f reg (arg_at os 1)) (bring_well (width_at os 0) reg (arg_at os 0) le (small 0)) (put_well reg (arg_at os 1) le)
+  code_well op.Shuffle os small fits = shuffle_well os small fits
   code_well (op.SetIf t) os small fits =
       let le = result_small (result_at os) (small (length os - 1)) in
       well_append (fetch_tested f t os) _ (tested_well t os) (test_well t os small fits, ((le, omega arith, omega arith), put_well (result_reg (result_at os)) (result_at os) le))
@@ -535,21 +566,26 @@ module _ (f : Frame) (limit : f.bytes < 2 ^ 21) (goods : All (IsGoodSaved f.byte
   inner_fair mark traps (op.Patch size typed) os small fits = with_mark_fair true mark [] (breaks size) tt (breaks_well size)
   inner_fair mark traps o os small fits = plains_fair n (inst_code f o os) (code_well f limit o os small fits)
 
-  guarded_fair : (before : List Inst) (t : Test) (width : Width) (b : Source) (reg label mark : ℕ) (behind : List Inst) → AllWell before → AllWell behind
-      → IsTested t width b → reg ≤ 31 → label + 1 ≤ n → Each (IsFair n) (guarded before t width reg label mark behind)
-  guarded_fair before t width b reg label mark behind first rest fits le most =
+  guarded_fair : (before : List Inst) (t : Test) (width : Width) (b : Source) (reg label : ℕ) (behind : List Inst) → AllWell before → AllWell behind
+      → IsTested t width b → reg ≤ 31 → label + 1 ≤ n → Each (IsFair n) (guarded before t width reg label behind)
+  guarded_fair before t width b reg label behind first rest fits le most =
       each_append (IsFair n) (plains before) _ (plains_fair n before first)
-      (branch_fair n t false width b reg label fits le (omega arith), (tt, (omega arith, (omega arith, plains_fair n behind rest))))
+      (branch_fair n t true width b reg label fits le (omega arith), plains_fair n behind rest)
 
-  checked_fair : (label mark : ℕ) (kind : Checked) (os : List Operand) → AreSmall os → label + 1 ≤ n → Each (IsFair n) (checked_items f label mark kind os)
-  checked_fair label mark kind os small most =
+  -- an exit
+  exit_fair : (label mark : ℕ) (b : Bool) → label + (if b then 1 else 0) ≤ n → Each (IsFair n) (exits_by b label mark)
+  exit_fair label mark true most = (omega arith, (tt, (omega arith, tt)))
+  exit_fair label mark false most = tt
+
+  checked_fair : (label : ℕ) (kind : Checked) (os : List Operand) → AreSmall os → label + 1 ≤ n → Each (IsFair n) (checked_items f label kind os)
+  checked_fair label kind os small most =
       let a : ℕ = reg_of (source_at os 0 15) in
       let b : ℕ = reg_of (source_at os 1 16) in
       let rd : ℕ = result_reg (result_at os) in
       let le_a = source_small 15 (arg_at os 0) (omega arith) (small 0) in
       let le_b = source_small 16 (arg_at os 1) (omega arith) (small 1) in
       let le_rd = result_small (result_at os) (small (length os - 1)) in
-      guarded_fair (fetch_checked f kind os) (Compare (passing kind)) (width_at os 0) (InReg 0) 0 label mark (make_checked f kind os)
+      guarded_fair (fetch_checked f kind os) (Compare (passing kind)) (width_at os 0) (InReg 0) 0 label (make_checked f kind os)
       (well_append (fetch f 15 (arg_at os 0)) _ (fetch_well f limit 15 (arg_at os 0) (omega arith))
       (well_append (fetch f 16 (arg_at os 1)) _ (fetch_well f limit 16 (arg_at os 1) (omega arith)) (comparing_well kind (width_at os 0) a b le_a le_b)))
       (well_append (making kind (width_at os 0) rd a b) _ (making_well kind (width_at os 0) rd a b le_rd le_a le_b) (put_well f limit rd (result_at os) le_rd))
@@ -580,12 +616,12 @@ module _ (f : Frame) (limit : f.bytes < 2 ^ 21) (goods : All (IsGoodSaved f.byte
   inst_fair next label mark targets traps op.Return os h = plains_fair n (epilogue f) (epilogue_well f limit goods)
   inst_fair next label mark targets traps op.Oops os h = (omega arith, tt)
   inst_fair next label mark targets traps (op.CheckIf t) os h =
-      guarded_fair (fetch_tested f t os ++ compared t os) t (width_at os 0) (source_at os 1 16) (reg_of (source_at os 0 15)) label mark []
+      guarded_fair (fetch_tested f t os ++ compared t os) t (width_at os 0) (source_at os 1 16) (reg_of (source_at os 0 15)) label []
       (well_append (fetch_tested f t os) (compared t os) (tested_well f limit t os) (compared_well f limit t os h.small h.fits)) tt h.fits
       (source_small 15 (arg_at os 0) (omega arith) (h.small 0)) h.most
-  inst_fair next label mark targets traps op.CheckAdd os h = checked_fair label mark Sum os h.small h.most
-  inst_fair next label mark targets traps op.CheckSub os h = checked_fair label mark Difference os h.small h.most
-  inst_fair next label mark targets traps op.CheckMul os h = checked_fair label mark Product os h.small h.most
+  inst_fair next label mark targets traps op.CheckAdd os h = checked_fair label Sum os h.small h.most
+  inst_fair next label mark targets traps op.CheckSub os h = checked_fair label Difference os h.small h.most
+  inst_fair next label mark targets traps op.CheckMul os h = checked_fair label Product os h.small h.most
   inst_fair next label mark targets traps o os h = inner_fair mark traps o os h.small h.fits
 
 -- ---- the procedure
@@ -635,7 +671,7 @@ module _ (p : AirProc) (f : Frame) (well : IsGoodProc p) (limit : f.bytes < 2 ^ 
       (inst_fair f limit goods (all_labels p) (omega arith) next label mark targets i.traps i.op i.operands
       (record {
         small = names_small p i.operands here.names;
-        fits = fitting p.returns i.op i.operands here.operands;
+        fits = fitting p i.op i.operands here.operands here.names;
         below = λ j lt. let less = below j lt in omega arith;
         most = omega arith;
       }))
@@ -656,8 +692,34 @@ module _ (p : AirProc) (f : Frame) (well : IsGoodProc p) (limit : f.bytes < 2 ^ 
             (omega arith) (omega arith)),
       )
 
+  exit_label : (o : AirOp) → (if has_exit (kind_of o) then 1 else 0) ≤ own_labels o
+  exit_label (op.Switch cases) = omega arith
+  exit_label o = omega arith
+
+  insts_out : (label mark : ℕ) (insts : List AirInst) → label + sum_by labels_of insts ≤ all_labels p → Each IsFairHere (insts_exits label mark insts)
+  unfolding insts_exits
+  insts_out label mark [] most = tt
+  insts_out label mark (i ∷ insts) most =
+      let sum = sum_by-cons labels_of i insts in
+      let one = exit_label i.op in
+      each_append IsFairHere (inst_exits label mark i) (insts_exits (label + labels_of i) (mark + exits_of i) insts)
+      (exit_fair f limit goods (all_labels p) (let some = well.entry in omega arith) label mark (has_exit (kind_of i.op)) (omega arith))
+      (insts_out (label + labels_of i) (mark + exits_of i) insts (omega arith))
+
+  blocks_out : (label mark : ℕ) (blocks : List AirBlock) → label + sum_by block_labels blocks ≤ all_labels p
+      → Each IsFairHere (blocks_exits label mark blocks)
+  unfolding blocks_exits
+  blocks_out label mark [] most = tt
+  blocks_out label mark (block ∷ blocks) most =
+      let sum = sum_by-cons block_labels block blocks in
+      each_append IsFairHere (insts_exits label mark block.insts) (blocks_exits (label + block_labels block) (mark + block_exits block) blocks)
+      (insts_out label mark block.insts (omega arith)) (blocks_out (label + block_labels block) (mark + block_exits block) blocks (omega arith))
+
   pub code_fair : Each (IsFair (all_labels p)) (emitted p f)
   unfolding emitted
   code_fair =
-      each_append IsFairHere (plains (prologue f)) (blocks_items f 0 (length p.blocks) 0 p.blocks)
-      (plains_fair (all_labels p) (prologue f) (prologue_well f limit goods)) (blocks_fair 0 (length p.blocks) 0 p.blocks well.blocks (omega arith) (omega arith))
+      let rest : List Item = blocks_items f 0 (length p.blocks) 0 p.blocks in
+      let out : List Item = blocks_exits (length p.blocks) (inner_marks p.blocks) p.blocks in
+      each_append IsFairHere (plains (prologue f)) (rest ++ out) (plains_fair (all_labels p) (prologue f) (prologue_well f limit goods))
+      (each_append IsFairHere rest out (blocks_fair 0 (length p.blocks) 0 p.blocks well.blocks (omega arith) (omega arith))
+      (blocks_out (length p.blocks) (inner_marks p.blocks) p.blocks (omega arith)))

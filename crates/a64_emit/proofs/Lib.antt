@@ -11,6 +11,8 @@ pub mod Computes
 pub mod TestsRun
 pub mod Moves
 pub mod Copies
+pub mod ShuffleMoves
+pub mod ShufflesRun
 pub mod AccessesReached
 pub mod AccessesDone
 pub mod AccessesRun
@@ -45,6 +47,7 @@ pub mod AccessesWell
 pub mod Labelled
 pub mod SitesMade
 pub mod SitesOutward
+pub mod Exits
 pub mod CheckParts
 pub mod ChecksLead
 pub mod ChecksRun

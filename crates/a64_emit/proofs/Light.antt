@@ -36,15 +36,16 @@ use Rattle.air_frame.specs.Needs.{callee_saved, writes}
 use Rattle.a64_layout.specs.Branch.{size_of}
 use Rattle.a64_layout.specs.Layout.{most_words}
 use Rattle.a64_emit.specs.Built.{IsBuilt, is_built}
-use Rattle.a64_emit.specs.Code.{arg_at, block_labels, block_marks, blocks_items, compute_code, copy_code, emitted, fetch_address, fetch_stored, frame_address, has_mark, inner_items, inst_code, inst_items, insts_items, labels_of, load_inst, load_items, marked_if, marks_of, own_labels, put_result, result_reg, select_code, set_code, slot_offset, store_inst, store_items, test_count, width_at, with_mark, breaks, call_inst, fetch, check_items, checked_items, fetch_tested, compared, source_at}
+use Rattle.a64_emit.specs.Code.{arg_at, block_exits, block_labels, block_marks, blocks_exits, blocks_items, exits_of, has_exit, inner_marks, inst_exits, insts_exits, own_exits, compute_code, copy_code, emitted, fetch_address, fetch_stored, frame_address, has_mark, inner_items, inst_code, inst_items, insts_items, labels_of, load_inst, load_items, marked_if, marks_of, own_labels, put_result, result_reg, select_code, set_code, slot_offset, store_inst, store_items, test_count, width_at, with_mark, breaks, call_inst, fetch, check_items, checked_items, fetch_tested, compared, source_at, shuffle_code}
 use Rattle.a64_emit.specs.Fitting.{AreFitting}
 use Rattle.a64_code.specs.Places.{epilogue, plains, prologue}
 use Rattle.a64_emit.proofs.AccessesLight.{load_code_most, pointer_most, slot_most, store_code_most}
 use Rattle.a64_emit.specs.Switched.{switch_labels}
 use Rattle.a64_emit.specs.Trees.{tree}
+use Rattle.a64_emit.proofs.ShuffleMoves.{shuffle_most}
 use Rattle.a64_emit.proofs.Sizes.{compute_most, most_is, operand_words, plain_words, words_of, fetch_most, place_least}
 use Rattle.a64_emit.proofs.Trees.{nodes_few, tree_order}
-use Rattle.a64_emit.proofs.Weights.{branch_code_most, copy_most, epilogue_most, fit_count, jump_most, prologue_most, select_most, set_most, switch_code_most, check_before, guarded_most, checked_most, compare_words}
+use Rattle.a64_emit.proofs.Weights.{branch_code_most, copy_most, epilogue_most, fit_count, jump_most, prologue_most, select_most, set_most, switch_code_most, check_before, guarded_most, checked_most, compare_words, exit_words}
 
 -- ---- instructions
 
@@ -127,29 +128,29 @@ module _ (f : Frame) (few : length f.saved ≤ 10) where
       omega arith
 
   -- a check with its inputs in front
-  check_light : (label mark : ℕ) (t : Test) (os : List Operand) → HasSite (op.CheckIf t) os
-      → words_of (check_items f label mark t os) ≤ 4 + sum_by (operand_words f) os
-  check_light label mark t os h =
+  check_light : (label : ℕ) (t : Test) (os : List Operand) → HasSite (op.CheckIf t) os
+      → words_of (check_items f label t os) ≤ 3 + sum_by (operand_words f) os
+  check_light label t os h =
       let rest : List Operand = h.0.reported ++ (h.0.changed ++ h.0.results) in
-      subst (λ (xs : List Operand). words_of (check_items f label mark t xs) ≤ 4 + sum_by (operand_words f) xs) (sym (h.1 ∙ grouped h.0))
+      subst (λ (xs : List Operand). words_of (check_items f label t xs) ≤ 3 + sum_by (operand_words f) xs) (sym (h.1 ∙ grouped h.0))
       (let xs : List Operand = h.0.inputs ++ rest in
       let before = check_before f t h.0.inputs rest (fit_count (test_takes t h.2.width) h.0.inputs h.2.fits ∙ test_length t h.2.width) in
-      let most = guarded_most f (fetch_tested f t xs ++ compared t xs) t (width_at xs 0) (reg_of (source_at xs 0 15)) label mark [] in
+      let most = guarded_most f (fetch_tested f t xs ++ compared t xs) t (width_at xs 0) (reg_of (source_at xs 0 15)) label [] in
       let both = sum_by-append (operand_words f) h.0.inputs rest in
       omega arith)
 
-  checked_light : (label mark : ℕ) (kind : Checked) (os : List Operand) (s : SiteOperands) → os ≡ listed s
+  checked_light : (label : ℕ) (kind : Checked) (os : List Operand) (s : SiteOperands) → os ≡ listed s
       → AtSite two_homes true (λ width. Fits (Result width)) s
-      → words_of (checked_items f label mark kind os) ≤ compare_words f kind + 4 + sum_by (operand_words f) os
-  checked_light label mark kind os s is at =
+      → words_of (checked_items f label kind os) ≤ compare_words f kind + 3 + sum_by (operand_words f) os
+  checked_light label kind os s is at =
       let inputs = two_there s.inputs at.width at.fits in
       let result = one_result s.results at.width at.result in
       let parts : os ≡ inputs.0 ∷ inputs.1 ∷ ((s.reported ++ s.changed) ++ result.0 ∷ []) =
       is ∙ grouped s ∙ ap (λ (xs : List Operand). xs ++ (s.reported ++ (s.changed ++ s.results))) inputs.2
       ∙ ap (λ (xs : List Operand). inputs.0 ∷ inputs.1 ∷ (s.reported ++ (s.changed ++ xs))) result.1
       ∙ ap (λ (xs : List Operand). inputs.0 ∷ inputs.1 ∷ xs) (sym (append_assoc s.reported s.changed (result.0 ∷ []))) in
-      subst (λ (xs : List Operand). words_of (checked_items f label mark kind xs) ≤ compare_words f kind + 4 + sum_by (operand_words f) xs) (sym parts)
-      (checked_most f label mark kind inputs.0 inputs.1 (s.reported ++ s.changed) result.0)
+      subst (λ (xs : List Operand). words_of (checked_items f label kind xs) ≤ compare_words f kind + 3 + sum_by (operand_words f) xs) (sym parts)
+      (checked_most f label kind inputs.0 inputs.1 (s.reported ++ s.changed) result.0)
 
   pub inst_light : (r : Returns) (next label mark : ℕ) (targets : List ℕ) (traps : Bool) (o : AirOp) (os : List Operand) → HasOperands r o os → is_built o traps ≡ true
       → words_of (inst_items f next label mark targets traps o os) ≤ words_by o os
@@ -191,12 +192,17 @@ module _ (f : Frame) (few : length f.saved ≤ 10) where
       let most = pointer_most f os (fit_count (_ ∷ []) os has.2) in
       let plain = plain_words (frame_address f 0 (arg_at os 0)) in
       omega arith
-  inst_light r next label mark targets traps op.Shuffle os has built = absurd cc
-  inst_light r next label mark targets traps (op.CheckIf t) os has built = check_light label mark t os has
-  inst_light r next label mark targets traps op.CheckAdd os has built = checked_light label mark Sum os has.0 has.1 has.2
-  inst_light r next label mark targets traps op.CheckSub os has built = checked_light label mark Difference os has.0 has.1 has.2
+  inst_light r next label mark targets traps op.Shuffle os has built =
+      let most = shuffle_most f os in
+      let plain = plain_words (shuffle_code f os) in
+      omega arith
+  inst_light r next label mark targets traps (op.CheckIf t) os has built = let most = check_light label t os has in omega arith
+  inst_light r next label mark targets traps op.CheckAdd os has built =
+      let most = checked_light label Sum os has.0 has.1 has.2 in omega arith
+  inst_light r next label mark targets traps op.CheckSub os has built =
+      let most = checked_light label Difference os has.0 has.1 has.2 in omega arith
   inst_light r next label mark targets traps op.CheckMul os has built =
-      let most = checked_light label mark Product os has.0 has.1 has.2 in omega arith
+      let most = checked_light label Product os has.0 has.1 has.2 in omega arith
   inst_light r next label mark targets traps (op.Call typed) os has built =
       subst (λ (xs : List Operand). words_of (with_mark true mark (fetch f 15 (arg_at xs 0)) (call_inst xs ∷ [])) ≤ 1 + sum_by (operand_words f) xs)
       (sym has.parts) (call_light mark has.callee (arguments_from 0 has.widths ++ map (operand_in Clobber W64) call_clobbers
@@ -204,21 +210,33 @@ module _ (f : Frame) (few : length f.saved ≤ 10) where
   inst_light r next label mark targets traps (op.Patch size typed) os has built = patch_light mark size os
   inst_light r next label mark targets traps o os has built = compute_light o os (omega arith)
 
+  -- with its exit
+  both_light : (r : Returns) (next label mark : ℕ) (targets : List ℕ) (traps : Bool) (o : AirOp) (os : List Operand) → HasOperands r o os
+      → is_built o traps ≡ true → words_of (inst_items f next label mark targets traps o os) + own_exits o ≤ words_by o os
+  unfolding inst_items
+  both_light r next label mark targets traps (op.CheckIf t) os has built = let most = check_light label t os has in omega arith
+  both_light r next label mark targets traps op.CheckAdd os has built = let most = checked_light label Sum os has.0 has.1 has.2 in omega arith
+  both_light r next label mark targets traps op.CheckSub os has built = let most = checked_light label Difference os has.0 has.1 has.2 in omega arith
+  both_light r next label mark targets traps op.CheckMul os has built = let most = checked_light label Product os has.0 has.1 has.2 in omega arith
+  both_light r next label mark targets traps o os has built = let most = inst_light r next label mark targets traps o os has built in omega arith
+
   -- ---- blocks
 
   words_least : (i : AirInst) → words_by i.op i.operands ≤ inst_weight i
   words_least i = omega arith
 
-  insts_light : (p : AirProc) (next label mark : ℕ) (targets : List ℕ) (insts : List AirInst) → All (IsGoodInst p) insts
+  insts_light : (p : AirProc) (next label mark exit : ℕ) (targets : List ℕ) (insts : List AirInst) → All (IsGoodInst p) insts
       → All (λ (i : AirInst). is_built i.op i.traps ≡ true) insts
-      → words_of (insts_items f next label mark targets insts) ≤ sum_by inst_weight insts
-  unfolding insts_items
-  insts_light p next label mark targets [] good built = omega arith
-  insts_light p next label mark targets (i ∷ insts) good built =
-      let here = inst_light p.returns next label mark targets i.traps i.op i.operands (All-head (IsGoodInst p) i insts good).operands
+      → words_of (insts_items f next label mark targets insts) + words_of (insts_exits label exit insts) ≤ sum_by inst_weight insts
+  unfolding insts_items insts_exits
+  insts_light p next label mark exit targets [] good built = omega arith
+  insts_light p next label mark exit targets (i ∷ insts) good built =
+      let here = both_light p.returns next label mark targets i.traps i.op i.operands (All-head (IsGoodInst p) i insts good).operands
       (All-head (λ (i : AirInst). is_built i.op i.traps ≡ true) i insts built) in
       let least = words_least i in
-      let more = insts_light p next (label + labels_of i) (mark + marks_of i) targets insts (All-tail (IsGoodInst p) i insts good)
+      let own = exit_words f label exit (has_exit (kind_of i.op)) in
+      let outs = sum_by-append (size_of true) (inst_exits label exit i) (insts_exits (label + labels_of i) (exit + exits_of i) insts) in
+      let more = insts_light p next (label + labels_of i) (mark + marks_of i) (exit + exits_of i) targets insts (All-tail (IsGoodInst p) i insts good)
       (All-tail (λ (i : AirInst). is_built i.op i.traps ≡ true) i insts built) in
       let both = sum_by-append (size_of true) (inst_items f next label mark targets i.traps i.op i.operands)
       (insts_items f next (label + labels_of i) (mark + marks_of i) targets insts) in
@@ -228,17 +246,19 @@ module _ (f : Frame) (few : length f.saved ≤ 10) where
   abbrev block_weight : AirBlock → ℕ
   block_weight b = sum_by inst_weight b.insts
 
-  blocks_light : (p : AirProc) (first label mark : ℕ) (blocks : List AirBlock) → All (IsGoodBlock p) blocks
+  blocks_light : (p : AirProc) (first label mark exit : ℕ) (blocks : List AirBlock) → All (IsGoodBlock p) blocks
       → All (λ (b : AirBlock). All (λ (i : AirInst). is_built i.op i.traps ≡ true) b.insts) blocks
-      → words_of (blocks_items f first label mark blocks) ≤ sum_by block_weight blocks
-  unfolding blocks_items
-  blocks_light p first label mark [] good built = omega arith
-  blocks_light p first label mark (b ∷ blocks) good built =
+      → words_of (blocks_items f first label mark blocks) + words_of (blocks_exits label exit blocks) ≤ sum_by block_weight blocks
+  unfolding blocks_items blocks_exits
+  blocks_light p first label mark exit [] good built = omega arith
+  blocks_light p first label mark exit (b ∷ blocks) good built =
       let inside : List Item = insts_items f (first + 1) label mark b.targets b.insts in
       let rest : List Item = blocks_items f (first + 1) (label + block_labels b) (mark + block_marks b) blocks in
-      let here = insts_light p (first + 1) label mark b.targets b.insts (All-head (IsGoodBlock p) b blocks good).insts
+      let outs = sum_by-append (size_of true) (insts_exits label exit b.insts)
+      (blocks_exits (label + block_labels b) (exit + block_exits b) blocks) in
+      let here = insts_light p (first + 1) label mark exit b.targets b.insts (All-head (IsGoodBlock p) b blocks good).insts
       (All-head (λ (b : AirBlock). All (λ (i : AirInst). is_built i.op i.traps ≡ true) b.insts) b blocks built) in
-      let more = blocks_light p (first + 1) (label + block_labels b) (mark + block_marks b) blocks (All-tail (IsGoodBlock p) b blocks good)
+      let more = blocks_light p (first + 1) (label + block_labels b) (mark + block_marks b) (exit + block_exits b) blocks (All-tail (IsGoodBlock p) b blocks good)
       (All-tail (λ (b : AirBlock). All (λ (i : AirInst). is_built i.op i.traps ≡ true) b.insts) b blocks built) in
       let both = sum_by-append (size_of true) inside rest in
       let label = sum_by-cons (size_of true) (Label first) (inside ++ rest) in
@@ -260,9 +280,12 @@ light p f well built serves =
     let few = few_saved p f serves in
     let front = prologue_most f few in
     let plain = plain_words (prologue f) in
-    let blocks = blocks_light f few p 0 (length p.blocks) 0 p.blocks well.blocks built in
-    let both = sum_by-append (size_of true) (plains (prologue f)) (blocks_items f 0 (length p.blocks) 0 p.blocks) in
-    let most = most_is (plains (prologue f) ++ blocks_items f 0 (length p.blocks) 0 p.blocks) in
+    let inside : List Item = blocks_items f 0 (length p.blocks) 0 p.blocks in
+    let out : List Item = blocks_exits (length p.blocks) (inner_marks p.blocks) p.blocks in
+    let blocks = blocks_light f few p 0 (length p.blocks) 0 (inner_marks p.blocks) p.blocks well.blocks built in
+    let both = sum_by-append (size_of true) (plains (prologue f)) (inside ++ out) in
+    let behind = sum_by-append (size_of true) inside out in
+    let most = most_is (plains (prologue f) ++ (inside ++ out)) in
     omega arith
 
 -- ---- labels
@@ -276,6 +299,9 @@ labels_few cases =
 few_labels : (o : AirOp) (os : List Operand) → own_labels o ≤ words_by o os
 few_labels (op.Switch cases) os = let few = labels_few cases in omega arith
 few_labels o os = omega arith
+
+few_exits : (i : AirInst) → exits_of i ≤ 1
+few_exits i = elim (has_exit (kind_of i.op)) as (λ b. (if b then 1 else 0) ≤ 1) [ true ↦ omega arith | false ↦ omega arith ]
 
 few_marks : (i : AirInst) → marks_of i ≤ 1
 few_marks i = elim (has_mark (kind_of i.op) i.traps) as (λ b. (if b then 1 else 0) ≤ 1) [ true ↦ omega arith | false ↦ omega arith ]
@@ -302,6 +328,12 @@ marks_light i =
     let least : 1 ≤ inst_weight i = omega arith in
     omega arith
 
+exits_light : (i : AirInst) → exits_of i ≤ inst_weight i
+exits_light i =
+    let here = few_exits i in
+    let least : 1 ≤ inst_weight i = omega arith in
+    omega arith
+
 some_weight : (p : AirProc) (b : AirBlock) → IsGoodBlock p b → 1 ≤ sum_by inst_weight b.insts
 some_weight p b good =
     let both = sum_by-append inst_weight good.body (good.last ∷ []) in
@@ -325,4 +357,5 @@ labels_fit p well short =
     let Heavy : AirBlock → ℕ = λ b. sum_by inst_weight b.insts in
     let labels = sums_few block_labels Heavy (λ b. sums_few labels_of inst_weight labels_light b.insts) p.blocks in
     let marks = sums_few block_marks Heavy (λ b. sums_few marks_of inst_weight marks_light b.insts) p.blocks in
+    let exits = sums_few block_exits Heavy (λ b. sums_few exits_of inst_weight exits_light b.insts) p.blocks in
     record { labels = omega arith; marks = omega arith }

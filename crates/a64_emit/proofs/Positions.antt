@@ -10,7 +10,7 @@ use Rattle.stackmap.specs.declared.site.Site.{Site}
 use Rattle.b3_meaning.specs.declared.role.Checked.{Checked}
 use Rattle.b3_meaning.specs.declared.role.Checked.TheVariants.{Sum, Difference, Product}
 use Rattle.a64_checked.specs.Checks.{passing}
-use Rattle.air_ir.specs.Kinds.{Kind, Loads, Stores, kind_of}
+use Rattle.air_ir.specs.Kinds.{Checks, ChecksResult, Kind, Loads, Stores, kind_of}
 use Rattle.std.proofs.lemmas.Bool.{cases_lt, ne_eqb}
 use Rattle.a64_inst.specs.declared.inst.Cond.TheVariants.{Eq, Hi}
 use Rattle.a64_inst.specs.declared.inst.Inst.{Inst}
@@ -28,9 +28,9 @@ use Rattle.air_ir.specs.declared.procedure.AirInst.{AirInst}
 use Rattle.air_ir.specs.declared.procedure.AirProc.{AirProc}
 use Rattle.a64_layout.specs.Layout.{is_label, position_of}
 use Rattle.a64_layout.specs.Text.{is_any_label}
-use Rattle.a64_emit.specs.Code.{arg_at, block_labels, block_marks, blocks_items, branch_item, branches, compared, emitted, fetch, fetch_address, fetch_stored, fetch_tested, has_mark, inner_items, inst_code, inst_items, insts_items, labels_of, load_inst, load_items, marks_of, own_labels, put_result, result_reg, source_at, store_inst, store_items, width_at, with_mark, breaks, call_inst, guarded, fetch_checked, make_checked}
+use Rattle.a64_emit.specs.Code.{arg_at, block_exits, block_labels, block_marks, blocks_exits, blocks_items, branch_item, branches, compared, emitted, exits_of, fetch, fetch_address, fetch_stored, fetch_tested, has_exit, has_mark, inner_marks, insts_exits, own_exits, inner_items, inst_code, inst_items, insts_items, labels_of, load_inst, load_items, marks_of, own_labels, put_result, result_reg, source_at, store_inst, store_items, width_at, with_mark, breaks, call_inst, guarded, fetch_checked, make_checked}
 use Rattle.a64_code.specs.Computing.{reg_of}
-use Rattle.a64_emit.specs.Made.{block_sites, inst_sites, procedure_sites, sites_by, trap_site}
+use Rattle.a64_emit.specs.Made.{block_exit_sites, block_sites, exit_by, exit_sites, inner_sites, inst_exit, inst_sites, procedure_sites, sites_by, trap_site}
 use Rattle.a64_code.specs.Places.{epilogue, plains, prologue}
 use Rattle.a64_emit.specs.Switched.{case_items, cases_in_order, compare_word, jump_to, search_items, switch_items}
 use Rattle.a64_emit.specs.Trees.{Leaf, Node, Tree, node_count, tree}
@@ -81,9 +81,11 @@ branch_item_unlabelled (Compare cond) passes width reg label = refl
 branch_item_unlabelled NonZero passes width reg label = refl
 branch_item_unlabelled (Bit bit) passes width reg label = refl
 
-pub guard_unlabelled : (test : Test) (width : Width) (reg label mark : ℕ)
-    → Each IsUnlabelled (branch_item test false width reg label ∷ Mark mark ∷ Plain (Break 1) ∷ [])
-guard_unlabelled test width reg label mark = (branch_item_unlabelled test false width reg label, (refl, (refl, tt)))
+guarded_unlabelled : (before : List Inst) (test : Test) (width : Width) (reg label : ℕ) (behind : List Inst)
+    → Each IsUnlabelled (guarded before test width reg label behind)
+guarded_unlabelled before test width reg label behind =
+    each_append IsUnlabelled (plains before) (branch_item test true width reg label ∷ plains behind) (plains_unlabelled before)
+    (branch_item_unlabelled test true width reg label, plains_unlabelled behind)
 
 branches_unlabelled : (test : Test) (width : Width) (reg next then_label else_label : ℕ) → Each IsUnlabelled (branches test width reg next then_label else_label)
 branches_unlabelled test width reg next then_label else_label =
@@ -134,14 +136,11 @@ inner_unlabelled f mark traps (op.Call typed) os = with_mark_unlabelled true mar
 inner_unlabelled f mark traps (op.Patch size typed) os = with_mark_unlabelled true mark [] (breaks size)
 inner_unlabelled f mark traps o os = plains_unlabelled (inst_code f o os)
 
--- an instruction has no label, or is a Switch, or is a check with one label
+-- an instruction has no label but that of its exit, or is a Switch
 pub data InstShape (f : Frame) (next label mark : ℕ) (targets : List ℕ) (traps : Bool) (o : AirOp) (os : List Operand) : Type 0 where
-  HasNone : (each : Each IsUnlabelled (inst_items f next label mark targets traps o os)) (none : own_labels o ≡ 0)
+  HasNone : (each : Each IsUnlabelled (inst_items f next label mark targets traps o os)) (same : own_labels o ≡ own_exits o)
       → InstShape f next label mark targets traps o os
   IsASwitch : (cases : List ℕ) (is : o ≡ op.Switch cases) → InstShape f next label mark targets traps o os
-  IsGuarded : (before : List Inst) (test : Test) (width : Width) (reg : ℕ) (behind : List Inst)
-      (is : inst_items f next label mark targets traps o os ≡ guarded before test width reg label mark behind) (one : own_labels o ≡ 1)
-      → InstShape f next label mark targets traps o os
 
 pub inst_shape : (f : Frame) (next label mark : ℕ) (targets : List ℕ) (traps : Bool) (o : AirOp) (os : List Operand)
     → InstShape f next label mark targets traps o os
@@ -156,13 +155,13 @@ inst_shape f next label mark targets traps (op.BranchIf test) os =
 inst_shape f next label mark targets traps op.Jump os = HasNone (jump_unlabelled next (get_or targets 0 0)) refl
 inst_shape f next label mark targets traps (op.Switch cases) os = IsASwitch cases refl
 inst_shape f next label mark targets traps (op.CheckIf test) os =
-    IsGuarded (fetch_tested f test os ++ compared test os) test (width_at os 0) (reg_of (source_at os 0 15)) [] refl refl
+    HasNone (guarded_unlabelled (fetch_tested f test os ++ compared test os) test (width_at os 0) (reg_of (source_at os 0 15)) label []) refl
 inst_shape f next label mark targets traps op.CheckAdd os =
-    IsGuarded (fetch_checked f Sum os) (Compare (passing Sum)) (width_at os 0) 0 (make_checked f Sum os) refl refl
+    HasNone (guarded_unlabelled (fetch_checked f Sum os) (Compare (passing Sum)) (width_at os 0) 0 label (make_checked f Sum os)) refl
 inst_shape f next label mark targets traps op.CheckSub os =
-    IsGuarded (fetch_checked f Difference os) (Compare (passing Difference)) (width_at os 0) 0 (make_checked f Difference os) refl refl
+    HasNone (guarded_unlabelled (fetch_checked f Difference os) (Compare (passing Difference)) (width_at os 0) 0 label (make_checked f Difference os)) refl
 inst_shape f next label mark targets traps op.CheckMul os =
-    IsGuarded (fetch_checked f Product os) (Compare (passing Product)) (width_at os 0) 0 (make_checked f Product os) refl refl
+    HasNone (guarded_unlabelled (fetch_checked f Product os) (Compare (passing Product)) (width_at os 0) 0 label (make_checked f Product os)) refl
 inst_shape f next label mark targets traps op.Return os = HasNone (plains_unlabelled (epilogue f)) refl
 inst_shape f next label mark targets traps op.Oops os = HasNone (refl, tt) refl
 inst_shape f next label mark targets traps o os = HasNone (inner_unlabelled f mark traps o os) refl
@@ -203,24 +202,14 @@ switch_inner n f next label mark targets cases traps os le =
     (search_inner n (width_at os 0) (reg_of (source_at os 0 15)) (get_or targets (length cases) 0) next label
     (tree (cases_in_order (width_at os 0) cases targets)) le)
 
-guarded_inner : (n : ℕ) (before : List Inst) (test : Test) (width : Width) (reg label mark : ℕ) (behind : List Inst) → n ≤ label
-    → Each (IsInner n) (guarded before test width reg label mark behind)
-guarded_inner n before test width reg label mark behind le =
-    each_append (IsInner n) (plains before) _ (unlabelled_inner n (plains before) (plains_unlabelled before))
-    (each_append (IsInner n) (branch_item test false width reg label ∷ Mark mark ∷ Plain (Break 1) ∷ []) (Label label ∷ plains behind)
-    (unlabelled_inner n (branch_item test false width reg label ∷ Mark mark ∷ Plain (Break 1) ∷ []) (guard_unlabelled test width reg label mark))
-    (le, unlabelled_inner n (plains behind) (plains_unlabelled behind)))
-
 inst_inner : (n : ℕ) (f : Frame) (next label mark : ℕ) (targets : List ℕ) (traps : Bool) (o : AirOp) (os : List Operand) → n ≤ label
     → Each (IsInner n) (inst_items f next label mark targets traps o os)
 inst_inner n f next label mark targets traps o os le =
     elim (inst_shape f next label mark targets traps o os) as (λ x. Each (IsInner n) (inst_items f next label mark targets traps o os)) [
-      | HasNone each none ↦ unlabelled_inner n (inst_items f next label mark targets traps o os) each
+      | HasNone each same ↦ unlabelled_inner n (inst_items f next label mark targets traps o os) each
       | IsASwitch cases is ↦
           subst (λ o. Each (IsInner n) (inst_items f next label mark targets traps o os)) (sym is)
           (switch_inner n f next label mark targets cases traps os le)
-      | IsGuarded before test width reg behind is one ↦
-          subst (Each (IsInner n)) (sym is) (guarded_inner n before test width reg label mark behind le)
     ]
 
 insts_inner : (n : ℕ) (f : Frame) (next label mark : ℕ) (targets : List ℕ) (insts : List AirInst) → n ≤ label
@@ -291,10 +280,51 @@ insts_counted f (i ∷ is) =
 pub sites_counted : (f : Frame) (b : AirBlock) → length (block_sites f b) ≡ block_marks b
 sites_counted f b = insts_counted f b.insts
 
+-- and as many sites of exits as exits
+exits_counted_by : (f : Frame) (kind : Kind) (i : AirInst) → length (exit_by kind f i) ≡ (if has_exit kind then 1 else 0)
+exits_counted_by f (Checks test) i = refl
+exits_counted_by f (ChecksResult checked) i = refl
+exits_counted_by f kind i = refl
+
+pub exits_counted : (f : Frame) (i : AirInst) → length (inst_exit f i) ≡ exits_of i
+exits_counted f i = exits_counted_by f (kind_of i.op) i
+
+all_exits_counted : (f : Frame) (insts : List AirInst) → length (flat_map (inst_exit f) insts) ≡ sum_by exits_of insts
+all_exits_counted f [] = refl
+all_exits_counted f (i ∷ is) =
+    let here = exits_counted f i in
+    let more = all_exits_counted f is in
+    let both = length-append (inst_exit f i) (flat_map (inst_exit f) is) in
+    let sum = sum_by-cons exits_of i is in
+    omega arith
+
+pub block_exits_counted : (f : Frame) (b : AirBlock) → length (block_exit_sites f b) ≡ block_exits b
+block_exits_counted f b = all_exits_counted f b.insts
+
+inner_counted : (f : Frame) (blocks : List AirBlock) → length (flat_map (block_sites f) blocks) ≡ inner_marks blocks
+inner_counted f [] = refl
+inner_counted f (b ∷ bs) =
+    let here = sites_counted f b in
+    let more = inner_counted f bs in
+    let both = length-append (block_sites f b) (flat_map (block_sites f) bs) in
+    let sum = sum_by-cons block_marks b bs in
+    omega arith
+
+-- as many sites come before those of exits as marks stand within blocks
+pub inner_sites_counted : (p : AirProc) (f : Frame) → length (inner_sites p f) ≡ inner_marks p.blocks
+inner_sites_counted p f = inner_counted f p.blocks
+
 -- ---- the items of blocks
 
+-- the exits of one of some blocks among those of all
+pub record ExitsAmong (f : Frame) (labels own exit : ℕ) (blocks : List AirBlock) (block : AirBlock) : Type 0 where
+  pub before : ℕ
+  pub mark : ℕ
+  pub items : (all : List Item) (at : ℕ) → Among all at (blocks_exits labels exit blocks) → Among all (at + before) (insts_exits own mark block.insts)
+  pub sites : (all : List Site) → Among all exit (flat_map (block_exit_sites f) blocks) → Among all mark (block_exit_sites f block)
+
 -- one of some blocks: what stands before it and after it; the labels of blocks are those below a number
-pub record BlockAmong (n : ℕ) (f : Frame) (items : List Item) (first start : ℕ) (blocks : List AirBlock) (i : ℕ) (block : AirBlock) : Type 0 where
+pub record BlockAmong (n : ℕ) (f : Frame) (items : List Item) (first labels start : ℕ) (blocks : List AirBlock) (i : ℕ) (block : AirBlock) : Type 0 where
   pub before : List Item
   pub rest : List Item
   pub own : ℕ
@@ -303,7 +333,7 @@ pub record BlockAmong (n : ℕ) (f : Frame) (items : List Item) (first start : �
   pub split : items ≡ before ++ (Label (first + i) ∷ (insts_items f (first + i + 1) own mark block.targets block.insts ++ rest))
   pub clear : (label : ℕ) → first + i ≤ label → label < n → Each (IsNot label) before
   pub more : i + 1 < length blocks → (behind : List Item) × (rest ≡ Label (first + i + 1) ∷ behind)
-  pub last : i + 1 ≡ length blocks → rest ≡ []
+  pub exits : (exit : ℕ) → ExitsAmong f labels own exit blocks block
   pub none : i ≡ 0 → before ≡ []
   pub sites : (all : List Site) → Among all start (flat_map (block_sites f) blocks) → Among all mark (block_sites f block)
 
@@ -313,17 +343,12 @@ unfolding blocks_items
 blocks_rest f first label mark [] some = absurd (omega arith)
 blocks_rest f first label mark (block ∷ blocks) some = (_, refl)
 
-blocks_none : (f : Frame) (first label mark : ℕ) (blocks : List AirBlock) → length blocks ≡ 0 → blocks_items f first label mark blocks ≡ []
-unfolding blocks_items
-blocks_none f first label mark [] none = refl
-blocks_none f first label mark (block ∷ blocks) none = absurd (omega arith)
-
 other_label : (a b : ℕ) → a < b → IsNot b (Label a)
 other_label a b lt = ne_eqb a b (λ e. omega arith)
 
 pub block_among : (n : ℕ) (f : Frame) (first label mark : ℕ) (blocks : List AirBlock) (i : ℕ) (block : AirBlock) → n ≤ label
-    → slice_get blocks i ≡ Some block → BlockAmong n f (blocks_items f first label mark blocks) first mark blocks i block
-unfolding blocks_items
+    → slice_get blocks i ≡ Some block → BlockAmong n f (blocks_items f first label mark blocks) first label mark blocks i block
+unfolding blocks_items blocks_exits
 block_among n f first label mark [] i block le there = cc
 block_among n f first label mark (b ∷ bs) zero block le there =
     let same : b ≡ block = cc in
@@ -340,7 +365,15 @@ block_among n f first label mark (b ∷ bs) zero block le there =
       clear = λ other least below. tt;
       more = λ lt. let rest = blocks_rest f (first + 1) (label + block_labels b) (mark + block_marks b) bs (omega arith) in
           (rest.0, rest.1 ∙ ap (λ n. Label (n + 1) ∷ rest.0) e);
-      last = λ is. blocks_none f (first + 1) (label + block_labels b) (mark + block_marks b) bs (omega arith);
+      exits = λ exit. record {
+        before = 0;
+        mark = exit;
+        items = λ all at here. subst (λ (x : AirBlock). Among all (at + 0) (insts_exits label exit x.insts)) same
+            (subst (λ n. Among all n (insts_exits label exit b.insts)) (omega arith)
+            (among_first all at (insts_exits label exit b.insts) (blocks_exits (label + block_labels b) (exit + block_exits b) bs) here));
+        sites = λ all here. subst (λ (x : AirBlock). Among all exit (block_exit_sites f x)) same
+            (among_first all exit (block_exit_sites f b) (flat_map (block_exit_sites f) bs) here);
+      };
       none = λ is. refl;
       sites = λ all here. subst (λ (x : AirBlock). Among all mark (block_sites f x)) same
           (among_first all mark (block_sites f b) (flat_map (block_sites f) bs) here);
@@ -364,7 +397,18 @@ block_among n f first label mark (b ∷ bs) (suc i) block le there =
             (none_is n other items below (insts_inner n f (first + 1) label mark b.targets b.insts le)) (more.clear other (omega arith) below),
       );
       more = λ lt. let rest = more.more (omega arith) in (rest.0, rest.1 ∙ ap (λ n. Label (n + 1) ∷ rest.0) e);
-      last = λ is. more.last (omega arith);
+      exits = λ exit.
+          let own : List Item = insts_exits label exit b.insts in
+          let behind : List Item = blocks_exits (label + block_labels b) (exit + block_exits b) bs in
+          let rest = more.exits (exit + block_exits b) in
+          record {
+            before = length own + rest.before;
+            mark = rest.mark;
+            items = λ all at here. subst (λ n. Among all n (insts_exits more.own rest.mark block.insts)) (omega arith)
+                (rest.items all (at + length own) (among_rest all at own behind here));
+            sites = λ all here. rest.sites all (subst (λ n. Among all (exit + n) (flat_map (block_exit_sites f) bs)) (block_exits_counted f b)
+                (among_rest all exit (block_exit_sites f b) (flat_map (block_exit_sites f) bs) here));
+          };
       none = λ is. absurd (omega arith);
       sites = λ all here. more.sites all (subst (λ n. Among all (mark + n) (flat_map (block_sites f) bs)) (sites_counted f b)
           (among_rest all mark (block_sites f b) (flat_map (block_sites f) bs) here));
@@ -372,7 +416,11 @@ block_among n f first label mark (b ∷ bs) (suc i) block le there =
 
 -- ---- the blocks of a procedure
 
--- where a block stands in the code: its label, its items, and then the next label, or the end
+-- how many items stand before the exits
+pub inner_length : AirProc → Frame → ℕ
+inner_length p f = length (plains (prologue f)) + length (blocks_items f 0 (length p.blocks) 0 p.blocks)
+
+-- where a block stands in the code: its label, its items, and then the next label, or the exits
 pub record BlockStands (p : AirProc) (f : Frame) (b : ℕ) (block : AirBlock) : Type 0 where
   pub own : ℕ
   pub mark : ℕ
@@ -380,9 +428,14 @@ pub record BlockStands (p : AirProc) (f : Frame) (b : ℕ) (block : AirBlock) : 
   pub label : slice_get (emitted p f) (position_of (emitted p f) b) ≡ Some (Label b)
   pub items : Among (emitted p f) (position_of (emitted p f) b + 1) (insts_items f (b + 1) own mark block.targets block.insts)
   pub next : b + 1 < length p.blocks → position_of (emitted p f) (b + 1) ≡ position_of (emitted p f) b + 1 + length (insts_items f (b + 1) own mark block.targets block.insts)
-  pub last : b + 1 ≡ length p.blocks → length (emitted p f) ≡ position_of (emitted p f) b + 1 + length (insts_items f (b + 1) own mark block.targets block.insts)
+  pub inside : position_of (emitted p f) b + 1 + length (insts_items f (b + 1) own mark block.targets block.insts) ≤ inner_length p f
   pub first : b ≡ 0 → position_of (emitted p f) b ≡ length (prologue f)
   pub sites : Among (procedure_sites p f) mark (block_sites f block)
+  pub exits_at : ℕ
+  pub exits_mark : ℕ
+  pub behind : inner_length p f ≤ exits_at
+  pub exits : Among (emitted p f) exits_at (insts_exits own exits_mark block.insts)
+  pub exit_sites : Among (procedure_sites p f) exits_mark (block_exit_sites f block)
 
 pub each_at : (P : Item → Type 0) (items : List Item) (k : ℕ) (item : Item) → Each P items → slice_get items k ≡ Some item → P item
 each_at P [] k item each there = absurd cc
@@ -394,7 +447,7 @@ length_plains [] = refl
 length_plains (inst ∷ insts) = let more = length_plains insts in omega arith
 
 module _ (p : AirProc) (f : Frame) (b : ℕ) (block : AirBlock) (there : slice_get p.blocks b ≡ Some block) where
-  among : BlockAmong (length p.blocks) f (blocks_items f 0 (length p.blocks) 0 p.blocks) 0 0 p.blocks b block
+  among : BlockAmong (length p.blocks) f (blocks_items f 0 (length p.blocks) 0 p.blocks) 0 (length p.blocks) 0 p.blocks b block
   among = block_among (length p.blocks) f 0 (length p.blocks) 0 p.blocks b block (omega arith) there
 
   within : b < length p.blocks
@@ -406,13 +459,22 @@ module _ (p : AirProc) (f : Frame) (b : ℕ) (block : AirBlock) (there : slice_g
   inside : List Item
   inside = insts_items f (b + 1) among.own among.mark block.targets block.insts
 
-  split : emitted p f ≡ front ++ (Label b ∷ (inside ++ among.rest))
-  unfolding emitted front inside
-  split =
+  out : List Item
+  out = blocks_exits (length p.blocks) (inner_marks p.blocks) p.blocks
+
+  blocks_split : blocks_items f 0 (length p.blocks) 0 p.blocks ≡ among.before ++ (Label b ∷ (inside ++ among.rest))
+  unfolding inside
+  blocks_split =
       let e : 0 + b ≡ b = omega arith in
-      ap (λ (xs : List Item). plains (prologue f) ++ xs)
-      (among.split ∙ ap (λ n. among.before ++ (Label n ∷ (insts_items f (n + 1) among.own among.mark block.targets block.insts ++ among.rest))) e)
-      ∙ sym (append_assoc (plains (prologue f)) among.before (Label b ∷ (inside ++ among.rest)))
+      among.split ∙ ap (λ n. among.before ++ (Label n ∷ (insts_items f (n + 1) among.own among.mark block.targets block.insts ++ among.rest))) e
+
+  split : emitted p f ≡ front ++ (Label b ∷ (inside ++ (among.rest ++ out)))
+  unfolding emitted front out
+  split =
+      ap (λ (xs : List Item). plains (prologue f) ++ (xs ++ out)) blocks_split
+      ∙ ap (λ (xs : List Item). plains (prologue f) ++ xs)
+      (append_assoc among.before (Label b ∷ (inside ++ among.rest)) out ∙ ap (λ (xs : List Item). among.before ++ (Label b ∷ xs)) (append_assoc inside among.rest out))
+      ∙ sym (append_assoc (plains (prologue f)) among.before (Label b ∷ (inside ++ (among.rest ++ out))))
 
   clear : (label : ℕ) → b ≤ label → label < length p.blocks → Each (IsNot label) front
   unfolding front
@@ -421,7 +483,7 @@ module _ (p : AirProc) (f : Frame) (b : ℕ) (block : AirBlock) (there : slice_g
       (none_is (length p.blocks) label (plains (prologue f)) lt (unlabelled_inner (length p.blocks) (plains (prologue f)) (plains_unlabelled (prologue f)))) (among.clear label (omega arith) lt)
 
   at : position_of (emitted p f) b ≡ length front
-  at = ap (λ xs. position_of xs b) split ∙ position_behind b front (inside ++ among.rest) (clear b (omega arith) within)
+  at = ap (λ xs. position_of xs b) split ∙ position_behind b front (inside ++ (among.rest ++ out)) (clear b (omega arith) within)
 
   -- up to the end of the block
   whole : List Item
@@ -431,9 +493,9 @@ module _ (p : AirProc) (f : Frame) (b : ℕ) (block : AirBlock) (there : slice_g
   unfolding whole
   whole_length = let count = length-append front (Label b ∷ inside) in let here = at in omega arith
 
-  whole_split : emitted p f ≡ whole ++ among.rest
+  whole_split : emitted p f ≡ whole ++ (among.rest ++ out)
   unfolding whole
-  whole_split = split ∙ sym (append_assoc front (Label b ∷ inside) among.rest)
+  whole_split = split ∙ sym (append_assoc front (Label b ∷ inside) (among.rest ++ out))
 
   whole_clear : b + 1 < length p.blocks → Each (IsNot (b + 1)) whole
   unfolding whole inside
@@ -447,20 +509,47 @@ module _ (p : AirProc) (f : Frame) (b : ℕ) (block : AirBlock) (there : slice_g
   next_at lt =
       let rest = among.more lt in
       let e : 0 + b + 1 ≡ b + 1 = omega arith in
-      let same : emitted p f ≡ whole ++ (Label (b + 1) ∷ rest.0) = whole_split ∙ ap (λ (xs : List Item). whole ++ xs) (rest.1 ∙ ap (λ n. Label n ∷ rest.0) e) in
-      ap (λ xs. position_of xs (b + 1)) same ∙ position_behind (b + 1) whole rest.0 (whole_clear lt)
+      let same : emitted p f ≡ whole ++ (Label (b + 1) ∷ (rest.0 ++ out)) =
+      whole_split ∙ ap (λ (xs : List Item). whole ++ (xs ++ out)) (rest.1 ∙ ap (λ n. Label n ∷ rest.0) e) in
+      ap (λ xs. position_of xs (b + 1)) same ∙ position_behind (b + 1) whole (rest.0 ++ out) (whole_clear lt)
 
-  last_at : b + 1 ≡ length p.blocks → length (emitted p f) ≡ length whole
-  last_at is = ap (λ (xs : List Item). length xs) (whole_split ∙ ap (λ (xs : List Item). whole ++ xs) (among.last is) ∙ append-nil whole)
+  ends_inside : position_of (emitted p f) b + 1 + length inside ≤ inner_length p f
+  unfolding inner_length front
+  ends_inside =
+      let here = at in
+      let whole_front = length-append (plains (prologue f)) among.before in
+      let all = ap (λ (xs : List Item). length xs) blocks_split in
+      let parts = length-append among.before (Label b ∷ (inside ++ among.rest)) in
+      let rest = length-append inside among.rest in
+      omega arith
+
+  out_at : Among (emitted p f) (inner_length p f) out
+  unfolding emitted inner_length out
+  out_at =
+      let blocks : List Item = blocks_items f 0 (length p.blocks) 0 p.blocks in
+      let here : Among (plains (prologue f) ++ (blocks ++ out)) 0 (plains (prologue f) ++ (blocks ++ out)) =
+      λ j item there. ap (slice_get (plains (prologue f) ++ (blocks ++ out))) (omega arith) ∙ there in
+      let e : 0 + length (plains (prologue f)) ≡ length (plains (prologue f)) = omega arith in
+      among_rest (plains (prologue f) ++ (blocks ++ out)) (length (plains (prologue f))) blocks out
+      (subst (λ n. Among (plains (prologue f) ++ (blocks ++ out)) n (blocks ++ out)) e
+      (among_rest (plains (prologue f) ++ (blocks ++ out)) 0 (plains (prologue f)) (blocks ++ out) here))
+
+  out_among : ExitsAmong f (length p.blocks) among.own (inner_marks p.blocks) p.blocks block
+  out_among = among.exits (inner_marks p.blocks)
+
+  out_sites : Among (procedure_sites p f) (inner_marks p.blocks) (exit_sites p f)
+  out_sites =
+      subst (λ n. Among (procedure_sites p f) n (exit_sites p f)) (let count = inner_sites_counted p f in omega arith)
+      (among_rest (procedure_sites p f) 0 (inner_sites p f) (exit_sites p f) (λ j site there. ap (slice_get (procedure_sites p f)) (omega arith) ∙ there))
 
   label_at : slice_get (emitted p f) (position_of (emitted p f) b) ≡ Some (Label b)
   label_at =
       ap (slice_get (emitted p f)) (at ∙ omega arith)
-      ∙ among_split (emitted p f) front (Label b ∷ inside) among.rest (split ∙ refl) 0 (Label b) refl
+      ∙ among_split (emitted p f) front (Label b ∷ inside) (among.rest ++ out) (split ∙ refl) 0 (Label b) refl
 
   items_at : Among (emitted p f) (position_of (emitted p f) b + 1) inside
   items_at =
-      let behind : Among (emitted p f) (length front) (Label b ∷ inside) = among_split (emitted p f) front (Label b ∷ inside) among.rest (split ∙ refl) in
+      let behind : Among (emitted p f) (length front) (Label b ∷ inside) = among_split (emitted p f) front (Label b ∷ inside) (among.rest ++ out) (split ∙ refl) in
       let e : length front + length (Label b ∷ []) ≡ position_of (emitted p f) b + 1 = let here = at in omega arith in
       subst (λ k. Among (emitted p f) k inside) e (among_rest (emitted p f) (length front) (Label b ∷ []) inside behind)
 
@@ -471,7 +560,7 @@ module _ (p : AirProc) (f : Frame) (b : ℕ) (block : AirBlock) (there : slice_g
       at ∙ ap (λ (xs : List Item). length (plains (prologue f) ++ xs)) (among.none is) ∙ ap (λ (xs : List Item). length xs) (append-nil (plains (prologue f))) ∙ count
 
   pub block_stands : BlockStands p f b block
-  unfolding inside
+  unfolding inside out
   block_stands = record {
     own = among.own;
     mark = among.mark;
@@ -479,9 +568,15 @@ module _ (p : AirProc) (f : Frame) (b : ℕ) (block : AirBlock) (there : slice_g
     label = label_at;
     items = items_at;
     next = λ lt. next_at lt ∙ whole_length;
-    last = λ is. last_at is ∙ whole_length;
+    inside = ends_inside;
     first = first_at;
-    sites = among.sites (procedure_sites p f) (λ j site there. ap (slice_get (procedure_sites p f)) (omega arith) ∙ there);
+    sites = among.sites (procedure_sites p f) (among_first (procedure_sites p f) 0 (inner_sites p f) (exit_sites p f)
+        (λ j site there. ap (slice_get (procedure_sites p f)) (omega arith) ∙ there));
+    exits_at = inner_length p f + out_among.before;
+    exits_mark = out_among.mark;
+    behind = omega arith;
+    exits = out_among.items (emitted p f) (inner_length p f) out_at;
+    exit_sites = out_among.sites (procedure_sites p f) out_sites;
   }
 
 -- the labels of blocks stand in order

@@ -1,6 +1,8 @@
 -- The procedure that the tests emit is well formed.
-use Rattle.std.proofs.Common.{◌≡◌, ℕ, zero, suc, ◌<◌, true, false, inl, [], ◌∷◌, Some, None, length, refl, sym, ap, ◌∙◌, arith}
-use Rattle.std.specs.Prelude.{slice_get}
+use Rattle.std.proofs.Common.{◌≡◌, ◌≢◌, ℕ, zero, suc, ◌<◌, true, false, inl, [], ◌∷◌, Some, None, length, refl, sym, ap, ◌∙◌, arith}
+use Rattle.std.specs.Prelude.{All, AllPairs, List, slice_get}
+use Rattle.std.proofs.lemmas.List.Kept.{AllPairs-cons}
+use Rattle.b3_base.specs.declared.word.Width.{Width}
 use Rattle.std.proofs.lemmas.List.Elements.{All-cons, All-nil}
 use Rattle.b3_base.specs.declared.word.Width.TheVariants.{W64}
 use Rattle.air_ir.specs.Forms.{AllFit, AnyWord, Result, Slot, Word, load, store}
@@ -12,7 +14,13 @@ use Rattle.air_ir.specs.declared.operand.Home.TheVariants.{Spill}
 use Rattle.air_ir.specs.declared.operand.Operand.{Operand}
 use Rattle.air_ir.specs.declared.procedure.AirBlock.{AirBlock}
 use Rattle.air_ir.specs.declared.procedure.AirInst.{AirInst}
-use Rattle.a64_emit.specs.Sample.{above_x1, entry, fills, inst, last, loads, made, points, procedure, stores, used, x0, x1}
+use Rattle.air_ir.specs.declared.operand.Home.TheVariants.{Reg}
+use Rattle.air_shuffle.specs.Moves.{IsSource}
+use Rattle.air_shuffle.specs.declared.moves.Move.{Move}
+use Rattle.a64_emit.specs.Code.{kept_register, moves_of}
+use Rattle.a64_emit.specs.Fitting.{AreOrderable}
+use Rattle.a64_emit.proofs.Storing.{same_number}
+use Rattle.a64_emit.specs.Sample.{above_x1, entry, exchanged, fills, inst, last, loads, made, points, procedure, stores, used, x0, x1}
 
 abbrev Names : Operand → Type 0
 Names o = NamesOwn procedure o.role o.arg
@@ -136,3 +144,42 @@ sample_one b c k l i j at_i at_j makes_i makes_j same =
     let first = site_at b k i at_i makes_i in
     let second = site_at c l j at_j makes_j in
     (first.0 ∙ sym second.0, first.1 ∙ sym second.1)
+
+-- ---- a Shuffle
+
+abbrev moves_x : ℕ → ℕ → Move
+moves_x from to = record { from = At (Reg (record { 0 = from })); to = Reg (record { 0 = to }); width = W64 }
+
+abbrev moves_spill : Move
+moves_spill = record { from = At (Spill 0); to = Spill 1; width = W64 }
+
+abbrev Source : Move → Type 0
+Source m = IsSource m.from
+
+abbrev Differs : Move → Move → Type 0
+Differs m n = m.to ≢ n.to
+
+abbrev Apart : Move → Type 0
+Apart m = m.to ≢ Reg kept_register
+
+x_apart : (a b : ℕ) → a ≢ b → Reg (record { 0 = a }) ≢ Reg (record { 0 = b })
+x_apart a b differ e = differ (same_number (record { 0 = a }) (record { 0 = b }) e)
+
+moves_fit : AreOrderable (moves_x 0 1 ∷ moves_x 1 0 ∷ moves_spill ∷ [])
+moves_fit = record {
+  sources = All-cons Source (moves_x 0 1) (moves_x 1 0 ∷ moves_spill ∷ []) tt
+      (All-cons Source (moves_x 1 0) (moves_spill ∷ []) tt (All-cons Source moves_spill [] tt (All-nil Source)));
+  differ = AllPairs-cons Differs (moves_x 0 1) (moves_x 1 0 ∷ moves_spill ∷ [])
+      (All-cons (Differs (moves_x 0 1)) (moves_x 1 0) (moves_spill ∷ []) (x_apart 1 0 (λ e. omega arith))
+      (All-cons (Differs (moves_x 0 1)) moves_spill [] (λ e. absurd cc) (All-nil (Differs (moves_x 0 1)))))
+      (AllPairs-cons Differs (moves_x 1 0) (moves_spill ∷ [])
+      (All-cons (Differs (moves_x 1 0)) moves_spill [] (λ e. absurd cc) (All-nil (Differs (moves_x 1 0))))
+      (AllPairs-cons Differs moves_spill [] (All-nil (Differs moves_spill)) (λ i j d lt within. absurd (omega arith))));
+  apart = All-cons Apart (moves_x 0 1) (moves_x 1 0 ∷ moves_spill ∷ []) (x_apart 1 17 (λ e. omega arith))
+      (All-cons Apart (moves_x 1 0) (moves_spill ∷ []) (x_apart 0 17 (λ e. omega arith))
+      (All-cons Apart moves_spill [] (λ e. absurd cc) (All-nil Apart)));
+}
+
+pub exchanged_fits : AreOrderable (moves_of exchanged)
+unfolding moves_of
+exchanged_fits = moves_fit

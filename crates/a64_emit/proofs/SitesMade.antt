@@ -8,8 +8,9 @@ use Rattle.air_ir.specs.declared.op.Test.{Test}
 use Rattle.air_ir.specs.SitesInPlaces.{patch_in}
 use Rattle.b3_meaning.specs.declared.role.Checked.TheVariants.{Sum, Difference, Product}
 use Rattle.b3_meaning.specs.declared.role.Checked.{Checked}
-use Rattle.std.proofs.Common.{◌≡◌, ◌≢◌, ℕ, suc, ◌^◌, ◌<◌, ◌≤◌, true, false, List, [], ◌∷◌, Some, length, refl, sym, ◌∙◌, subst, arith, Bool, Option, ap, None}
-use Rattle.std.specs.Prelude.{All, AllPairs, if◌then◌else◌, slice_get, IsSomeAnd}
+use Rattle.std.proofs.lemmas.Bool.Decides.{nat_tests}
+use Rattle.std.proofs.Common.{◌≡◌, ◌≢◌, ◌⊎◌, inl, inr, ⊎_elim, ℕ, suc, ◌^◌, ◌<◌, ◌≤◌, true, false, List, [], ◌∷◌, Some, length, refl, sym, ◌∙◌, subst, arith, Bool, Option, ap, None}
+use Rattle.std.specs.Prelude.{All, AllPairs, ◌&&◌, if◌then◌else◌, nat_eq, slice_get, IsSomeAnd}
 use Rattle.std.specs.List.{flat_map}
 use Rattle.std.proofs.lemmas.List.Elements.{All-append, All-cons, All-head, All-nil, All-tail}
 use Rattle.air_frame.proofs.Stacked.{pairs_append}
@@ -33,11 +34,11 @@ use Rattle.air_ir.specs.declared.frame.Frame.{Frame}
 use Rattle.air_ir.specs.declared.procedure.AirBlock.{AirBlock}
 use Rattle.air_ir.specs.declared.procedure.AirInst.{AirInst}
 use Rattle.air_ir.specs.declared.procedure.AirProc.{AirProc}
-use Rattle.a64_emit.specs.Code.{has_mark, marks_of, test_count}
-use Rattle.a64_emit.specs.Made.{HasSmallValues, HasSmallValuesIn, block_sites, inst_sites, outward_site, patch_size, procedure_sites, sites_by, trap_site, exit_site}
+use Rattle.a64_emit.specs.Code.{exits_of, has_exit, has_mark, marks_of, test_count}
+use Rattle.a64_emit.specs.Made.{HasSmallValues, HasSmallValuesIn, block_exit_sites, block_sites, exit_by, exit_sites, inner_sites, inst_exit, inst_sites, outward_site, patch_size, procedure_sites, sites_by, trap_site, exit_site}
 use Rattle.a64_emit.specs.Sites.{IsCallOf, IsSiteBy, IsSiteIn, IsStackmapOf}
 use Rattle.a64_emit.proofs.Opened.{all_at}
-use Rattle.a64_emit.proofs.Positions.{inst_counted}
+use Rattle.a64_emit.proofs.Positions.{exits_counted, inst_counted}
 
 -- ---- lists of what each item gives
 
@@ -110,13 +111,22 @@ own_by f (Calls typed) i out =
 own_by f (Patches typed) i out =
     All-cons (IsOwnBy f (Patches typed) i) (outward_site f site_kind.Patchpoint (patch_size i.op) typed 0 i) []
     (record { makes = refl; value = refl; is = out.patches typed refl }) (All-nil (IsOwnBy f (Patches typed) i))
-own_by f (Checks t) i out =
+own_by f kind i out = All-nil (IsOwnBy f kind i)
+
+exit_by_own : (f : Frame) (kind : Kind) (i : AirInst) → AreOutward f kind i → All (IsOwnBy f kind i) (exit_by kind f i)
+exit_by_own f (Checks t) i out =
     All-cons (IsOwnBy f (Checks t) i) (exit_site f (test_count t) i) [] (record { makes = refl; value = refl; is = out.tests t refl })
     (All-nil (IsOwnBy f (Checks t) i))
-own_by f (ChecksResult checked) i out =
+exit_by_own f (ChecksResult checked) i out =
     All-cons (IsOwnBy f (ChecksResult checked) i) (exit_site f 2 i) [] (record { makes = refl; value = refl; is = out.results checked refl })
     (All-nil (IsOwnBy f (ChecksResult checked) i))
-own_by f kind i out = All-nil (IsOwnBy f kind i)
+exit_by_own f kind i out = All-nil (IsOwnBy f kind i)
+
+-- an instruction has no site of its own beside that of its exit
+one_kind : (f : Frame) (kind : Kind) (i : AirInst) → (sites_by kind f i ≡ []) ⊎ (exit_by kind f i ≡ [])
+one_kind f (Checks t) i = inl refl
+one_kind f (ChecksResult checked) i = inl refl
+one_kind f kind i = inr refl
 
 call_op : (o : AirOp) (typed : Bool) → kind_of o ≡ Calls typed → o ≡ op.Call typed
 call_op (op.Call t) typed e = cc
@@ -167,6 +177,9 @@ few_apart R xs few i j d lt within = absurd (omega arith)
 one_mark : (i : AirInst) → marks_of i ≤ 1
 one_mark i = elim (has_mark (kind_of i.op) i.traps) as (λ b. (if b then 1 else 0) ≤ 1) [ true ↦ omega arith | false ↦ omega arith ]
 
+one_exit : (i : AirInst) → exits_of i ≤ 1
+one_exit i = elim (has_exit (kind_of i.op)) as (λ b. (if b then 1 else 0) ≤ 1) [ true ↦ omega arith | false ↦ omega arith ]
+
 abbrev Differ : Site → Site → Type 0
 Differ a b = a.value ≢ b.value
 
@@ -180,12 +193,11 @@ module _ (p : AirProc) (f : Frame) (well : IsWellFormed p) (no_tmps : p.tmps ≡
       let there = some_of (slice_get f.spills n) (λ offset. IsGoodRep (row_of f p.slots p.returns) W64 (Slot offset)) (serves.spilled n named) in
       there.1 ∙ ap Some (sym (get_or_from_slice_get f.spills n there.0 0 there.1))
 
-  own_sites : (b k : ℕ) (i : AirInst) → StandsAt p b k i → All (IsOwn f i) (inst_sites f i)
-  own_sites b k i at =
+  outward : (b k : ℕ) (i : AirInst) → StandsAt p b k i → AreOutward f (kind_of i.op) i
+  outward b k i at =
       let good : IsGoodInst p i = all_at (IsGoodInst p) at.of.insts k i at.inst_there (all_at (IsGoodBlock p) p.blocks b at.of at.block_there well.blocks).insts in
       let owns = owns_of p b k i at good.names no_tmps in
-      all_weaker (IsOwnBy f (kind_of i.op) i) (IsOwn f i) (λ site own. record { makes = own.makes; value = own.value; is = own.is }) (inst_sites f i)
-      (own_by f (kind_of i.op) i (record {
+      record {
         calls = λ typed e. call_own p f spilled i owns typed (subst (λ o. HasOperands p.returns o i.operands) (call_op i.op typed e) good.operands);
         tests = λ t e.
             let is = test_op i.op t e in
@@ -199,15 +211,32 @@ module _ (p : AirProc) (f : Frame) (well : IsWellFormed p) (no_tmps : p.tmps ≡
             (ap patch_in is ∙ no_patch checked) 2 (fit_count (two_homes h.2.width) h.0.inputs h.2.fits);
         patches = λ typed e. patch_own p f spilled i owns (patch_size i.op) typed (patch_op i.op typed e)
             (subst (λ o. HasOperands p.returns o i.operands) (patch_op i.op typed e) good.operands);
-      }))
+      }
+
+  own_sites : (b k : ℕ) (i : AirInst) → StandsAt p b k i → All (IsOwn f i) (inst_sites f i)
+  own_sites b k i at =
+      all_weaker (IsOwnBy f (kind_of i.op) i) (IsOwn f i) (λ site own. record { makes = own.makes; value = own.value; is = own.is }) (inst_sites f i)
+      (own_by f (kind_of i.op) i (outward b k i at))
+
+  own_exit : (b k : ℕ) (i : AirInst) → StandsAt p b k i → All (IsOwn f i) (inst_exit f i)
+  own_exit b k i at =
+      all_weaker (IsOwnBy f (kind_of i.op) i) (IsOwn f i) (λ site own. record { makes = own.makes; value = own.value; is = own.is }) (inst_exit f i)
+      (exit_by_own f (kind_of i.op) i (outward b k i at))
 
   at_place : (b k : ℕ) (block : AirBlock) (i : AirInst) → slice_get p.blocks b ≡ Some block → slice_get block.insts k ≡ Some i → StandsAt p b k i
   at_place b k block i there at = record { of = block; block_there = there; inst_there = at }
 
-  pub sites_made : HasSmallValues p → All (IsSiteIn p f) (procedure_sites p f)
-  sites_made small =
-      all_flat (IsSiteIn p f) (block_sites f) p.blocks (λ b block there.
-      all_flat (IsSiteIn p f) (inst_sites f) block.insts (λ k i at.
+  -- the sites that instructions give
+  abbrev Gives : (AirInst → List Site) → Type 0
+  Gives g = (b k : ℕ) (i : AirInst) → StandsAt p b k i → All (IsOwn f i) (g i)
+
+  abbrev all_of : (AirInst → List Site) → List Site
+  all_of g = flat_map (λ (b : AirBlock). flat_map g b.insts) p.blocks
+
+  made_by : (g : AirInst → List Site) → Gives g → HasSmallValues p → All (IsSiteIn p f) (all_of g)
+  made_by g gives small =
+      all_flat (IsSiteIn p f) (λ (b : AirBlock). flat_map g b.insts) p.blocks (λ b block there.
+      all_flat (IsSiteIn p f) g block.insts (λ k i at.
       all_weaker (IsOwn f i) (IsSiteIn p f) (λ site own. record {
         block = b;
         place = k;
@@ -218,31 +247,75 @@ module _ (p : AirProc) (f : Frame) (well : IsWellFormed p) (no_tmps : p.tmps ≡
         small = subst (λ n. n < 2 ^ 32) (sym own.value)
             (all_at (λ (i : AirInst). i.value < 2 ^ 32) block.insts k i at (all_at HasSmallValuesIn p.blocks b block there small));
         is = own.is;
-      }) (inst_sites f i) (own_sites b k i (at_place b k block i there at))))
+      }) (g i) (gives b k i (at_place b k block i there at))))
+
+  pub sites_made : HasSmallValues p → All (IsSiteIn p f) (procedure_sites p f)
+  sites_made small =
+      All-append (IsSiteIn p f) (inner_sites p f) (exit_sites p f) (made_by (inst_sites f) own_sites small) (made_by (inst_exit f) own_exit small)
 
   module _ (one : HasOneSiteEach p) where
     differ : (b c k l : ℕ) (i j : AirInst) (x y : Site) → StandsAt p b k i → StandsAt p c l j → IsOwn f i x → IsOwn f j y → ((b ≡ c) × (k ≡ l) → ⊥)
         → Differ x y
     differ b c k l i j x y at_i at_j own_i own_j other e = other (one b c k l i j at_i at_j own_i.makes own_j.makes (sym own_i.value ∙ e ∙ own_j.value))
 
-    both_apart : (b c k l : ℕ) (i j : AirInst) → StandsAt p b k i → StandsAt p c l j → ((b ≡ c) × (k ≡ l) → ⊥) → (x : Site) → IsOwn f i x
-        → All (Differ x) (inst_sites f j)
-    both_apart b c k l i j at_i at_j other x own =
-        all_weaker (IsOwn f j) (Differ x) (λ y own_y. differ b c k l i j x y at_i at_j own own_y other) (inst_sites f j) (own_sites c l j at_j)
+    both_apart : (g : AirInst → List Site) → Gives g → (b c k l : ℕ) (i j : AirInst) → StandsAt p b k i → StandsAt p c l j → ((b ≡ c) × (k ≡ l) → ⊥)
+        → (x : Site) → IsOwn f i x → All (Differ x) (g j)
+    both_apart g gives b c k l i j at_i at_j other x own =
+        all_weaker (IsOwn f j) (Differ x) (λ y own_y. differ b c k l i j x y at_i at_j own own_y other) (g j) (gives c l j at_j)
+
+    apart_by : (g : AirInst → List Site) → Gives g → ((i : AirInst) → length (g i) ≤ 1) → AllPairs (λ (a b : Site). a.value ≢ b.value) (all_of g)
+    apart_by g gives few =
+        pairs_flat Differ (λ (b : AirBlock). flat_map g b.insts) p.blocks
+        (λ b block there.
+        pairs_flat Differ g block.insts
+        (λ k i at. few_apart Differ (g i) (few i))
+        (λ k l i j lt at_k at_l.
+        all_weaker (IsOwn f i) (λ x. All (Differ x) (g j))
+        (both_apart g gives b b k l i j (at_place b k block i there at_k) (at_place b l block j there at_l) (λ same. let e = same.1 in omega arith))
+        (g i) (gives b k i (at_place b k block i there at_k))))
+        (λ b c block other lt at_b at_c.
+        all_flat (λ x. All (Differ x) (flat_map g other.insts)) g block.insts (λ k i at_k.
+        all_weaker (IsOwn f i) (λ x. All (Differ x) (flat_map g other.insts))
+        (λ x own. all_flat (Differ x) g other.insts
+        (λ l j at_l. both_apart g gives b c k l i j (at_place b k block i at_b at_k) (at_place c l other j at_c at_l) (λ same. let e = same.0 in omega arith) x own))
+        (g i) (gives b k i (at_place b k block i at_b at_k))))
+
+    -- the exit of an instruction differs from the site of an instruction
+    exit_apart : (b c k l : ℕ) (i j : AirInst) → StandsAt p b k i → StandsAt p c l j → inst_exit f i ≡ [] → (x : Site) → IsOwn f i x
+        → All (Differ x) (inst_exit f j)
+    exit_apart b c k l i j at_i at_j none x own =
+        elim (nat_eq b c && nat_eq k l) as (λ t. nat_eq b c && nat_eq k l ≡ t → All (Differ x) (inst_exit f j)) [
+          | true ↦ λ e.
+              let block : b ≡ c = grind (arith, nat_tests) in
+              let place : k ≡ l = grind (arith, nat_tests) in
+              let same : i ≡ j = same_inst b c k l i j block place at_i at_j in
+              subst (All (Differ x)) (sym none ∙ ap (inst_exit f) same) (All-nil (Differ x))
+          | false ↦ λ e. both_apart (inst_exit f) own_exit b c k l i j at_i at_j (λ same. absurd (grind (arith, nat_tests))) x own
+        ] refl
+      where
+        same_inst : (b c k l : ℕ) (i j : AirInst) → b ≡ c → k ≡ l → StandsAt p b k i → StandsAt p c l j → i ≡ j
+        same_inst b c k l i j block place at_i at_j =
+            let of : Some at_i.of ≡ Some at_j.of = sym at_i.block_there ∙ ap (slice_get p.blocks) block ∙ at_j.block_there in
+            let blocks : at_i.of ≡ at_j.of = cc in
+            let inst : Some i ≡ Some j =
+            sym at_i.inst_there ∙ ap (λ (x : AirBlock). slice_get x.insts k) blocks ∙ ap (slice_get at_j.of.insts) place ∙ at_j.inst_there in
+            cc
+
+    across : All (λ x. All (Differ x) (exit_sites p f)) (inner_sites p f)
+    across =
+        all_flat (λ x. All (Differ x) (exit_sites p f)) (block_sites f) p.blocks (λ b block at_b.
+        all_flat (λ x. All (Differ x) (exit_sites p f)) (inst_sites f) block.insts (λ k i at_k.
+        ⊎_elim
+        (λ (none : inst_sites f i ≡ []). subst (All (λ x. All (Differ x) (exit_sites p f))) (sym none) (All-nil (λ x. All (Differ x) (exit_sites p f))))
+        (λ (none : inst_exit f i ≡ []). all_weaker (IsOwn f i) (λ x. All (Differ x) (exit_sites p f))
+        (λ x own. all_flat (Differ x) (block_exit_sites f) p.blocks (λ c other at_c.
+        all_flat (Differ x) (inst_exit f) other.insts (λ l j at_l.
+        exit_apart b c k l i j (at_place b k block i at_b at_k) (at_place c l other j at_c at_l) none x own)))
+        (inst_sites f i) (own_sites b k i (at_place b k block i at_b at_k)))
+        (one_kind f (kind_of i.op) i)))
 
     pub sites_apart : AllPairs (λ (a b : Site). a.value ≢ b.value) (procedure_sites p f)
     sites_apart =
-        pairs_flat Differ (block_sites f) p.blocks
-        (λ b block there.
-        pairs_flat Differ (inst_sites f) block.insts
-        (λ k i at. few_apart Differ (inst_sites f i) (let count = inst_counted f i in let few = one_mark i in omega arith))
-        (λ k l i j lt at_k at_l.
-        all_weaker (IsOwn f i) (λ x. All (Differ x) (inst_sites f j))
-        (both_apart b b k l i j (at_place b k block i there at_k) (at_place b l block j there at_l) (λ same. let e = same.1 in omega arith))
-        (inst_sites f i) (own_sites b k i (at_place b k block i there at_k))))
-        (λ b c block other lt at_b at_c.
-        all_flat (λ x. All (Differ x) (block_sites f other)) (inst_sites f) block.insts (λ k i at_k.
-        all_weaker (IsOwn f i) (λ x. All (Differ x) (block_sites f other))
-        (λ x own. all_flat (Differ x) (inst_sites f) other.insts
-        (λ l j at_l. both_apart b c k l i j (at_place b k block i at_b at_k) (at_place c l other j at_c at_l) (λ same. let e = same.0 in omega arith) x own))
-        (inst_sites f i) (own_sites b k i (at_place b k block i at_b at_k))))
+        pairs_append Differ (inner_sites p f) (exit_sites p f)
+        (apart_by (inst_sites f) own_sites (λ i. let count = inst_counted f i in let few = one_mark i in omega arith))
+        (apart_by (inst_exit f) own_exit (λ i. let count = exits_counted f i in let few = one_exit i in omega arith)) across

@@ -25,7 +25,7 @@ use Rattle.air_ir.specs.declared.op.Test.TheVariants.{Compare, NonZero, Bit}
 use Rattle.air_ir.specs.declared.operand.Arg.{Arg}
 use Rattle.air_ir.specs.declared.operand.Operand.{Operand}
 use Rattle.a64_layout.specs.Branch.{size_of}
-use Rattle.a64_emit.specs.Code.{arg_at, branch_code, branch_item, branches, bring, compared, copy_code, copy_reg, fetch, fetch_tested, put_result, result_reg, select_code, set_code, source_at, test_at, test_count, width_at, guarded, fetch_checked, make_checked, checked_items, result_at}
+use Rattle.a64_emit.specs.Code.{arg_at, branch_code, branch_item, exits_by, branches, bring, compared, copy_code, copy_reg, fetch, fetch_tested, put_result, result_reg, select_code, set_code, source_at, test_at, test_count, width_at, guarded, fetch_checked, make_checked, checked_items, result_at}
 use Rattle.a64_code.specs.Computing.{reg_of, is_sum_word, sum_with}
 use Rattle.a64_code.specs.Constants.{constant}
 use Rattle.a64_code.specs.Places.{above_sp, epilogue, leave, load_at, lower_sp, plains, prologue, restores, saves, store_at, unless_zero}
@@ -320,20 +320,25 @@ module _ (f : Frame) where
       subst (λ (xs : List Operand). length (fetch_tested f (Bit k) (xs ++ rest) ++ compared (Bit k) (xs ++ rest)) ≤ 1 + sum_by (operand_words f) xs)
       (sym shape.1) (before_branches (Bit k) (shape.0 ∷ []) refl)
 
-  -- the words of a check: a long branch and the break
-  pub guarded_most : (before : List Inst) (t : Test) (width : Width) (reg label mark : ℕ) (behind : List Inst)
-      → words_of (guarded before t width reg label mark behind) ≤ length before + 3 + length behind
-  guarded_most before t width reg label mark behind =
-      let guard : List Item = branch_item t false width reg label ∷ Mark mark ∷ Plain (Break 1) ∷ Label label ∷ plains behind in
-      let both = sum_by-append (size_of true) (plains before) guard in
+  -- the words of a check: its branch may be long
+  pub guarded_most : (before : List Inst) (t : Test) (width : Width) (reg label : ℕ) (behind : List Inst)
+      → words_of (guarded before t width reg label behind) ≤ length before + 2 + length behind
+  guarded_most before t width reg label behind =
+      let both = sum_by-append (size_of true) (plains before) (branch_item t true width reg label ∷ plains behind) in
       let front = plain_words before in
       let back = plain_words behind in
-      let branch = branch_most t false width reg label in
-      let one = sum_by-cons (size_of true) (branch_item t false width reg label) (Mark mark ∷ Plain (Break 1) ∷ Label label ∷ plains behind) in
-      let two = sum_by-cons (size_of true) (Mark mark) (Plain (Break 1) ∷ Label label ∷ plains behind) in
-      let three = sum_by-cons (size_of true) (Plain (Break 1)) (Label label ∷ plains behind) in
-      let four = sum_by-cons (size_of true) (Label label) (plains behind) in
+      let branch = branch_most t true width reg label in
+      let one = sum_by-cons (size_of true) (branch_item t true width reg label) (plains behind) in
       omega arith
+
+  -- the words of an exit
+  pub exit_words : (label mark : ℕ) (b : Bool) → words_of (exits_by b label mark) ≤ (if b then 1 else 0)
+  exit_words label mark true =
+      let one = sum_by-cons (size_of true) (Label label) (Mark mark ∷ Plain (Break 1) ∷ []) in
+      let two = sum_by-cons (size_of true) (Mark mark) (Plain (Break 1) ∷ []) in
+      let three = sum_by-cons (size_of true) (Plain (Break 1)) [] in
+      omega arith
+  exit_words label mark false = omega arith
 
   -- how many words compare
   abbrev pub compare_words : Checked → ℕ
@@ -363,10 +368,10 @@ module _ (f : Frame) where
       at_end [] = refl
       at_end (x ∷ xs) = at_end xs
 
-  pub checked_most : (label mark : ℕ) (kind : Checked) (a b : Operand) (more : List Operand) (o : Operand)
-      → words_of (checked_items f label mark kind (a ∷ b ∷ (more ++ o ∷ [])))
-      ≤ compare_words kind + 4 + sum_by (operand_words f) (a ∷ b ∷ (more ++ o ∷ []))
-  checked_most label mark kind a b more o =
+  pub checked_most : (label : ℕ) (kind : Checked) (a b : Operand) (more : List Operand) (o : Operand)
+      → words_of (checked_items f label kind (a ∷ b ∷ (more ++ o ∷ [])))
+      ≤ compare_words kind + 3 + sum_by (operand_words f) (a ∷ b ∷ (more ++ o ∷ []))
+  checked_most label kind a b more o =
       let os : List Operand = a ∷ b ∷ (more ++ o ∷ []) in
       let d : Operand = record { role = Use; width = W64; arg = Imm 0 } in
       let last : result_at os ≡ o.arg = ap (λ (x : Operand). x.arg) (last_of (a ∷ b ∷ more) o d) in
@@ -377,7 +382,7 @@ module _ (f : Frame) where
       let make : List Inst = making kind (width_at os 0) rd ra rb in
       let put : length (put_result f rd (result_at os)) ≤ place_words o.arg =
       subst (λ (x : Arg). length (put_result f rd x) ≤ place_words o.arg) (sym last) (put_most f rd o.arg) in
-      let most = guarded_most (fetch_checked f kind os) (Compare (passing kind)) (width_at os 0) 0 label mark (make_checked f kind os) in
+      let most = guarded_most (fetch_checked f kind os) (Compare (passing kind)) (width_at os 0) 0 label (make_checked f kind os) in
       let first = fetch_most f 15 a.arg in
       let second = fetch_most f 16 b.arg in
       let least_a = place_least a.arg in

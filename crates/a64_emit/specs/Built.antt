@@ -1,8 +1,8 @@
 -- The ops that are emitted.
-use Rattle.std.specs.Prelude.{◌≡◌, nat_lt, Bool, true, false, All}
+use Rattle.std.specs.Prelude.{◌≡◌, nat_lt, Bool, true, All}
 use Rattle.air_ir.specs.Kinds.{Kind, Checks, ChecksResult, Copies, Computes, Loads, Stores, Calls, Patches, SlotAddresses, FramePointers, Branches, Jumps, Switches, Returns, Fails, kind_of}
 use Rattle.air_ir.specs.declared.op.AirOp.{AirOp}
-use Rattle.air_ir.specs.declared.op.AirOp.TheVariants.{Patch, Shuffle}
+use Rattle.air_ir.specs.declared.op.AirOp.TheVariants.{Patch}
 use Rattle.air_ir.specs.declared.procedure.AirBlock.{AirBlock}
 use Rattle.air_ir.specs.declared.procedure.AirInst.{AirInst}
 use Rattle.air_ir.specs.declared.procedure.AirProc.{AirProc}
@@ -26,9 +26,8 @@ is_built_kind (Switches cases) traps = true
 is_built_kind Returns traps = true
 is_built_kind Fails traps = true
 
--- a Shuffle isn't, nor a patchpoint without words
+-- a patchpoint without words isn't
 abbrev pub is_built : AirOp → Bool → Bool
-is_built Shuffle traps = false
 is_built (Patch size typed) traps = nat_lt 0 size
 is_built op traps = is_built_kind (kind_of op) traps
 

@@ -2,6 +2,7 @@
 use Rattle.std.specs.Prelude.{ℕ, zero, suc, ◌+◌, ◌-◌, Bool, true, false, not, nat_eq, nat_lt, if◌then◌else◌, List, [], ◌∷◌, ◌++◌, length, get_or, sum_by}
 use Rattle.b3_base.specs.declared.word.Width.{Width}
 use Rattle.b3_base.specs.declared.word.Width.TheVariants.{W32, W64}
+use Rattle.b3_ir.specs.declared.value.Reg.{Reg as Register}
 use Rattle.a64_inst.specs.StepMemory.{is_store}
 use Rattle.a64_inst.specs.declared.inst.AccessKind.{AccessKind}
 use Rattle.a64_inst.specs.declared.inst.BranchKind.TheVariants.{Blr}
@@ -21,12 +22,15 @@ use Rattle.air_ir.specs.declared.op.Test.{Test}
 use Rattle.air_ir.specs.declared.op.Test.TheVariants.{Compare, NonZero, Bit}
 use Rattle.air_ir.specs.declared.operand.Arg.{Arg}
 use Rattle.air_ir.specs.declared.operand.Arg.TheVariants.{At, Imm, Addr, Index, FrameSlot}
-use Rattle.air_ir.specs.declared.operand.Home.TheVariants.{Reg, Spill}
+use Rattle.air_ir.specs.declared.operand.Home.{Home}
+use Rattle.air_ir.specs.declared.operand.Home.TheVariants.{Reg, Spill, Tmp}
 use Rattle.air_ir.specs.declared.operand.Operand.{Operand}
 use Rattle.air_ir.specs.declared.operand.Role.TheVariants.{Use}
 use Rattle.air_ir.specs.declared.procedure.AirBlock.{AirBlock}
 use Rattle.air_ir.specs.declared.procedure.AirInst.{AirInst}
 use Rattle.air_ir.specs.declared.procedure.AirProc.{AirProc}
+use Rattle.air_shuffle.specs.declared.moves.Move.{Move}
+use Rattle.air_shuffle.specs.Sequenced.{sequenced}
 use Rattle.a64_code.specs.declared.source.Source.{Source}
 use Rattle.a64_code.specs.declared.source.Source.TheVariants.{InReg, Constant}
 use Rattle.a64_code.specs.Accesses.{access_kind, below_x29, offset_access}
@@ -94,13 +98,43 @@ bring f width reg (At (Spill n)) = load_at reg (above_sp f (spill_offset f n))
 bring f width reg (Imm word) = constant width reg word
 bring f width reg _ = []
 
--- the register from which a copied word is stored: its own where it has one
+-- the register to which a copied word is brought, and from which it is stored in a spill place: its own where it has
+-- one, else x16, since x17 keeps a word while the copies of a Shuffle are carried out
 abbrev pub copy_reg : Arg → Arg → ℕ
 copy_reg (At (Reg from)) (At (Spill n)) = from.0
+copy_reg from (At (Spill n)) = 16
 copy_reg from to = result_reg to
 
 abbrev pub copy_code : Frame → Width → Arg → Arg → List Inst
 copy_code f width from to = bring f width (copy_reg from to) from ++ put_result f (copy_reg from to) to
+
+-- ---- Shuffles
+
+-- the register that keeps a word while the copies of a Shuffle are carried out
+abbrev pub kept_register : Register
+kept_register = record { 0 = 17 }
+
+-- the home of an argument, where it is one
+abbrev pub home_of : Arg → Home
+home_of (At home) = home
+home_of _ = Tmp 0
+
+-- pairs of a source and a destination as moves
+unfoldable pub moves_of : List Operand → List Move
+moves_of (from ∷ to ∷ os) = record { from = from.arg; to = home_of to.arg; width = from.width } ∷ moves_of os
+moves_of (o ∷ []) = []
+moves_of [] = []
+
+-- moves, one after the other
+unfoldable pub copies_code : Frame → List Move → List Inst
+copies_code f [] = []
+copies_code f (m ∷ ms) = copy_code f m.width m.from (At m.to) ++ copies_code f ms
+
+-- a Shuffle: its moves in an order in which they do what all of them do at once (the law `sequences_are_right`)
+abbrev pub shuffle_code : Frame → List Operand → List Inst
+shuffle_code f os = copies_code f (sequenced kept_register (moves_of os))
+
+-- ---- ops that compute
 
 abbrev pub compute_code : Frame → AirOp → List Operand → List Inst
 compute_code f op os =
@@ -199,6 +233,7 @@ call_inst os = BranchReg Blr (reg_of (source_at os 0 15))
 -- the code of an instruction that doesn't end its block
 unfoldable pub inst_code : Frame → AirOp → List Operand → List Inst
 inst_code f op.Move os = copy_code f (width_at os 0) (arg_at os 0) (arg_at os 1)
+inst_code f op.Shuffle os = shuffle_code f os
 inst_code f (op.SetIf test) os = set_code f test os
 inst_code f (op.SelectIf test) os = select_code f test os
 inst_code f op.Load8Z os = load_code f op.Load8Z os
@@ -238,15 +273,13 @@ branch_code f next targets test os =
 
 -- ---- checks
 
--- an exit: where a test doesn't pass, a branch goes past it
-abbrev pub guarded : List Inst → Test → Width → ℕ → ℕ → ℕ → List Inst → List Item
-guarded before test width reg label mark behind =
-    plains before
-    ++ branch_item test false width reg label ∷ Mark mark ∷ Plain (Break 1) ∷ Label label ∷ plains behind
+-- a branch to an exit where a test passes; the exit stands behind the last block
+abbrev pub guarded : List Inst → Test → Width → ℕ → ℕ → List Inst → List Item
+guarded before test width reg label behind = plains before ++ branch_item test true width reg label ∷ plains behind
 
-abbrev pub check_items : Frame → ℕ → ℕ → Test → List Operand → List Item
-check_items f label mark test os =
-    guarded (fetch_tested f test os ++ compared test os) test (width_at os 0) (reg_of (source_at os 0 15)) label mark []
+abbrev pub check_items : Frame → ℕ → Test → List Operand → List Item
+check_items f label test os =
+    guarded (fetch_tested f test os ++ compared test os) test (width_at os 0) (reg_of (source_at os 0 15)) label []
 
 abbrev pub fetch_checked : Frame → Checked → List Operand → List Inst
 fetch_checked f kind os =
@@ -259,9 +292,13 @@ make_checked f kind os =
     ++ put_result f (result_reg (result_at os)) (result_at os)
 
 -- the result is made where it doesn't pass its width
-abbrev pub checked_items : Frame → ℕ → ℕ → Checked → List Operand → List Item
-checked_items f label mark kind os =
-    guarded (fetch_checked f kind os) (Compare (passing kind)) (width_at os 0) 0 label mark (make_checked f kind os)
+abbrev pub checked_items : Frame → ℕ → Checked → List Operand → List Item
+checked_items f label kind os =
+    guarded (fetch_checked f kind os) (Compare (passing kind)) (width_at os 0) 0 label (make_checked f kind os)
+
+-- an exit: its label, its mark and its break
+abbrev pub exit_items : ℕ → ℕ → List Item
+exit_items label mark = Label label ∷ Mark mark ∷ Plain (Break 1) ∷ []
 
 -- the items of an instruction that doesn't end its block, where its mark has this number
 unfoldable pub inner_items : Frame → ℕ → Bool → AirOp → List Operand → List Item
@@ -278,7 +315,7 @@ inner_items f mark traps (op.Patch size typed) os = with_mark true mark [] (brea
 inner_items f mark traps op os = plains (inst_code f op os)
 
 -- the items of an instruction of a block with these targets, before the block `next`; a Switch may use labels from
--- `label` on, and a check uses that one
+-- `label` on, and the exit of a check has that one
 unfoldable pub inst_items : Frame → ℕ → ℕ → ℕ → List ℕ → Bool → AirOp → List Operand → List Item
 inst_items f next label mark targets traps (op.BranchIf test) os = branch_code f next targets test os
 inst_items f next label mark targets traps op.Jump os = jump_to next (get_or targets 0 0)
@@ -286,10 +323,10 @@ inst_items f next label mark targets traps (op.Switch cases) os =
     plains (fetch f 15 (arg_at os 0)) ++ switch_items (width_at os 0) (reg_of (source_at os 0 15)) next label cases targets
 inst_items f next label mark targets traps op.Return os = plains (epilogue f)
 inst_items f next label mark targets traps op.Oops os = Plain (Break 3) ∷ []
-inst_items f next label mark targets traps (op.CheckIf test) os = check_items f label mark test os
-inst_items f next label mark targets traps op.CheckAdd os = checked_items f label mark Sum os
-inst_items f next label mark targets traps op.CheckSub os = checked_items f label mark Difference os
-inst_items f next label mark targets traps op.CheckMul os = checked_items f label mark Product os
+inst_items f next label mark targets traps (op.CheckIf test) os = check_items f label test os
+inst_items f next label mark targets traps op.CheckAdd os = checked_items f label Sum os
+inst_items f next label mark targets traps op.CheckSub os = checked_items f label Difference os
+inst_items f next label mark targets traps op.CheckMul os = checked_items f label Product os
 inst_items f next label mark targets traps op os = inner_items f mark traps op os
 
 -- ---- blocks
@@ -309,19 +346,30 @@ has_mark (Loads extent extends) traps = traps
 has_mark (Stores extent) traps = traps
 has_mark (Calls typed) traps = true
 has_mark (Patches typed) traps = true
-has_mark (Checks test) traps = true
-has_mark (ChecksResult checked) traps = true
 has_mark _ traps = false
 
 -- how many marks stand there
 abbrev pub own_marks : AirOp → Bool → ℕ
 own_marks op traps = if has_mark (kind_of op) traps then 1 else 0
 
+-- whether an instruction of this kind has an exit
+abbrev pub has_exit : Kind → Bool
+has_exit (Checks test) = true
+has_exit (ChecksResult checked) = true
+has_exit _ = false
+
+-- how many exits an instruction has
+abbrev pub own_exits : AirOp → ℕ
+own_exits op = if has_exit (kind_of op) then 1 else 0
+
 abbrev pub labels_of : AirInst → ℕ
 labels_of i = own_labels i.op
 
 abbrev pub marks_of : AirInst → ℕ
 marks_of i = own_marks i.op i.traps
+
+abbrev pub exits_of : AirInst → ℕ
+exits_of i = own_exits i.op
 
 unfoldable pub insts_items : Frame → ℕ → ℕ → ℕ → List ℕ → List AirInst → List Item
 insts_items f next label mark targets [] = []
@@ -343,5 +391,34 @@ blocks_items f b label mark (block ∷ blocks) =
     Label b ∷ insts_items f (b + 1) label mark block.targets block.insts
     ++ blocks_items f (b + 1) (label + block_labels block) (mark + block_marks block) blocks
 
+-- the exits of instructions and of blocks, in order: each has the label of its check, and their marks are those from
+-- `mark` on
+abbrev pub exits_by : Bool → ℕ → ℕ → List Item
+exits_by true label mark = exit_items label mark
+exits_by false label mark = []
+
+abbrev pub inst_exits : ℕ → ℕ → AirInst → List Item
+inst_exits label mark i = exits_by (has_exit (kind_of i.op)) label mark
+
+unfoldable pub insts_exits : ℕ → ℕ → List AirInst → List Item
+insts_exits label mark [] = []
+insts_exits label mark (i ∷ is) =
+    inst_exits label mark i ++ insts_exits (label + labels_of i) (mark + exits_of i) is
+
+abbrev pub block_exits : AirBlock → ℕ
+block_exits b = sum_by exits_of b.insts
+
+unfoldable pub blocks_exits : ℕ → ℕ → List AirBlock → List Item
+blocks_exits label mark [] = []
+blocks_exits label mark (block ∷ blocks) =
+    insts_exits label mark block.insts
+    ++ blocks_exits (label + block_labels block) (mark + block_exits block) blocks
+
+-- how many marks stand within the items of blocks
+abbrev pub inner_marks : List AirBlock → ℕ
+inner_marks blocks = sum_by block_marks blocks
+
 unfoldable pub emitted : AirProc → Frame → List Item
-emitted p f = plains (prologue f) ++ blocks_items f 0 (length p.blocks) 0 p.blocks
+emitted p f =
+    plains (prologue f)
+    ++ (blocks_items f 0 (length p.blocks) 0 p.blocks ++ blocks_exits (length p.blocks) (inner_marks p.blocks) p.blocks)

@@ -1,5 +1,5 @@
 -- What the operands of accesses may be, and what an instruction and a procedure may have. No public clause cites this module.
-use Rattle.std.specs.Prelude.{◌≡◌, true, ◌+◌, ◌^◌, ◌<◌, List, All, length, sum_by}
+use Rattle.std.specs.Prelude.{◌≡◌, ◌≢◌, true, ◌+◌, ◌^◌, ◌<◌, List, All, AllPairs, length, sum_by}
 use Rattle.b3_base.specs.Word.{bits}
 use Rattle.b3_base.specs.declared.word.Width.{Width}
 use Rattle.a64_inst.specs.StepMemory.{access_bytes}
@@ -11,12 +11,15 @@ use Rattle.air_ir.specs.declared.op.Test.{Test}
 use Rattle.air_ir.specs.declared.op.Test.TheVariants.{Compare, NonZero, Bit}
 use Rattle.air_ir.specs.declared.operand.Arg.{Arg}
 use Rattle.air_ir.specs.declared.operand.Arg.TheVariants.{Addr}
+use Rattle.air_ir.specs.declared.operand.Home.TheVariants.{Reg}
 use Rattle.air_ir.specs.declared.operand.Operand.{Operand}
 use Rattle.air_ir.specs.declared.procedure.AirBlock.{AirBlock}
 use Rattle.air_ir.specs.declared.procedure.AirInst.{AirInst}
 use Rattle.air_ir.specs.declared.procedure.AirProc.{AirProc}
+use Rattle.air_shuffle.specs.Moves.{IsSource}
+use Rattle.air_shuffle.specs.declared.moves.Move.{Move}
 use Rattle.a64_code.specs.Accesses.{access_kind}
-use Rattle.a64_emit.specs.Code.{arg_at, block_labels, block_marks, source_at, width_at}
+use Rattle.a64_emit.specs.Code.{arg_at, block_exits, block_labels, inner_marks, kept_register, source_at, width_at, moves_of}
 use Rattle.a64_emit.specs.Switched.{AreDifferent}
 use Rattle.a64_code.specs.declared.source.Source.{Source}
 use Rattle.a64_code.specs.declared.source.Source.TheVariants.{InReg, Constant}
@@ -34,8 +37,16 @@ IsLoaded op os = IsReached (access_kind op (width_at os 0)) (arg_at os 0)
 abbrev pub IsStored : AirOp → List Operand → Type 0
 IsStored op os = IsReached (access_kind op (width_at os 0)) (arg_at os 1)
 
+-- moves that may be put in order: from homes and immediates, to homes that differ, none of which is the register that
+-- keeps a word
+pub record AreOrderable (ms : List Move) : Type 0 where
+  pub sources : All (λ (m : Move). IsSource m.from) ms
+  pub differ : AllPairs (λ (m n : Move). m.to ≢ n.to) ms
+  pub apart : All (λ (m : Move). m.to ≢ Reg kept_register) ms
+
 -- what an instruction may take
 abbrev pub IsFitting : AirOp → List Operand → Type 0
+IsFitting op.Shuffle os = AreOrderable (moves_of os)
 IsFitting (op.SetIf test) os = IsTested test (width_at os 0) (source_at os 1 16)
 IsFitting (op.SelectIf test) os = IsTested test (width_at os 0) (source_at os 1 16)
 IsFitting (op.CheckIf test) os = IsTested test (width_at os 0) (source_at os 1 16)
@@ -57,4 +68,4 @@ IsFittingBlock b = All (λ (i : AirInst). IsFitting i.op i.operands) b.insts
 -- the labels and the marks are numbers of 32 bits
 pub record AreFitting (p : AirProc) : Type 0 where
   pub labels : length p.blocks + sum_by block_labels p.blocks < 2 ^ 32
-  pub marks : sum_by block_marks p.blocks < 2 ^ 32
+  pub marks : inner_marks p.blocks + sum_by block_exits p.blocks < 2 ^ 32

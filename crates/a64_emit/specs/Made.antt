@@ -1,5 +1,5 @@
 -- The sites of emitted code, in the order of their marks. No public clause cites this module.
-use Rattle.std.specs.Prelude.{ℕ, ◌-◌, ◌*◌, ◌%◌, ◌^◌, ◌<◌, Bool, true, false, nat_le, if◌then◌else◌, List, [], ◌∷◌, length, take, drop, All, Option, None}
+use Rattle.std.specs.Prelude.{ℕ, ◌-◌, ◌*◌, ◌%◌, ◌^◌, ◌<◌, Bool, true, false, nat_le, if◌then◌else◌, List, [], ◌∷◌, ◌++◌, length, take, drop, All, Option, None}
 use Rattle.std.specs.Int.Bits.{bit_or}
 use Rattle.std.specs.List.{flat_map}
 use Rattle.b3_base.specs.declared.word.Width.{Width}
@@ -102,18 +102,35 @@ sites_by (Loads extent extends) f i = if i.traps then trap_site i.value ∷ [] e
 sites_by (Stores extent) f i = if i.traps then trap_site i.value ∷ [] else []
 sites_by (Calls typed) f i = outward_site f site_kind.Call 1 typed 1 i ∷ []
 sites_by (Patches typed) f i = outward_site f site_kind.Patchpoint (patch_size i.op) typed 0 i ∷ []
-sites_by (Checks test) f i = exit_site f (test_count test) i ∷ []
-sites_by (ChecksResult checked) f i = exit_site f 2 i ∷ []
 sites_by _ f i = []
+
+-- the sites of its exit
+abbrev pub exit_by : Kind → Frame → AirInst → List Site
+exit_by (Checks test) f i = exit_site f (test_count test) i ∷ []
+exit_by (ChecksResult checked) f i = exit_site f 2 i ∷ []
+exit_by _ f i = []
 
 abbrev pub inst_sites : Frame → AirInst → List Site
 inst_sites f i = sites_by (kind_of i.op) f i
 
+abbrev pub inst_exit : Frame → AirInst → List Site
+inst_exit f i = exit_by (kind_of i.op) f i
+
 abbrev pub block_sites : Frame → AirBlock → List Site
 block_sites f b = flat_map (inst_sites f) b.insts
 
+abbrev pub block_exit_sites : Frame → AirBlock → List Site
+block_exit_sites f b = flat_map (inst_exit f) b.insts
+
+-- the exits' marks come after all others
+abbrev pub inner_sites : AirProc → Frame → List Site
+inner_sites p f = flat_map (block_sites f) p.blocks
+
+abbrev pub exit_sites : AirProc → Frame → List Site
+exit_sites p f = flat_map (block_exit_sites f) p.blocks
+
 abbrev pub procedure_sites : AirProc → Frame → List Site
-procedure_sites p f = flat_map (block_sites f) p.blocks
+procedure_sites p f = inner_sites p f ++ exit_sites p f
 
 -- the ids of values are numbers of 32 bits
 abbrev pub HasSmallValuesIn : AirBlock → Type 0

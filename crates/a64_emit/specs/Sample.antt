@@ -56,3 +56,7 @@ last = record { insts = loads ∷ inst op.Return (used x0 ∷ []) ∷ []; target
 
 abbrev pub procedure : AirProc
 procedure = record { blocks = entry ∷ last ∷ []; tmps = 0; slots = 16 ∷ []; returns = returns.W64 }
+
+-- x0 and x1 are exchanged, and a spill place is copied to another one
+abbrev pub exchanged : List Operand
+exchanged = used x0 ∷ made x1 ∷ used x1 ∷ made x0 ∷ used (At (Spill 0)) ∷ made (At (Spill 1)) ∷ []

@@ -1,11 +1,7 @@
-//! Checks: a test, and an exit that a branch goes past where the test doesn't pass.
+//! Checks: a test, and a branch to the exit where it passes; and the exits, which stand behind the last block.
 
-ghost use Rattle.std.specs.Prelude.{◌≡◌, ◌++◌, true, false, ◌∷◌, [], OnOk};
-ghost use Rattle.a64_inst.specs.declared.inst.Inst.TheVariants.{Break};
-ghost use Rattle.a64_inst.specs.declared.item.Item.TheVariants.{Label, Mark, Plain};
-ghost use Rattle.a64_checked.specs.Checks.{passing};
-ghost use Rattle.air_ir.specs.declared.op.Test.TheVariants.{Compare};
-ghost use Rattle.a64_emit.specs.Code.{branch_item, check_items, checked_items, fetch_checked, make_checked, source_at, width_at};
+ghost use Rattle.std.specs.Prelude.{◌≡◌, ◌++◌, OnOk};
+ghost use Rattle.a64_emit.specs.Code.{check_items, checked_items, exit_items, fetch_checked, make_checked, source_at, width_at};
 ghost use Rattle.a64_code.specs.Fitting.{IsTested};
 ghost use Rattle.a64_code.specs.Places.{plains};
 
@@ -17,25 +13,16 @@ use a64_checked::{passing, push_comparing, push_making};
 use a64_code::reg_of;
 use a64_inst::{Inst, Item, Labelled};
 use air_ir::{Frame, Operands, Test};
-use b3_base::{NoMemory, Width};
+use b3_base::NoMemory;
 use b3_meaning::Checked;
 
-/// An exit, and a branch past it.
-fn push_exit(
-    code: &mut Labelled,
-    test: Test,
-    width: Width,
-    reg: u8,
-    label: u32,
-    mark: u32,
-) -> Result<(), NoMemory>
-    ensures { OnOk result (code.new ≡ code.old
-        ++ branch_item test false width reg label ∷ Mark mark ∷ Plain (Break 1) ∷ Label label ∷ []) }
+/// An exit: its label, its mark and its break.
+pub(crate) fn push_exit(code: &mut Labelled, label: u32, mark: u32) -> Result<(), NoMemory>
+    ensures { OnOk result (code.new ≡ code.old ++ exit_items label mark) }
 {
-    code.push(branch_item(test, false, width, reg, label))?;
+    code.push(Item::Label(label))?;
     code.push(Item::Mark(mark))?;
-    code.push(Item::Plain(Inst::Break { imm: 1 }))?;
-    code.push(Item::Label(label))
+    code.push(Item::Plain(Inst::Break { imm: 1 }))
 }
 
 /// A check of a test.
@@ -43,18 +30,17 @@ pub(crate) fn push_check(
     code: &mut Labelled,
     frame: &Frame,
     label: u32,
-    mark: u32,
     test: Test,
     operands: &Operands,
 ) -> Result<(), NoMemory>
     requires { IsTested test (width_at operands.now 0) (source_at operands.now 1 16) }
-    ensures { OnOk result (code.new ≡ code.old ++ check_items frame.now label mark test operands.now) }
+    ensures { OnOk result (code.new ≡ code.old ++ check_items frame.now label test operands.now) }
 {
     push_tested(code, frame, test, operands)?;
     push_compared(code, test, operands)?;
     let width = operand_at(operands, 0).width;
     let reg = reg_of(source_at(operands, 0, 15));
-    push_exit(code, test, width, reg, label, mark)
+    code.push(branch_item(test, true, width, reg, label))
 }
 
 fn push_checking(
@@ -99,14 +85,14 @@ pub(crate) fn push_checked(
     code: &mut Labelled,
     frame: &Frame,
     label: u32,
-    mark: u32,
     kind: Checked,
     operands: &Operands,
 ) -> Result<(), NoMemory>
-    ensures { OnOk result (code.new ≡ code.old ++ checked_items frame.now label mark kind operands.now) }
+    ensures { OnOk result (code.new ≡ code.old ++ checked_items frame.now label kind operands.now) }
 {
     push_checking(code, frame, kind, operands)?;
     let test = Test::Compare(passing(kind));
-    push_exit(code, test, operand_at(operands, 0).width, 0, label, mark)?;
+    let width = operand_at(operands, 0).width;
+    code.push(branch_item(test, true, width, 0, label))?;
     push_checked_result(code, frame, kind, operands)
 }

@@ -5,16 +5,18 @@ ghost use Rattle.a64_emit.specs.Sample as sample;
 
 use crate::emit;
 use crate::insts::push_inst;
+use crate::shuffles::push_shuffle;
 use crate::sites::push_inst_sites;
 use crate::switched::push_switch;
-use a64_inst::{AccessKind, BranchKind, Cond, Inst, Item, Labelled};
+use a64_inst::{AccessKind, BranchKind, Cond, Inst, Item, Labelled, LogicOp};
 use air_frame::layout;
 use air_ir::{
-    AirBlock, AirBlocks, AirInst, AirInsts, AirOp, AirProc, Arg, Home, Operand, Operands, Role,
+    AirBlock, AirBlocks, AirInst, AirInsts, AirOp, AirProc, Arg, Frame, Home, Operand, Operands,
+    Role,
 };
 use b3_base::{Ids, NoMemory, Width, Words};
 use b3_ir::Reg;
-use stackmap::{Rep, Returns, SiteKind, Sites};
+use stackmap::{Rep, Returns, Saved, SiteKind, Sites};
 use std::alloc::Global;
 use std::test::Fail;
 
@@ -31,6 +33,8 @@ const ABOVE_X1: Arg = Arg::Addr {
 const X30: Arg = Arg::At(Home::Reg(Reg(30)));
 
 const SPILL_0: Arg = Arg::At(Home::Spill(0));
+
+const SPILL_1: Arg = Arg::At(Home::Spill(1));
 
 fn used(arg: Arg) -> Operand
     ensures { result ≡ sample.used arg }
@@ -226,7 +230,15 @@ fn a_call_reports_its_arguments(rt: HostRuntime) -> Result<(), Fail> {
         traps: false,
     };
     let mut code = Labelled::new(rt.alloc());
-    push_inst(&mut code, &frame, 4, inst.traps, &inst.op, &inst.operands)?;
+    push_inst(
+        rt.alloc(),
+        &mut code,
+        &frame,
+        4,
+        inst.traps,
+        &inst.op,
+        &inst.operands,
+    )?;
     assert_eq!(rt; code.len(), 3);
     assert_eq!(rt; *code.get(1), Item::Mark(4));
     let calls = Inst::BranchReg {
@@ -268,7 +280,15 @@ fn a_patchpoint_reports_its_operands(rt: HostRuntime) -> Result<(), Fail> {
         traps: false,
     };
     let mut code = Labelled::new(rt.alloc());
-    push_inst(&mut code, &frame, 0, inst.traps, &inst.op, &inst.operands)?;
+    push_inst(
+        rt.alloc(),
+        &mut code,
+        &frame,
+        0,
+        inst.traps,
+        &inst.op,
+        &inst.operands,
+    )?;
     assert_eq!(rt; code.len(), 3);
     assert_eq!(rt; *code.get(0), Item::Mark(0));
     assert_eq!(rt; *code.get(1), Item::Plain(Inst::Break { imm: 2 }));
@@ -286,5 +306,65 @@ fn a_patchpoint_reports_its_operands(rt: HostRuntime) -> Result<(), Fail> {
     assert_eq!(rt; site.result, Some((Width::W64, Reg(1))));
     assert!(rt; site.clobbers.contains(Reg(30)));
     assert!(rt; !site.clobbers.contains(Reg(1)));
+    Ok(())
+}
+
+/// x0 and x1 are exchanged, and a spill place is copied to another one.
+fn exchanged(alloc: Global) -> Result<Operands, NoMemory>
+    ensures { IfOk result (λ operands. operands ≡ sample.exchanged) }
+{
+    let mut operands = Operands::new(alloc);
+    operands.push(used(X0))?;
+    operands.push(made(X1))?;
+    operands.push(used(X1))?;
+    operands.push(made(X0))?;
+    operands.push(used(SPILL_0))?;
+    operands.push(made(SPILL_1))?;
+    Ok(operands)
+}
+
+fn moved(rd: u8, rm: u8) -> Item {
+    Item::Plain(Inst::LogicReg {
+        width: Width::W64,
+        op: LogicOp::Orr,
+        invert: false,
+        rd,
+        rn: 31,
+        rm,
+        shift: 0,
+        amount: 0,
+    })
+}
+
+fn through_x16(kind: AccessKind, units: u32) -> Item {
+    Item::Plain(Inst::Access {
+        kind,
+        rt: 16,
+        rn: 31,
+        units,
+    })
+}
+
+#[test]
+fn a_cycle_goes_by_x17_and_spill_places_by_x16(rt: HostRuntime) -> Result<(), Fail> {
+    let mut spills = Ids::new(rt.alloc());
+    spills.push(8)?;
+    spills.push(16)?;
+    let frame = Frame {
+        bytes: 48,
+        slots: Ids::new(rt.alloc()),
+        spills,
+        saved: Saved::new(rt.alloc()),
+    };
+    let operands = exchanged(rt.alloc())?;
+    let mut code = Labelled::new(rt.alloc());
+    push_shuffle(rt.alloc(), &mut code, &frame, &operands)?;
+    assert_eq!(rt; code.len(), 5);
+    // the spill places are 24 and 16 bytes above SP
+    assert_eq!(rt; *code.get(0), through_x16(AccessKind::LdrX, 3));
+    assert_eq!(rt; *code.get(1), through_x16(AccessKind::StrX, 2));
+    assert_eq!(rt; *code.get(2), moved(17, 0));
+    assert_eq!(rt; *code.get(3), moved(0, 1));
+    assert_eq!(rt; *code.get(4), moved(1, 17));
     Ok(())
 }

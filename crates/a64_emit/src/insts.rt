@@ -8,6 +8,7 @@ ghost use Rattle.a64_emit.specs.Fitting.{IsFitting};
 ghost use Rattle.a64_code.specs.Places.{plains};
 
 use crate::accesses::{push_frame_address, push_loaded, push_stored, slot_offset};
+use crate::shuffles::push_shuffle;
 use crate::sites::push_mark;
 use a64_code::{
     Source, above_sp, computing, condition, move_reg, opposite, push, push_constant, push_load,
@@ -16,6 +17,7 @@ use a64_code::{
 use a64_inst::{BranchKind, Inst, Labelled};
 use air_ir::{AirOp, Arg, Frame, Home, Operand, Operands, Role, Test};
 use b3_base::{NoMemory, Width};
+use std::alloc::Global;
 
 /// Operand k; where there is none, the constant 0.
 pub(crate) fn operand_at(operands: &Operands, k: usize) -> Operand
@@ -146,17 +148,19 @@ fn push_bring(
     }
 }
 
-/// The register from which a copied word is stored.
+/// The register to which a copied word is brought, and from which it is stored in a spill place.
 fn copy_reg(from: Arg, to: Arg) -> u8
     ensures { result ≡ copy_reg from to }
 {
     match (from, to) {
         (Arg::At(Home::Reg(reg)), Arg::At(Home::Spill(_))) => reg.0,
+        (_, Arg::At(Home::Spill(_))) => 16,
         _ => result_reg(to),
     }
 }
 
-fn push_copy(
+/// A word is copied to a home.
+pub(crate) fn push_copy(
     code: &mut Labelled,
     frame: &Frame,
     width: Width,
@@ -324,6 +328,7 @@ fn push_patch(code: &mut Labelled, mark: u32, size: u32) -> Result<(), NoMemory>
 /// The items of an instruction that doesn't end its block, where its mark has this number.
 #[tactic(auto, unfolding(crate::specs::Code::inner_items, crate::specs::Code::inst_code))]
 pub(crate) fn push_inst(
+    alloc: Global,
     code: &mut Labelled,
     frame: &Frame,
     mark: u32,
@@ -342,6 +347,7 @@ pub(crate) fn push_inst(
             operand_at(operands, 0).arg,
             operand_at(operands, 1).arg,
         ),
+        AirOp::Shuffle => push_shuffle(alloc, code, frame, operands),
         AirOp::SetIf(test) => push_set(code, frame, *test, operands),
         AirOp::SelectIf(test) => push_select(code, frame, *test, operands),
         AirOp::Load8Z | AirOp::Load8S | AirOp::Load16Z | AirOp::Load16S | AirOp::Load => {

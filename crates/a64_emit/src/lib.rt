@@ -8,6 +8,7 @@ mod checks;
 mod emission_tests;
 mod insts;
 mod procedure;
+mod shuffles;
 mod sites;
 mod switched;
 mod terminals;

@@ -2,8 +2,8 @@
 
 ghost use Rattle.std.specs.Prelude.{◌≡◌, ◌^◌, ◌<◌, ◌≤◌, ◌++◌, [], drop, if◌then◌else◌, length, take, IfOk, OnOk};
 ghost use Rattle.air_ir.specs.Operands.{is_read};
-ghost use Rattle.a64_emit.specs.Code.{marked_if, own_marks};
-ghost use Rattle.a64_emit.specs.Made.{and_place, exit_site, HasSmallValues, HasSmallValuesIn, block_sites, inst_sites, outward_site, places_read, procedure_sites, rep_of, result_in, trap_site, with_home, with_register, with_written};
+ghost use Rattle.a64_emit.specs.Code.{marked_if, own_exits, own_marks};
+ghost use Rattle.a64_emit.specs.Made.{and_place, exit_site, HasSmallValues, HasSmallValuesIn, block_exit_sites, block_sites, inner_sites, inst_exit, inst_sites, outward_site, places_read, procedure_sites, rep_of, result_in, trap_site, with_home, with_register, with_written};
 
 use crate::insts::{operand_at, test_count};
 use a64_code::spill_offset;
@@ -37,12 +37,17 @@ pub(crate) fn own_marks(op: &AirOp, traps: bool) -> u32
         | AirOp::Store8
         | AirOp::Store16
         | AirOp::Store => traps as u32,
-        AirOp::Call { .. }
-        | AirOp::Patch { .. }
-        | AirOp::CheckIf(_)
-        | AirOp::CheckAdd
-        | AirOp::CheckSub
-        | AirOp::CheckMul => 1,
+        AirOp::Call { .. } | AirOp::Patch { .. } => 1,
+        _ => 0,
+    }
+}
+
+/// How many exits an instruction has.
+pub(crate) fn own_exits(op: &AirOp) -> u32
+    ensures { result ≡ own_exits op.now }
+{
+    match op {
+        AirOp::CheckIf(_) | AirOp::CheckAdd | AirOp::CheckSub | AirOp::CheckMul => 1,
         _ => 0,
     }
 }
@@ -237,6 +242,20 @@ pub(crate) fn push_inst_sites(
             let site = outward_site(alloc, frame, SiteKind::Patchpoint, *size, *typed, 0, inst)?;
             sites.push(site)
         }
+        _ => Ok(()),
+    }
+}
+
+/// The site of the exit of an instruction, where it has one.
+pub(crate) fn push_inst_exit(
+    alloc: Global,
+    sites: &mut Sites,
+    frame: &Frame,
+    inst: &AirInst,
+) -> Result<(), NoMemory>
+    ensures { OnOk result (sites.new ≡ sites.old ++ inst_exit frame.now inst.now) }
+{
+    match &inst.op {
         AirOp::CheckIf(test) => {
             let site = exit_site(alloc, frame, test_count(*test), inst)?;
             sites.push(site)
@@ -249,7 +268,7 @@ pub(crate) fn push_inst_sites(
     }
 }
 
-/// The sites of a block.
+/// The sites of a block whose marks stand within it.
 fn push_block_sites(
     alloc: Global,
     sites: &mut Sites,
@@ -265,14 +284,41 @@ fn push_block_sites(
     Ok(())
 }
 
-/// The sites of a procedure, in the order of their marks. It is refused for want of memory alone.
-pub(crate) fn procedure_sites(alloc: Global, p: &AirProc, frame: &Frame) -> Result<Sites, NoMemory>
-    ensures sites { IfOk result (λ sites. sites ≡ procedure_sites p.now frame.now) }
+/// The sites of the exits of a block.
+fn push_block_exits(
+    alloc: Global,
+    sites: &mut Sites,
+    frame: &Frame,
+    block: &AirBlock,
+) -> Result<(), NoMemory>
+    ensures { OnOk result (sites.new ≡ sites.old ++ block_exit_sites frame.now block.now) }
+{
+    for inst in block.insts.as_slice() {
+        push_inst_exit(alloc, sites, frame, inst)?;
+    }
+    Ok(())
+}
+
+/// The sites whose marks stand within the blocks of a procedure.
+fn inner_sites(alloc: Global, p: &AirProc, frame: &Frame) -> Result<Sites, NoMemory>
+    ensures sites { IfOk result (λ sites. sites ≡ inner_sites p.now frame.now) }
     ensures small { IfOk result (λ _. HasSmallValues p.now) }
 {
     let mut sites = Sites::new(alloc);
     for block in p.blocks.as_slice() {
         push_block_sites(alloc, &mut sites, frame, block)?;
+    }
+    Ok(sites)
+}
+
+/// The sites of a procedure, in the order of their marks. It is refused for want of memory alone.
+pub(crate) fn procedure_sites(alloc: Global, p: &AirProc, frame: &Frame) -> Result<Sites, NoMemory>
+    ensures sites { IfOk result (λ sites. sites ≡ procedure_sites p.now frame.now) }
+    ensures small { IfOk result (λ _. HasSmallValues p.now) }
+{
+    let mut sites = inner_sites(alloc, p, frame)?;
+    for block in p.blocks.as_slice() {
+        push_block_exits(alloc, &mut sites, frame, block)?;
     }
     Ok(sites)
 }

@@ -116,7 +116,7 @@ fn push_branch(
 }
 
 /// The items of an instruction of a block with these targets, before the block `next`. A Switch may use labels from
-/// `label` on, and a mark has this number.
+/// `label` on, and the exit of a check has that one; a mark has this number.
 #[tactic(auto, unfolding(crate::specs::Code::inst_items))]
 pub(crate) fn push_items(
     alloc: Global,
@@ -144,19 +144,10 @@ pub(crate) fn push_items(
         }
         AirOp::Return => push_epilogue(code, frame),
         AirOp::Oops => push(code, Inst::Break { imm: 3 }),
-        AirOp::CheckIf(test) => push_check(code, frame, label, mark, *test, &inst.operands),
-        AirOp::CheckAdd => push_checked(code, frame, label, mark, Checked::Sum, &inst.operands),
-        AirOp::CheckSub => {
-            push_checked(
-                code,
-                frame,
-                label,
-                mark,
-                Checked::Difference,
-                &inst.operands,
-            )
-        }
-        AirOp::CheckMul => push_checked(code, frame, label, mark, Checked::Product, &inst.operands),
-        op => push_inst(code, frame, mark, inst.traps, op, &inst.operands),
+        AirOp::CheckIf(test) => push_check(code, frame, label, *test, &inst.operands),
+        AirOp::CheckAdd => push_checked(code, frame, label, Checked::Sum, &inst.operands),
+        AirOp::CheckSub => push_checked(code, frame, label, Checked::Difference, &inst.operands),
+        AirOp::CheckMul => push_checked(code, frame, label, Checked::Product, &inst.operands),
+        op => push_inst(alloc, code, frame, mark, inst.traps, op, &inst.operands),
     }
 }

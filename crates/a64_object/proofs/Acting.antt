@@ -33,7 +33,7 @@ use Rattle.a64_object.proofs.Sited.{IsSized, before_is, site_places, some_size}
 use Rattle.a64_object.proofs.Stepping.{executes, is_word, site_is, state_of, word_proper}
 use Rattle.a64_object.proofs.Subject.{Stands, Subject, as_many_words, at_item, entry, rows_in, setting}
 use Rattle.a64_object.proofs.Items.{fitting, same_inst, suits_here}
-use Rattle.a64_object.proofs.Stopping.{at_inst, kept_saved, safe_inst}
+use Rattle.a64_object.proofs.Stopping.{at_inst, kept_frame, safe_inst}
 
 -- a BLR at a call to an address that is no byte of the text
 calls_so : (e : Entry) (s : machine.State) (rn : ℕ) (site : Site) → of_kind Call (site_at e s.registers.pc) ≡ Some site → rn ≤ 30
@@ -108,7 +108,7 @@ module _ (x : Subject) (stands : Stands x) where
               ∙ ap (λ pc. world_step e a.site (event.Patch a.site.value) pc s) address_behind
               ∙ ap (λ ek. world_step e a.site ek (address_of z behind) s) (sym acts.0)
               ∙ ap (λ f. world_step e a.site a.kind (address_of z behind) (state_of log (moved_to (address_of z k) f))) (sym acts.1);
-          moment = patchpoint_is_proper e s a.site at kind proper.aligned (kept_saved x log (address_of z k) c a.frame);
+          moment = patchpoint_is_proper e s a.site at kind proper.aligned (kept_frame x log (address_of z k) c a.frame);
         }
 
     call_acts : a.site.kind ≡ Call → ActsAt Call z k c a.site a.kind a.found → SuitsItems x.code Call a.site.size k → a.site.size ≡ 1 → Acts
@@ -136,7 +136,7 @@ module _ (x : Subject) (stands : Stands x) where
               ∙ ap (λ f. world_step e a.site a.kind (address_of z behind) (state_of log f)) (sym acts.4);
           moment = word_proper e x.text.words (rows_in x) stands.has_text log here (place x.code x.long k)
               (BranchReg Blr rn) refl i.there i.decodes no_patchpoint proper.aligned safe.there safe.platform
-              (λ site found. no_some site (sym no_exit ∙ found)) (λ site found. a.frame.sp);
+              (λ site found. no_some site (sym no_exit ∙ found)) (λ site found. kept_frame x log (address_of z k) c a.frame);
         }
       where
         same_link : {m n : ℕ} → BranchReg Blr m ≡ BranchReg Blr n → m ≡ n

@@ -1,5 +1,5 @@
 -- What is selected is emitted.
-use Rattle.std.proofs.Common.{◌≡◌, ℕ, ◌<◌, Bool, true, false, refl, sym, ap, subst, arith, lt-ltb}
+use Rattle.std.proofs.Common.{◌≡◌, ℕ, ◌<◌, Bool, true, false, refl, sym, subst, arith, lt-ltb}
 use Rattle.std.specs.Prelude.{All}
 use Rattle.b3_ir.specs.Procedure.{AllFit, Procedure}
 use Rattle.b3_ir.specs.declared.opcode.Opcode.TheVariants.{Patchpoint}
@@ -16,10 +16,9 @@ use Rattle.air_ir.specs.declared.procedure.AirBlock.{AirBlock}
 use Rattle.air_ir.specs.declared.procedure.AirInst.{AirInst}
 use Rattle.air_ir.specs.declared.procedure.AirProc.{AirProc}
 use Rattle.air_spill.specs.Stays.{ComesFromEach}
-use Rattle.air_select.specs.Contract.{AreExpressed, IsSelected, has_stackmap, is_selected}
+use Rattle.air_select.specs.Contract.{AreExpressed, has_stackmap}
 use Rattle.a64_emit.specs.Built.{IsBuilt, is_built, is_built_kind}
 use Rattle.a64_object.proofs.Lists.{all_of}
-use Rattle.a64_object.proofs.Placed.{inst_at}
 use Rattle.a64_object.proofs.Values.{has_size, named_in}
 
 -- ---- kinds
@@ -45,10 +44,9 @@ abbrev HasWords : AirOp → Type 0
 HasWords (op.Patch size typed) = 0 < size
 HasWords _ = Unit {0}
 
-op_built : (o : AirOp) (traps : Bool) → is_selected o ≡ true → HasWords o → is_built o traps ≡ true
-op_built op.Shuffle traps is some = absurd cc
-op_built (op.Patch size typed) traps is some = lt-ltb 0 size some
-op_built o traps is some = kind_built (kind_of o) traps
+op_built : (o : AirOp) (traps : Bool) → HasWords o → is_built o traps ≡ true
+op_built (op.Patch size typed) traps some = lt-ltb 0 size some
+op_built o traps some = kind_built (kind_of o) traps
 
 -- ---- patchpoints
 module _ (p : Procedure) (valid : IsValidProcedure p) (fit : AllFit p.blocks) where
@@ -71,12 +69,11 @@ module _ (p : Procedure) (valid : IsValidProcedure p) (fit : AllFit p.blocks) wh
           let named = named_in p fit i.value of.0 of.1 in
           words_of i.op of.2.stackmap of.0 of.2.op (has_size p valid named.block named.place of.0 named.there of.2.stackmap of.2.carries) e
 
-  pub built_of : (q r : AirProc) → AreExpressed p q → ComesFromEach q r → IsSelected q → IsBuilt r
-  built_of q r expressed comes selected =
+  pub built_of : (q r : AirProc) → AreExpressed p q → ComesFromEach q r → IsBuilt r
+  built_of q r expressed comes =
       all_of (λ (b : AirBlock). All (λ (i : AirInst). is_built i.op i.traps ≡ true) b.insts) r.blocks
       (λ n block block_there. all_of (λ (i : AirInst). is_built i.op i.traps ≡ true) block.insts
       (λ k j inst_there.
       let from = comes n k j (record { of = block; block_there = block_there; inst_there = inst_there }) in
       let i : AirInst = from.1 in
-      let is = inst_at (λ (x : AirInst). is_selected x.op ≡ true) q n from.0 i selected from.2 in
-      subst (λ o. is_built o j.traps ≡ true) (sym from.3.op) (op_built i.op j.traps is (inst_words q expressed n from.0 i from.2))))
+      subst (λ o. is_built o j.traps ≡ true) (sym from.3.op) (op_built i.op j.traps (inst_words q expressed n from.0 i from.2))))

@@ -1,21 +1,20 @@
 -- The object of procedures' codes is good, and is their code.
-use Rattle.std.proofs.Common.{◌≡◌, ◌≢◌, ℕ, Option, Some, None, subst, suc, ◌+◌, ◌*◌, ◌/◌, ◌^◌, ◌<◌, ◌≤◌, ⊎_elim, List, [], ◌∷◌, length, refl, sym, ap, ◌∙◌, arith, length-append}
+use Rattle.std.proofs.Common.{◌≡◌, ◌≢◌, ℕ, Option, Some, None, get_or, subst, suc, ◌+◌, ◌*◌, ◌/◌, ◌^◌, ◌<◌, ◌≤◌, ⊎_elim, List, [], ◌∷◌, length, refl, sym, ap, ◌∙◌, arith, length-append}
 use Rattle.std.specs.Prelude.{All, AllPairs, IsSomeAnd, map, slice_get, sum_by}
 use Rattle.std.specs.Option.{option_map}
 use Rattle.std.specs.List.{flat_map}
 use Rattle.std.proofs.lemmas.Bool.{cases_lt}
-use Rattle.std.proofs.lemmas.Option.{slice_get-map}
+use Rattle.std.proofs.lemmas.Option.{get_or_from_slice_get, slice_get-get_or, slice_get-map}
 use Rattle.std.proofs.lemmas.List.Elements.{All-cons, All-head, All-map, All-nil, All-tail, All-weaker}
 use Rattle.std.proofs.lemmas.List.{length-map}
 use Rattle.std.proofs.lemmas.List.Concat.{flat_map-cons}
 use Rattle.std.proofs.lemmas.List.Sums.{sum_by-cons}
 use Rattle.b3_ir.specs.Names.{IsName}
-use Rattle.b3_ir.specs.Procedure.{Procedure}
+use Rattle.b3_ir.specs.Procedure.{AllFit, Procedure, empty_procedure}
 use Rattle.b3_meaning.specs.Keeps.{Keeps}
 use Rattle.b3_meaning.proofs.Keeping.{keeps_itself}
-use Rattle.b3_rules.specs.Valid.{Header, IsValid}
+use Rattle.b3_rules.specs.Valid.{Header, IsValid, IsValidProcedure}
 use Rattle.b3_rules.specs.declared.rule.Rule.TheVariants as rule
-use Rattle.b3_supported.specs.Supported.{AreSupported, IsSupported}
 use Rattle.stackmap.specs.declared.site.Place.{Place}
 use Rattle.stackmap.specs.declared.site.Site.{Site}
 use Rattle.exit_table.specs.Good.{HasFewPlaces, IsGoodFrame, IsGoodKind, IsGoodRep, IsGoodSite, StandsIn, start_of}
@@ -28,15 +27,16 @@ use Rattle.elf_obj.specs.declared.object.Symbol.{Symbol}
 use Rattle.a64_run.specs.Agrees.{Agrees}
 use Rattle.a64_run.specs.CodeOf.{HasItsValue, IsCodeOf, IsCodeOfOne, StandsIn as InCode}
 use Rattle.a64_run.specs.Machine.{site_among}
-use Rattle.air_select.specs.Contract.{IsWithinLimits}
 use Rattle.a64_object.specs.Joined.{ArePartsOf, IsJoinedOf, IsPartOf, Part, object_of, row_in, sites_from, symbol_at, symbols_from, words_in}
-use Rattle.a64_object.specs.Taken.{AreWithinLimits, HasFewSlots, IsTaken}
+use Rattle.a64_object.specs.Taken.{AreWithinLimits, HaveNames}
+use Rattle.a64_object.proofs.Taken.{IsTaken}
 use Rattle.a64_object.proofs.Agreeing.{HasCode, agrees}
 use Rattle.a64_object.proofs.JoinedSites.{IsSiteAt, each_site, rows_in_order, site_in, size_in, sizes_are, start_in, starts_apart, symbol_is}
 use Rattle.a64_object.proofs.Joining.{bound_is, each_stands, text_short}
-use Rattle.a64_object.proofs.LocalSites.{IsLocal, local_row, local_value}
+use Rattle.a64_object.proofs.LocalSites.{IsLocal, local_apart, local_row, local_value}
+use Rattle.a64_object.proofs.SiteLists.{order_behind}
 use Rattle.a64_object.proofs.SiteBytes.{sites_small}
-use Rattle.a64_object.proofs.Making.{small_row, some_words, taken}
+use Rattle.a64_object.proofs.Making.{small_row, some_words}
 use Rattle.a64_object.proofs.Lists.{one_in, same_some}
 
 row_good : (p : Procedure) (x : Part) → IsPartOf p x → IsGoodFrame x.row
@@ -79,23 +79,29 @@ rows_good [] (x ∷ parts) are = absurd are
 rows_good (p ∷ ps) [] are = absurd are
 rows_good (p ∷ ps) (x ∷ parts) are = All-cons IsGoodFrame x.row (map row_in parts) (row_good p x are.0) (rows_good ps parts are.1)
 
-text_below : (ps : List Procedure) (parts : List Part) → AreSupported ps → AreWithinLimits ps → ArePartsOf ps parts → length (flat_map words_in parts) < 2 ^ 24
-text_below ps parts all limits are =
+text_below : (ps : List Procedure) (parts : List Part) → HaveNames ps → AreWithinLimits ps → ArePartsOf ps parts → length (flat_map words_in parts) < 2 ^ 24
+text_below ps parts named limits are =
     let short = text_short ps parts are in
     let is = bound_is ps in
-    let few = all.few in
+    let few = named.few in
     let values = limits.values in
     let children = limits.children in
     omega arith
 
-pub all_taken : (ps : List Procedure) → AreSupported ps → AreWithinLimits ps → All IsTaken ps
-all_taken ps all limits = by ps all.each limits.each limits.slots
-  where
-    by : (qs : List Procedure) → All IsSupported qs → All IsWithinLimits qs → All HasFewSlots qs → All IsTaken qs
-    by [] built within slots = All-nil _
-    by (q ∷ qs) built within slots =
-        All-cons IsTaken q qs (taken q (All-head IsSupported q qs built) (All-head IsWithinLimits q qs within) (All-head HasFewSlots q qs slots))
-        (by qs (All-tail IsSupported q qs built) (All-tail IsWithinLimits q qs within) (All-tail HasFewSlots q qs slots))
+-- ---- their names
+its_name : (ps : List Procedure) (k : ℕ) (d : List ℕ) (p : Procedure) → slice_get ps k ≡ Some p → get_or (map (λ (q : Procedure). q.name) ps) k d ≡ p.name
+its_name ps k d p there =
+    get_or_from_slice_get (map (λ (q : Procedure). q.name) ps) k p.name d
+    (slice_get-map (λ (q : Procedure). q.name) ps k ∙ ap (option_map (λ (q : Procedure). q.name)) there)
+
+names_differ : (ps : List Procedure) → IsValid ps → AllPairs (λ a b. a ≢ b) (map (λ (p : Procedure). p.name) ps)
+names_differ ps valid i j d less lt same =
+    let within : j < length ps = omega (arith, length-map ps (λ (p : Procedure). p.name)) in
+    let none = empty_procedure [] 0 in
+    let a = slice_get-get_or ps i none (omega arith) in
+    let b = slice_get-get_or ps j none within in
+    valid.names j (get_or ps j none) b i (get_or ps i none) a less
+    (sym (its_name ps i d (get_or ps i none) a) ∙ same ∙ its_name ps j d (get_or ps j none) b)
 
 -- ---- its sites
 module _ (ps : List Procedure) (parts : List Part) (taken : All IsTaken ps) where
@@ -165,18 +171,17 @@ module _ (ps : List Procedure) (parts : List Part) (taken : All IsTaken ps) wher
           subst (λ o. IsSomeAnd o (IsWordOf row.site.kind)) (sym in_text) (subst (λ k. IsWordOf k w) (sym kind) is)
       by None there index kind is = absurd is
 
-object_good : (ps : List Procedure) (parts : List Part) → AreSupported ps → AreWithinLimits ps → ArePartsOf ps parts
+object_good : (ps : List Procedure) (parts : List Part) → IsValid ps → HaveNames ps → AreWithinLimits ps → All IsTaken ps → ArePartsOf ps parts
     → All (λ w. w < 2 ^ 32) (flat_map words_in parts) → IsGood (object_of parts)
-object_good ps parts all limits are narrow =
-    let taken = all_taken ps all limits in
+object_good ps parts valid named limits taken are narrow =
     let sites = each_site ps parts 0 are in
     record {
-      few_words = text_below ps parts all limits are;
+      few_words = text_below ps parts named limits are;
       narrow = narrow;
       fills = all_fill ps parts 0 (4 * length (flat_map words_in parts)) are (omega arith);
       names = subst (All IsName) (sym (their_names 0 ps parts are))
-          (All-map IsName (λ (p : Procedure). p.name) ps (All-weaker IsSupported (λ (p : Procedure). IsName p.name) (λ p built. built.name) ps all.each));
-      distinct = subst (AllPairs (λ a b. a ≢ b)) (sym (their_names 0 ps parts are)) all.distinct;
+          (All-map IsName (λ (p : Procedure). p.name) ps named.names);
+      distinct = subst (AllPairs (λ a b. a ≢ b)) (sym (their_names 0 ps parts are)) (names_differ ps valid);
       tables = record {
         count = length-map parts row_in ∙ sym (as_many 0 parts);
         frames = rows_good ps parts are;
@@ -200,47 +205,59 @@ frames_small (p ∷ ps) (x ∷ parts) are_taken are =
     let rest = frames_small ps parts (All-tail IsTaken p ps are_taken) are.1 in
     omega (arith, sum_by-cons (λ (frame : FrameRow). 16 + 8 * length frame.slots + 8 * length frame.saved) x.row (map row_in parts))
 
-symbols_small : (offset : ℕ) (ps : List Procedure) (parts : List Part) → All IsSupported ps → ArePartsOf ps parts
+symbols_small : (offset : ℕ) (ps : List Procedure) (parts : List Part) → All (λ (p : Procedure). IsName p.name) ps → ArePartsOf ps parts
     → sum_by (λ (symbol : Symbol). 25 + length symbol.name) (symbols_from offset parts) ≤ length ps * 280
 unfolding ArePartsOf
-symbols_small offset [] [] built are = omega arith
-symbols_small offset [] (x ∷ parts) built are = absurd are
-symbols_small offset (p ∷ ps) [] built are = absurd are
-symbols_small offset (p ∷ ps) (x ∷ parts) built are =
-    let name = (All-head IsSupported p ps built).name.short in
+symbols_small offset [] [] named are = omega arith
+symbols_small offset [] (x ∷ parts) named are = absurd are
+symbols_small offset (p ∷ ps) [] named are = absurd are
+symbols_small offset (p ∷ ps) (x ∷ parts) named are =
+    let name = (All-head (λ (q : Procedure). IsName q.name) p ps named).short in
     let same : length x.name ≡ length p.name = ap length are.0.name in
     let first = sum_by-cons (λ (symbol : Symbol). 25 + length symbol.name) (symbol_at offset x) (symbols_from (offset + 4 * length x.words) parts) in
-    omega (arith, symbols_small (offset + 4 * length x.words) ps parts (All-tail IsSupported p ps built) are.1)
+    omega (arith, symbols_small (offset + 4 * length x.words) ps parts (All-tail (λ (q : Procedure). IsName q.name) p ps named) are.1)
 
-small_by : (ps : List Procedure) (parts : List Part) → AreSupported ps → AreWithinLimits ps → ArePartsOf ps parts → size_bound (object_of parts) ≤ 134_217_728
-small_by ps parts all limits are =
+small_by : (ps : List Procedure) (parts : List Part) → HaveNames ps → AreWithinLimits ps → All IsTaken ps → ArePartsOf ps parts
+    → size_bound (object_of parts) ≤ 134_217_728
+small_by ps parts named limits taken are =
     let values = limits.values in
     let children = limits.children in
     let text = text_short ps parts are in
     omega (
       arith,
       bound_is ps,
-      all.few,
-      frames_small ps parts (all_taken ps all limits) are,
-      sites_small ps parts 0 (all_taken ps all limits) are,
-      symbols_small 0 ps parts all.each are,
+      named.few,
+      frames_small ps parts taken are,
+      sites_small ps parts 0 taken are,
+      symbols_small 0 ps parts named.names are,
     )
 
-pub object_small : (ps : List Procedure) (o : Object) → AreSupported ps → AreWithinLimits ps → IsJoinedOf ps o → size_bound o ≤ 134_217_728
-object_small ps o all limits joined = subst (λ (x : Object). size_bound x ≤ 134_217_728) (sym joined.2) (small_by ps joined.0 all limits joined.1)
+pub object_small : (ps : List Procedure) (o : Object) → HaveNames ps → AreWithinLimits ps → All IsTaken ps → IsJoinedOf ps o → size_bound o ≤ 134_217_728
+object_small ps o named limits taken joined =
+    subst (λ (x : Object). size_bound x ≤ 134_217_728) (sym joined.2) (small_by ps joined.0 named limits taken joined.1)
 
 -- ---- each of them
 no_more : (n : ℕ) → 0 + n ≡ n
 no_more n = omega arith
 
-some_block : (p : Procedure) → IsSupported p → 0 < length p.blocks
-some_block p built = let some : 0 < length p.blocks = built.valid rule.Endings Header tt in some
+some_block : (p : Procedure) → IsValidProcedure p → 0 < length p.blocks
+some_block p valid = let some : 0 < length p.blocks = valid rule.Endings Header tt in some
 
--- a site that stands in the code of a procedure is one of its text
-its_value : (ps : List Procedure) (parts : List Part) → All IsTaken ps → ArePartsOf ps parts → (k : ℕ) (p : Procedure) (symbol : Symbol)
-    → slice_get ps k ≡ Some p → slice_get (symbols_from 0 parts) k ≡ Some symbol
-    → (row : SiteRow) → IsSiteAt ps parts 0 row → InCode symbol row → HasItsValue p row
-its_value ps parts taken are k p symbol there its row s within =
+-- the site is one of the text of the procedure at a place
+pub record IsSiteOfText (p : Procedure) (part : Part) (begin : ℕ) (row : SiteRow) : Type 0 where
+  pub made : IsPartOf p part
+  pub j : ℕ
+  pub local : SiteRow
+  pub there : slice_get part.sites j ≡ Some local
+  pub pc : row.pc ≡ begin + local.pc
+  pub site : row.site ≡ local.site
+  pub some : 1 ≤ row.site.size
+
+-- one that stands in the code of a procedure is one of its text
+in_text : (ps : List Procedure) (parts : List Part) → All IsTaken ps → (k : ℕ) (p : Procedure) (part : Part) (symbol : Symbol)
+    → slice_get ps k ≡ Some p → slice_get parts k ≡ Some part → slice_get (symbols_from 0 parts) k ≡ Some symbol
+    → (row : SiteRow) → IsSiteAt ps parts 0 row → InCode symbol row → IsSiteOfText p part (start_in parts k) row
+in_text ps parts taken k p part symbol there part_there its row s within =
     let local = its_local ps parts taken row s in
     let at = stands_at ps parts taken row s in
     let own = symbol_is 0 parts k symbol its in
@@ -258,19 +275,34 @@ its_value ps parts taken are k p symbol there its row s within =
     (λ ge. ⊎_elim (λ more. let apart = starts_apart parts k s.k own.0 own.1 more in absurd (omega arith)) (λ le. omega arith) (cases_lt k s.k))
     (cases_lt s.k k) in
     let same_p : s.p ≡ p = same_some s.p p (sym s.p_there ∙ ap (slice_get ps) same ∙ there) in
-    let value : HasItsValue s.p s.local =
-    local_value s.p (one_in IsTaken ps s.k s.p s.p_there taken) s.part.words s.part.row s.part.sites s.of.made s.j s.local s.local_there in
-    subst (λ q. HasItsValue q row) same_p (moved row s.local s.p at.1 value)
-  where
-    moved : (a b : SiteRow) (q : Procedure) → a.site ≡ b.site → HasItsValue q b → HasItsValue q a
-    moved a b q same value = subst (λ site. HasItsValue q (record { pc = a.pc; site = site })) (sym same) value
+    let same_part : s.part ≡ part = same_some s.part part (sym s.part_there ∙ ap (slice_get parts) same ∙ part_there) in
+    record {
+      made = subst (λ q. IsPartOf q part) same_p (subst (IsPartOf s.p) same_part s.of);
+      j = s.j;
+      local = s.local;
+      there = subst (λ (x : Part). slice_get x.sites s.j ≡ Some s.local) same_part s.local_there;
+      pc = at.0 ∙ ap (λ n. start_in parts n + s.local.pc) same;
+      site = at.1;
+      some = subst (λ (x : Site). 1 ≤ x.size) (sym at.1) some;
+    }
 
-each_code : (ps : List Procedure) (parts : List Part) → AreSupported ps → AreWithinLimits ps → ArePartsOf ps parts
+module _ (p : Procedure) (taken : IsTaken p) (part : Part) (begin : ℕ) where
+  its_value : (row : SiteRow) → IsSiteOfText p part begin row → HasItsValue p row.site
+  its_value row s =
+      subst (HasItsValue p) (sym s.site) (local_value p taken part.words part.row part.sites s.made.made s.j s.local s.there)
+
+  -- two at two places have two values
+  its_apart : (a b : SiteRow) → IsSiteOfText p part begin a → IsSiteOfText p part begin b → a.pc ≢ b.pc → a.site.value ≢ b.site.value
+  its_apart a b s u pcs same =
+      local_apart p taken part.words part.row part.sites s.made.made s.j u.j s.local u.local s.there u.there
+      (λ at. pcs (s.pc ∙ ap (λ n. begin + n) at ∙ sym u.pc))
+      (ap (λ (x : Site). x.value) (sym s.site) ∙ same ∙ ap (λ (x : Site). x.value) u.site)
+
+each_code : (ps : List Procedure) (parts : List Part) → All IsTaken ps → ArePartsOf ps parts
     → (k : ℕ) (p q : Procedure) (symbol : Symbol) (frame : FrameRow)
     → slice_get ps k ≡ Some p → slice_get ps k ≡ Some q → slice_get (symbols_from 0 parts) k ≡ Some symbol → slice_get (map row_in parts) k ≡ Some frame
     → IsCodeOfOne p q (object_of parts) symbol frame
-each_code ps parts all limits are k p q symbol frame there also its own =
-    let taken = all_taken ps all limits in
+each_code ps parts taken are k p q symbol frame there also its own =
     let stands = each_stands ps parts 0 0 k p symbol frame are refl there its own in
     let same : p ≡ q = same_some p q (sym there ∙ also) in
     let part = symbol_is 0 parts k symbol its in
@@ -287,27 +319,41 @@ each_code ps parts all limits are k p q symbol frame there also its own =
       within = stands.within;
     } in
     let its_taken = one_in IsTaken ps k p there taken in
+    let begin = start_in parts k in
+    let rows = sites_from 0 parts in
+    let own_site : (j : ℕ) (row : SiteRow) → slice_get rows j ≡ Some row → InCode symbol row → IsSiteOfText p part.0 begin row =
+    λ j row listed within. in_text ps parts taken k p part.0 symbol there part.1 its row
+    (one_in (IsSiteAt ps parts 0) rows j row listed (each_site ps parts 0 are)) within in
     record {
       agrees = subst (Agrees p (object_of parts) symbol) stands.its_row
           (agrees p its_taken.valid its_taken.fit stands.part.words stands.part.row stands.part.sites stands.of.made
-          (some_block p (one_in IsSupported ps k p there all.each)) (object_of parts) symbol code);
+          (some_block p its_taken.valid) (object_of parts) symbol code);
       keeps = subst (λ x. Keeps p x) same (keeps_itself p);
-      sites = λ j row listed within. subst (λ x. HasItsValue x row) same
-          (its_value ps parts taken are k p symbol there its row (one_in (IsSiteAt ps parts 0) (sites_from 0 parts) j row listed (each_site ps parts 0 are))
-          within);
+      sites = λ j row listed within. subst (λ x. HasItsValue x row.site) same (its_value p its_taken part.0 begin row (own_site j row listed within));
+      apart = λ i j a b less listed other within also.
+          let first = own_site i a listed within in
+          let behind = order_behind 0 rows (rows_in_order ps parts 0 taken are refl) i j a b less listed other in
+          let some = first.some in
+          its_apart p its_taken part.0 begin a b first (own_site j b other also) (λ same. omega arith);
     }
 
-code_by : (ps : List Procedure) (parts : List Part) → IsValid ps → AreSupported ps → AreWithinLimits ps → ArePartsOf ps parts
+all_fit : (ps : List Procedure) → All IsTaken ps → All (λ (p : Procedure). AllFit p.blocks) ps
+all_fit ps taken = All-weaker IsTaken (λ (p : Procedure). AllFit p.blocks) (λ p is. is.fit) ps taken
+
+code_by : (ps : List Procedure) (parts : List Part) → IsValid ps → HaveNames ps → AreWithinLimits ps → All IsTaken ps → ArePartsOf ps parts
     → All (λ w. w < 2 ^ 32) (flat_map words_in parts) → IsCodeOf ps ps (object_of parts)
-code_by ps parts valid all limits are narrow = record {
+code_by ps parts valid named limits taken are narrow = record {
   valid = valid;
-  good = object_good ps parts all limits are narrow;
+  fit = all_fit ps taken;
+  reduced_fit = all_fit ps taken;
+  good = object_good ps parts valid named limits taken are narrow;
   names = their_names 0 ps parts are;
   count = refl;
-  each = each_code ps parts all limits are;
+  each = each_code ps parts taken are;
 }
 
-pub object_is_code : (ps : List Procedure) (o : Object) → IsValid ps → AreSupported ps → AreWithinLimits ps → IsJoinedOf ps o → All (λ w. w < 2 ^ 32) o.text
-    → IsCodeOf ps ps o
-object_is_code ps o valid all limits joined narrow =
-    subst (IsCodeOf ps ps) (sym joined.2) (code_by ps joined.0 valid all limits joined.1 (subst (λ (x : Object). All (λ w. w < 2 ^ 32) x.text) joined.2 narrow))
+pub object_is_code : (ps : List Procedure) (o : Object) → IsValid ps → HaveNames ps → AreWithinLimits ps → All IsTaken ps → IsJoinedOf ps o
+    → All (λ w. w < 2 ^ 32) o.text → IsCodeOf ps ps o
+object_is_code ps o valid named limits taken joined narrow =
+    subst (IsCodeOf ps ps) (sym joined.2)
+    (code_by ps joined.0 valid named limits taken joined.1 (subst (λ (x : Object). All (λ w. w < 2 ^ 32) x.text) joined.2 narrow))

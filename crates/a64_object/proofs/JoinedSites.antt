@@ -12,7 +12,7 @@ use Rattle.elf_obj.specs.Good.{sizes_of}
 use Rattle.elf_obj.specs.declared.object.Symbol.{Symbol}
 use Rattle.a64_run.specs.Machine.{site_among}
 use Rattle.a64_object.specs.Joined.{ArePartsOf, IsPartOf, Part, site_from, sites_at, sites_from, symbol_at, symbols_from, words_in}
-use Rattle.a64_object.specs.Taken.{IsTaken}
+use Rattle.a64_object.proofs.Taken.{IsTaken}
 use Rattle.air_fold.proofs.Places.{get_behind, get_front}
 use Rattle.a64_object.proofs.Lists.{all_of, same_some}
 use Rattle.a64_object.proofs.LocalSites.{local_order, local_row}

@@ -193,6 +193,10 @@ pushed o p words row rows text symbols frames sites name len first count made te
   rw (text_is, symbols_is, frames_is, sites_is, name_is, len_is, first_is, count_is) refl,
 )
 
+-- the procedure of a node of a module
+pub its_procedure : (m n : List Kept) (at : ℕ) (k : Kept) → m ≡ n → slice_get m at ≡ Some k → k.procedure ≡ procedure_at n at
+its_procedure m n at k same there =
+    ap (λ (x : Kept). x.procedure) (sym (get_or_from_slice_get n at k (empty_kept [] 0) (ap (λ (l : List Kept). slice_get l at) (sym same) ∙ there)))
+
 pub named_there : (m n : List Kept) (at : ℕ) (k : Kept) → m ≡ n → slice_get m at ≡ Some k → k.procedure.name ≡ (procedure_at n at).name
-named_there m n at k same there =
-    ap (λ (x : Kept). x.procedure.name) (sym (get_or_from_slice_get n at k (empty_kept [] 0) (ap (λ (l : List Kept). slice_get l at) (sym same) ∙ there)))
+named_there m n at k same there = ap (λ (p : Procedure). p.name) (its_procedure m n at k same there)

@@ -1,4 +1,5 @@
 pub mod Lists
+pub mod Taken
 pub mod TextWords
 pub mod Sited
 pub mod Stepping
@@ -11,6 +12,8 @@ pub mod Landing
 pub mod Blocks
 pub mod Values
 pub mod Colouring
+pub mod Sources
+pub mod CallSites
 pub mod SitesOf
 pub mod SiteLists
 pub mod Beginning

@@ -1,6 +1,7 @@
 -- The sites of a procedure's text, row by row: each is good and has its word, and they stand in order.
-use Rattle.std.proofs.Common.{◌≡◌, ℕ, ◌+◌, ◌*◌, ◌%◌, ◌^◌, ◌<◌, ◌≤◌, Some, List, ◌++◌, length, refl, sym, ap, ◌∙◌, subst, arith}
+use Rattle.std.proofs.Common.{◌≡◌, ◌≢◌, ℕ, ◌+◌, ◌*◌, ◌%◌, ◌^◌, ◌<◌, ◌≤◌, inl, inr, Some, List, ◌++◌, length, refl, sym, ap, ◌∙◌, subst, arith, get_or}
 use Rattle.std.specs.Prelude.{All, IsSomeAnd, map, slice_get}
+use Rattle.std.proofs.lemmas.Bool.{cases_lt}
 use Rattle.std.proofs.lemmas.Option.{get_or_from_slice_get, slice_get_within}
 use Rattle.b3_ir.specs.Procedure.{Procedure}
 use Rattle.stackmap.specs.declared.site.Place.{Place}
@@ -23,8 +24,8 @@ use Rattle.a64_run.specs.CodeOf.{HasItsValue}
 use Rattle.a64_emit.specs.Sites.{IsSiteIn, SuitsItems}
 use Rattle.a64_object.specs.Joined.{site_from}
 use Rattle.a64_object.specs.Made.{IsMadeOf}
-use Rattle.a64_object.specs.Taken.{IsTaken}
-use Rattle.a64_object.proofs.Lists.{one_in}
+use Rattle.a64_object.proofs.Taken.{IsTaken}
+use Rattle.a64_object.proofs.Lists.{one_in, same_some}
 use Rattle.a64_object.proofs.TextWords.{plain_at}
 use Rattle.a64_object.proofs.Sited.{HasSites, places_apart, site_places, site_within, some_size}
 use Rattle.a64_object.proofs.SitesOf.{has_its_value, one_few, one_good, one_placed}
@@ -114,12 +115,36 @@ module _ (p : Procedure) (taken : IsTaken p) (words : List ℕ) (frame : FrameRo
         word = kind_word k r.mark r.site r.site.kind r.site_there r.mark_there (its_sites.suits k r.site r.site_there) some;
       })
 
-  pub local_value : (k : ℕ) (row : SiteRow) → slice_get rows k ≡ Some row → HasItsValue p row
+  pub local_value : (k : ℕ) (row : SiteRow) → slice_get rows k ≡ Some row → HasItsValue p row.site
   local_value k row there =
       let r = its_row k row there in
-      let one = site_is p taken.valid taken.fit words frame rows made k r.site r.site_there in
-      subst (HasItsValue p) (sym r.is)
-      (has_its_value p taken.valid taken.fit made.air made.placed made.frame made.is_frame (record { pc = 4 * r.mark; site = r.site }) one)
+      let in_code = one_in (IsSiteIn made.air made.frame) made.sites k r.site r.site_there made.is_code.made in
+      subst (λ (x : SiteRow). HasItsValue p x.site) (sym r.is)
+      (has_its_value p taken.valid taken.fit made.air made.placed made.frame made.is_frame made.coloured.assignment made.coloured.is r.site in_code)
+
+  -- no two of them have one value
+  values_differ : (k l : ℕ) (a b : SiteRow) → slice_get rows k ≡ Some a → slice_get rows l ≡ Some b → k < l → a.site.value ≢ b.site.value
+  values_differ k l a b there other less =
+      let r = its_row k a there in
+      let q = its_row l b other in
+      let differ = made.is_code.apart k l r.site less (slice_get_within made.sites l q.site q.site_there) in
+      let first : get_or made.sites k r.site ≡ a.site =
+      get_or_from_slice_get made.sites k r.site r.site r.site_there ∙ ap (λ (x : SiteRow). x.site) (sym r.is) in
+      let second : get_or made.sites l r.site ≡ b.site =
+      get_or_from_slice_get made.sites l q.site r.site q.site_there ∙ ap (λ (x : SiteRow). x.site) (sym q.is) in
+      λ same. differ (ap (λ (x : Site). x.value) first ∙ same ∙ ap (λ (x : Site). x.value) (sym second))
+
+  pub local_apart : (k l : ℕ) (a b : SiteRow) → slice_get rows k ≡ Some a → slice_get rows l ≡ Some b → a.pc ≢ b.pc → a.site.value ≢ b.site.value
+  local_apart k l a b there other pcs same =
+      elim (cases_lt k l) [
+        | inl less ↦ values_differ k l a b there other less same
+        | inr past ↦ elim (cases_lt l k) [
+          | inl more ↦ values_differ l k b a other there more (sym same)
+          | inr also ↦
+              let one : k ≡ l = omega arith in
+              pcs (ap (λ (x : SiteRow). x.pc) (same_some a b (sym there ∙ ap (slice_get rows) one ∙ other)))
+        ]
+      ]
 
   -- they stand in order, where the text begins at a byte
   pub local_order : (offset to : ℕ) (rest : List SiteRow) → offset % 4 ≡ 0 → to ≡ offset + 4 * length words → AreInOrder to rest

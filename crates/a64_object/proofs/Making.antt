@@ -1,23 +1,17 @@
 -- What the passes of a procedure that is taken may ask, and what is known of its words and its frame.
-use Rattle.std.proofs.Common.{◌≡◌, ℕ, ◌+◌, ◌*◌, ◌^◌, ◌<◌, ◌≤◌, Bool, true, false, not, List, [], ◌∷◌, ◌++◌, Some, length, refl, sym, ap, ◌∙◌, subst, arith, take}
+use Rattle.std.proofs.Common.{◌≡◌, ℕ, ◌+◌, ◌*◌, ◌^◌, ◌<◌, ◌≤◌, not, List, [], ◌∷◌, ◌++◌, Some, length, refl, sym, ap, ◌∙◌, subst, arith, take}
 use Rattle.std.specs.Prelude.{All, map, slice_get, sum_by}
-use Rattle.std.specs.List.{filter, flat_map}
-use Rattle.std.proofs.lemmas.Bool.{and_parts}
+use Rattle.std.specs.List.{filter}
 use Rattle.std.proofs.lemmas.List.{length-map, length-take}
-use Rattle.std.proofs.lemmas.List.Elements.{All-cons, All-map, All-nil, All-weaker}
-use Rattle.std.proofs.lemmas.List.Concat.{flat_map-cons}
+use Rattle.std.proofs.lemmas.List.Elements.{All-map}
 use Rattle.std.proofs.lemmas.List.Filters.{length-filter_both}
 use Rattle.std.proofs.lemmas.List.Sums.{sum_by-cons}
 use Rattle.std.proofs.lemmas.Option.{slice_get-map, slice_get-get_or, slice_get_within}
 use Rattle.std.specs.Option.{option_map}
-use Rattle.b3_ir.specs.Procedure.{Block, Kept, Procedure, empty_kept, procedures, total}
-use Rattle.b3_ir.specs.declared.opcode.Opcode.{Opcode}
-use Rattle.b3_ir.specs.declared.opcode.Opcode.TheVariants as opcode
+use Rattle.b3_ir.specs.Procedure.{Kept, Procedure, empty_kept, procedures, total}
 use Rattle.b3_ir.specs.declared.procedure.SlotLine.{SlotLine}
-use Rattle.b3_ir.specs.declared.value.Value.{Value}
 use Rattle.b3_rules.specs.Valid.{IsValidProcedure, SlotAt}
 use Rattle.b3_rules.specs.declared.rule.Rule.TheVariants as rule
-use Rattle.b3_supported.specs.Supported.{IsSupported}
 use Rattle.stackmap.specs.declared.site.SavedRow.{SavedRow}
 use Rattle.stackmap.specs.declared.site.SlotRow.{SlotRow}
 use Rattle.exit_table.specs.declared.tables.FrameRow.{FrameRow}
@@ -29,26 +23,17 @@ use Rattle.air_frame.specs.Needs.{callee_saved, spill_count, writes}
 use Rattle.a64_run.specs.Agrees.{child_count}
 use Rattle.air_select.specs.Contract.{IsWithinLimits, procedure_at}
 use Rattle.a64_object.specs.Made.{IsMadeOf, IsPlacedOf}
-use Rattle.a64_object.specs.Taken.{HasFewSlots, IsTaken, bytes_in}
+use Rattle.a64_object.specs.Taken.{HasFewSlots, bytes_in}
+use Rattle.a64_object.proofs.Taken.{IsTaken}
 use Rattle.a64_object.proofs.Agreeing.{rows_length, ten_saved}
 use Rattle.a64_layout.proofs.Words.{words_length}
 use Rattle.air_fold.proofs.Places.{take_item}
-use Rattle.air_spill.proofs.Members.{all_left, all_right}
 use Rattle.a64_object.proofs.Lists.{all_of}
 
--- ---- what is supported is taken
+-- ---- a procedure of a module
 sizes_of : (p : Procedure) → IsValidProcedure p → All (λ (slot : SlotLine). 1 ≤ slot.bytes) p.slots
 sizes_of p valid = all_of (λ (slot : SlotLine). 1 ≤ slot.bytes) p.slots
     (λ k slot there. let keeps : (slot.number ≡ k) × (0 < slot.bytes) = valid rule.Slots (SlotAt k slot) there in omega (arith, keeps.1))
-
-pub taken : (p : Procedure) → IsSupported p → IsWithinLimits p → HasFewSlots p → IsTaken p
-taken p is limits slots = record {
-  valid = is.valid;
-  fit = is.fit;
-  sizes = sizes_of p is.valid;
-  limits = limits;
-  slots = slots;
-}
 
 -- the procedure at a place of a module
 pub procedure_there : (m : List Kept) (at : ℕ) → at < length m → slice_get (procedures m) at ≡ Some (procedure_at m at)
@@ -56,8 +41,8 @@ procedure_there m at lt =
     slice_get-map (λ (k : Kept). k.procedure) m at ∙ ap (option_map (λ (k : Kept). k.procedure)) (slice_get-get_or m at (empty_kept [] 0) lt)
 
 -- ---- what the passes ask
-pub slots_asked : (p : Procedure) (air : AirProc) → IsTaken p → IsPlacedOf p air → All (λ size. 1 ≤ size) air.slots
-slots_asked p air is placed = subst (All (λ size. 1 ≤ size)) (sym placed.slots) (All-map (λ size. 1 ≤ size) (λ (slot : SlotLine). slot.bytes) p.slots is.sizes)
+pub slots_asked : (p : Procedure) (air : AirProc) → IsValidProcedure p → IsPlacedOf p air → All (λ size. 1 ≤ size) air.slots
+slots_asked p air valid placed = subst (All (λ size. 1 ≤ size)) (sym placed.slots) (All-map (λ size. 1 ≤ size) (λ (slot : SlotLine). slot.bytes) p.slots (sizes_of p valid))
 
 -- slots have at most 15 bytes more than what stands in them
 rounded_up : (n : ℕ) → rounded n ≤ n + 15
@@ -74,20 +59,20 @@ slots_rounded (slot ∷ slots) =
       slots_rounded slots,
     )
 
-pub room_asked : (p : Procedure) (air : AirProc) → IsTaken p → IsPlacedOf p air → HaveRoom air.slots (spill_count air)
-room_asked p air is placed =
+pub room_asked : (p : Procedure) (air : AirProc) → HasFewSlots p → IsPlacedOf p air → HaveRoom air.slots (spill_count air)
+room_asked p air few_slots placed =
     let same : slot_bytes air.slots ≡ slot_bytes (map (λ (slot : SlotLine). slot.bytes) p.slots) = ap slot_bytes placed.slots in
     let most = slots_rounded p.slots in
-    let count = is.slots.slots in
-    let bytes = is.slots.bytes in
+    let count = few_slots.slots in
+    let bytes = few_slots.bytes in
     let few = placed.spills in
     omega arith
 
-pub short_asked : (p : Procedure) (air : AirProc) → IsTaken p → IsPlacedOf p air → weight air < 2 ^ 24
-short_asked p air is placed =
+pub short_asked : (p : Procedure) (air : AirProc) → IsWithinLimits p → IsPlacedOf p air → weight air < 2 ^ 24
+short_asked p air limits placed =
     let light = placed.light in
-    let values = is.limits.values in
-    let children = is.limits.children in
+    let values = limits.values in
+    let children = limits.children in
     omega arith
 
 -- ---- the rows of slots

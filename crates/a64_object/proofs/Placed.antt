@@ -1,5 +1,5 @@
 -- A procedure that is selected and rewritten is placed.
-use Rattle.std.proofs.Common.{◌≡◌, ℕ, ◌+◌, ◌*◌, ◌≤◌, true, Some, length, sym, ap, ◌∙◌, arith}
+use Rattle.std.proofs.Common.{◌≡◌, ℕ, ◌+◌, ◌*◌, ◌≤◌, true, length, sym, ap, ◌∙◌, arith}
 use Rattle.std.specs.Prelude.{All, map}
 use Rattle.std.proofs.lemmas.List.{length-map}
 use Rattle.std.proofs.lemmas.List.Elements.{All-weaker}
@@ -7,14 +7,12 @@ use Rattle.b3_ir.specs.Naming.{value_named}
 use Rattle.b3_ir.specs.Procedure.{AllFit, Procedure, total}
 use Rattle.b3_ir.specs.declared.opcode.Ty.TheVariants.{Int32, Int64}
 use Rattle.b3_ir.specs.declared.procedure.SlotLine.{SlotLine}
-use Rattle.b3_ir.specs.declared.value.Value.{Value}
 use Rattle.b3_rules.specs.Valid.{IsValidProcedure}
 use Rattle.stackmap.specs.declared.site.Returns.TheVariants.{W32, W64}
-use Rattle.air_ir.specs.Expressed.{IsExpressed}
 use Rattle.air_ir.specs.Kinds.{kind_of, makes_site}
 use Rattle.air_ir.specs.Run.{BlocksThrough, HasBlocksOf, HasSameBlocks}
 use Rattle.air_ir.specs.Weight.{weight}
-use Rattle.air_ir.specs.WellFormed.{HasOneSiteEach, IsSpillBelow, IsWellFormed, NamesSpillsBelow, SpillsBelow, StandsAt}
+use Rattle.air_ir.specs.WellFormed.{HasOneSiteEach, IsSpillBelow, IsWellFormed, NamesSpillsBelow, SpillsBelow}
 use Rattle.air_ir.specs.declared.assignment.Assignment.{Assignment}
 use Rattle.air_ir.specs.declared.op.AirOp.{AirOp}
 use Rattle.air_ir.specs.declared.operand.Arg.{Arg}
@@ -31,7 +29,6 @@ use Rattle.air_spill.specs.Stays.{ComesFromEach}
 use Rattle.air_select.specs.Contract.{AreExpressed, AreMadeFor, IsFew, ReturnsType, child_count, has_stackmap}
 use Rattle.a64_emit.specs.Built.{IsBuilt}
 use Rattle.a64_object.specs.Made.{IsExpressedEach, IsPlacedOf}
-use Rattle.a64_object.proofs.Lists.{one_in}
 use Rattle.a64_object.proofs.Values.{named_in, placeable}
 
 -- ---- spill places
@@ -54,11 +51,6 @@ spills_below m n p le below =
     (λ (i : AirInst). All (λ (o : Operand). SpillsBelow n o.arg) i.operands)
     (λ i. All-weaker (λ (o : Operand). SpillsBelow m o.arg) (λ (o : Operand). SpillsBelow n o.arg) (λ o. arg_below m n le o.arg) i.operands) b.insts)
     p.blocks below
-
--- ---- ops
--- what holds of each instruction of a procedure holds of one of them
-pub inst_at : (P : AirInst → Type 0) (q : AirProc) (block place : ℕ) (i : AirInst) → All (λ (b : AirBlock). All P b.insts) q.blocks → StandsAt q block place i → P i
-inst_at P q block place i all at = one_in P at.of.insts place i at.inst_there (one_in (λ (b : AirBlock). All P b.insts) q.blocks block at.of at.block_there all)
 
 -- ---- sites
 -- what is rewritten of what is expressed is that in places, and obeys

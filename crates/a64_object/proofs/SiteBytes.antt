@@ -21,7 +21,7 @@ use Rattle.a64_run.specs.Agrees.{case_count, child_count}
 use Rattle.a64_emit.specs.Sites.{IsSiteIn}
 use Rattle.a64_object.specs.Joined.{ArePartsOf, Part, site_from, sites_at, sites_from}
 use Rattle.a64_object.specs.Made.{IsMadeOf, site_rows}
-use Rattle.a64_object.specs.Taken.{IsTaken}
+use Rattle.a64_object.proofs.Taken.{IsTaken}
 use Rattle.a64_object.proofs.Lists.{one_in, same_some}
 use Rattle.a64_object.proofs.SitesOf.{IsOne, arguments_count, called, mapped, trapped}
 use Rattle.a64_object.proofs.Agreeing.{site_is}

@@ -1,5 +1,5 @@
 -- Rows of sites, as lists: one more of them, where they stand among others, and that they are in order.
-use Rattle.std.proofs.Common.{◌≡◌, ◌≢◌, ℕ, zero, suc, ◌+◌, ◌*◌, ◌%◌, ◌^◌, ◌<◌, ◌≤◌, Bool, true, false, if◌then◌else◌, None, List, [], ◌∷◌, ◌++◌, Some, length, refl, sym, ap, ◌∙◌, arith, nat_eq, take, append_assoc}
+use Rattle.std.proofs.Common.{◌≡◌, ◌≢◌, ℕ, zero, suc, ◌+◌, ◌*◌, ◌%◌, ◌^◌, ◌<◌, ◌≤◌, Bool, true, false, if◌then◌else◌, None, List, [], ◌∷◌, ◌++◌, Some, length, refl, sym, ap, ◌∙◌, subst, arith, nat_eq, take, append_assoc}
 use Rattle.std.specs.Prelude.{All, map, slice_get, slice_index}
 use Rattle.std.proofs.lemmas.Bool.Decides.{nat_tests}
 use Rattle.std.proofs.lemmas.List.{length-take, map-append}
@@ -17,7 +17,7 @@ use Rattle.a64_run.specs.Machine.{site_among}
 use Rattle.a64_object.specs.Joined.{site_from}
 use Rattle.a64_object.specs.Made.{site_rows}
 use Rattle.air_fold.proofs.Places.{take_item}
-use Rattle.a64_object.proofs.Lists.{all_of}
+use Rattle.a64_object.proofs.Lists.{all_of, same_some}
 
 -- ---- the rows of marks and sites
 abbrev pub row_at : ℕ → Site → SiteRow
@@ -144,3 +144,24 @@ order_from offset from to (mark ∷ marks) (site ∷ sites) rest same whole le f
           (λ m x there. within (suc m) x there)
           order,
     )
+
+-- each stands behind a byte, and behind the ends of those before it
+order_least : (end : ℕ) (rows : List SiteRow) → AreInOrder end rows → (k : ℕ) (row : SiteRow) → slice_get rows k ≡ Some row → end ≤ row.pc
+order_least end [] order k row there = absurd cc
+order_least end (x ∷ rows) order zero row there =
+    let same : x.pc ≡ row.pc = ap (λ (r : SiteRow). r.pc) (same_some x row there) in
+    let least = order.1 in
+    omega arith
+order_least end (x ∷ rows) order (suc k) row there =
+    let least = order.1 in
+    let rest = order_least (x.pc + 4 * x.site.size) rows order.2 k row there in
+    omega arith
+
+pub order_behind : (end : ℕ) (rows : List SiteRow) → AreInOrder end rows → (j k : ℕ) (a b : SiteRow) → j < k → slice_get rows j ≡ Some a
+    → slice_get rows k ≡ Some b → a.pc + 4 * a.site.size ≤ b.pc
+order_behind end [] order j k a b less there other = absurd cc
+order_behind end (x ∷ rows) order j zero a b less there other = absurd (omega arith)
+order_behind end (x ∷ rows) order zero (suc k) a b less there other =
+    subst (λ (r : SiteRow). r.pc + 4 * r.site.size ≤ b.pc) (same_some x a there) (order_least (x.pc + 4 * x.site.size) rows order.2 k b other)
+order_behind end (x ∷ rows) order (suc j) (suc k) a b less there other =
+    order_behind (x.pc + 4 * x.site.size) rows order.2 j k a b (omega arith) there other

@@ -15,14 +15,18 @@ use Rattle.std.proofs.Math.Nat.{le-max_right}
 use Rattle.b3_base.specs.declared.word.Width.{Width}
 use Rattle.b3_base.specs.declared.word.Width.TheVariants as width
 use Rattle.b3_ir.specs.Naming.{value_named}
-use Rattle.b3_ir.specs.Procedure.{AllFit, Procedure}
+use Rattle.b3_ir.specs.Procedure.{AllFit, Procedure, values_of}
 use Rattle.b3_ir.specs.declared.opcode.Opcode.TheVariants as opcode
 use Rattle.b3_ir.specs.declared.value.Reg.{Reg as Register}
 use Rattle.b3_ir.specs.declared.value.Stackmap.{Stackmap}
 use Rattle.b3_ir.specs.declared.value.Value.{Value}
 use Rattle.b3_meaning.specs.Keeps.{is_outward}
 use Rattle.b3_meaning.specs.Roles.{role_of}
+use Rattle.b3_meaning.specs.declared.role.Role.{Role as Role_of}
+use Rattle.b3_meaning.specs.declared.role.Role.TheVariants as role
 use Rattle.b3_rules.specs.Valid.{IsValidProcedure}
+use Rattle.b3_sound.proofs.Distinct.{value_of_id}
+use Rattle.b3_sound.proofs.FromValid.{is_kept}
 use Rattle.stackmap.specs.Obeys.{HasClobbered, IsSiteOf, size_of}
 use Rattle.stackmap.specs.Registers.{has, is_patchpoint}
 use Rattle.stackmap.specs.Rules.{IsAllocatable}
@@ -34,13 +38,13 @@ use Rattle.stackmap.specs.declared.site.SiteKind.{SiteKind}
 use Rattle.stackmap.specs.declared.site.SiteKind.TheVariants as site_kind
 use Rattle.exit_table.specs.Good.{AreDisjoint, AreRegistersFrom, IsGoodCall, IsGoodExit, IsGoodKind, IsGoodPatchpoint, IsGoodRep, Span, spans_of, word_span}
 use Rattle.exit_table.specs.declared.tables.FrameRow.{FrameRow}
-use Rattle.exit_table.specs.declared.tables.SiteRow.{SiteRow}
 use Rattle.air_ir.specs.Expressed.{IsExpressedInPlaces, IsOpOf}
-use Rattle.air_ir.specs.Forms.{AnyWord, IsChanged, IsReported, IsWord, SiteFits, SiteOperands, call_clobbers, listed, operand_in}
-use Rattle.air_ir.specs.Kinds.{Kind, Calls, Checks, ChecksResult, Loads, Patches, Stores, kind_of}
-use Rattle.air_ir.specs.SitesInPlaces.{HasClobbers, kind_by, patch_in, result_by, size_by}
+use Rattle.air_ir.specs.Forms.{AnyWord, IsChanged, IsPlacedResult, IsReported, IsWord, OneIs, SiteFits, SiteOperands, call_clobbers, listed, operand_in}
+use Rattle.air_ir.specs.Kinds.{Kind, Calls, Checks, ChecksResult, Loads, Patches, Stores, kind_of, makes_site}
+use Rattle.air_ir.specs.SitesInPlaces.{HasClobbers, kind_by, patch_in, register_at, result_by, size_by}
 use Rattle.air_ir.specs.Weight.{inst_weight, weight, words_by}
 use Rattle.air_ir.specs.WellFormed.{IsGoodBlock, IsGoodInst, MayName, NamesOwn, StandsAt}
+use Rattle.air_ir.specs.declared.assignment.Assignment.{Assignment}
 use Rattle.air_ir.specs.declared.frame.Frame.{Frame}
 use Rattle.air_ir.specs.declared.op.AirOp.{AirOp}
 use Rattle.air_ir.specs.declared.op.AirOp.TheVariants as op
@@ -55,12 +59,17 @@ use Rattle.air_ir.specs.declared.procedure.AirInst.{AirInst}
 use Rattle.air_ir.specs.declared.procedure.AirProc.{AirProc}
 use Rattle.air_frame.specs.Frames.{IsFrameOf, row_of}
 use Rattle.air_frame.specs.Needs.{arg_names, block_names, inst_names, names}
-use Rattle.a64_run.specs.CodeOf.{HasItsValue}
+use Rattle.a64_run.specs.CodeOf.{HasItsValue, IsSiteOfKind, is_access}
 use Rattle.a64_emit.specs.Sites.{ArePlacesOf, IsCallOf, IsRepIn, IsSiteBy, IsSiteIn, IsStackmapOf, IsTrapOf, argument_places}
+use Rattle.air_spill.specs.Rewritten.{rewritten}
 use Rattle.air_select.specs.Contract.{has_stackmap}
+use Rattle.air_select.specs.Selected.{selected}
+use Rattle.air_select.proofs.Returned.{contains_at}
 use Rattle.a64_object.specs.Made.{IsPlacedOf}
 use Rattle.a64_object.proofs.Lists.{any_among, any_at, one_in, term_least}
+use Rattle.a64_object.proofs.CallSites.{call_site}
 use Rattle.a64_object.proofs.Sited.{IsSized}
+use Rattle.a64_object.proofs.Sources.{IsSourceOf, accesses, calls, source_of}
 use Rattle.a64_object.proofs.Values.{IsNamedIn, has_size, named_in, names_registers}
 
 -- ---- sets of registers
@@ -219,11 +228,11 @@ module _ (p : Procedure) (valid : IsValidProcedure p) (fit : AllFit p.blocks) (a
     called : OfCall site → IsOne site
     mapped : OfStackmap site → IsOne site
 
-  stackmap_one : (site : Site) (s : IsSiteIn air frame site) → has_stackmap (kind_of s.inst.op) ≡ true → IsStackmapOf frame s.inst site → IsOne site
-  stackmap_one site s has made =
+  stackmap_of : (site : Site) (s : IsSiteIn air frame site) → has_stackmap (kind_of s.inst.op) ≡ true → IsStackmapOf frame s.inst site → OfStackmap site
+  stackmap_of site s has made =
       let of = placed.expressed s.block s.place s.inst s.there has in
       let named : value_named p site.value ≡ Some of.0 = ap (value_named p) s.value ∙ of.1 in
-      mapped (record {
+      record {
         block = s.block;
         place = s.place;
         inst = s.inst;
@@ -234,7 +243,10 @@ module _ (p : Procedure) (valid : IsValidProcedure p) (fit : AllFit p.blocks) (a
         stands = named_in p fit site.value of.0 named;
         expressed = of.2.is;
         is = of.2.sites made.parts site made.operands made.fits made.from;
-      })
+      }
+
+  stackmap_one : (site : Site) (s : IsSiteIn air frame site) → has_stackmap (kind_of s.inst.op) ≡ true → IsStackmapOf frame s.inst site → IsOne site
+  stackmap_one site s has made = mapped (stackmap_of site s has made)
 
   one_by : (site : Site) (s : IsSiteIn air frame site) (kind : Kind) → kind_of s.inst.op ≡ kind → IsSiteBy kind frame s.inst site → IsOne site
   one_by site s (Loads extent extends) kind is = trapped (record { inst = s.inst; trap = is })
@@ -248,6 +260,34 @@ module _ (p : Procedure) (valid : IsValidProcedure p) (fit : AllFit p.blocks) (a
   pub is_one : (site : Site) → IsSiteIn air frame site → IsOne site
   is_one site s = one_by site s (kind_of s.inst.op) refl s.is
 
+  -- ---- its result
+  abbrev StandsWell : Option (Width × Register) → Type 0
+  StandsWell o = IfSome o (λ result. IsAllocatable result.1)
+
+  of_patch : (width : Width) (o : Operand) → IsPlacedResult width o → StandsWell (register_at o.width o.arg)
+  of_patch width o (r, may, inl early) = subst (λ (x : Operand). StandsWell (register_at x.width x.arg)) (sym early) may
+  of_patch width o (r, may, inr late) = subst (λ (x : Operand). StandsWell (register_at x.width x.arg)) (sym late) may
+
+  one_of_patch : (size : ℕ) (typed : Bool) (width : Width) (os : List Operand) → OneIs typed (IsPlacedResult width) os
+      → StandsWell (result_by (Some (size, typed)) os)
+  one_of_patch size true width (o ∷ []) is = of_patch width o is
+  one_of_patch size typed width [] is = tt
+  one_of_patch size true width (o ∷ other ∷ os) is = absurd is
+  one_of_patch size false width (o ∷ os) is = absurd is
+
+  result_by_op : (o : AirOp) (s : SiteOperands) → SiteFits o s → StandsWell (result_by (patch_in o) s.results)
+  result_by_op (op.Patch size typed) s fits = one_of_patch size typed fits.width s.results fits.result
+  result_by_op _ s fits = tt
+
+  one_result : (site : Site) → IsOne site → StandsWell site.result
+  one_result site (trapped t) = subst StandsWell (sym t.trap.result) tt
+  one_result site (called t) = subst StandsWell (sym t.call.result) (in_zero t.typed t.call.operands.width)
+    where
+      in_zero : (typed : Bool) (w : Width) → StandsWell (if typed then Some (w, record { 0 = 0 }) else None)
+      in_zero true w = inl (omega arith)
+      in_zero false w = tt
+  one_result site (mapped m) = subst StandsWell (sym m.made.from.result) (result_by_op m.inst.op m.made.parts m.made.fits)
+
   -- ---- its value
   outward : (o : AirOp) (map : Stackmap) (v : Value) → IsOpOf map v o → is_outward (role_of v.kind.opcode) v.kind.traps ≡ true
   outward (op.Patch size typed) map v is = ap (λ c. is_outward (role_of c) v.kind.traps) is.0
@@ -257,15 +297,77 @@ module _ (p : Procedure) (valid : IsValidProcedure p) (fit : AllFit p.blocks) (a
   outward op.CheckMul map v is = ap (λ c. is_outward (role_of c) v.kind.traps) is
   outward _ map v is = absurd is
 
-  neither : (kind is : SiteKind) → kind ≡ is → (is ≡ site_kind.Patchpoint → ⊥) → (is ≡ site_kind.Exit → ⊥)
-      → (kind ≡ site_kind.Patchpoint) ⊎ (kind ≡ site_kind.Exit) → ⊥
-  neither kind is same patch exit (inl a) = patch (sym same ∙ a)
-  neither kind is same patch exit (inr b) = exit (sym same ∙ b)
+  access_outward : (r : Role_of) (traps : Bool) → is_access r ≡ true → traps ≡ true → is_outward r traps ≡ true
+  access_outward (role.Load extent extends) traps access is = is
+  access_outward (role.Store extent) traps access is = is
+  access_outward _ traps access is = absurd cc
 
-  pub has_its_value : (row : SiteRow) → IsOne row.site → HasItsValue p row
-  has_its_value row (trapped t) kinds = absurd (neither row.site.kind site_kind.Trap t.trap.kind (λ e. cc) (λ e. cc) kinds)
-  has_its_value row (called t) kinds = absurd (neither row.site.kind site_kind.Call t.call.kind (λ e. cc) (λ e. cc) kinds)
-  has_its_value row (mapped m) kinds = (m.value, m.named, outward m.inst.op m.expressed.stackmap m.value m.expressed.op, m.is)
+  by_kind : (o : Option (ℕ × Bool)) (v : Value) (site : Site) → IsSiteOf p v site → IsSiteOfKind (kind_by o) p v site
+  by_kind (Some patch) v site is = is
+  by_kind None v site is = is
+
+  as_kind : (kind is : SiteKind) (v : Value) (site : Site) → kind ≡ is → IsSiteOfKind is p v site → IsSiteOfKind kind p v site
+  as_kind kind is v site same holds = subst (λ k. IsSiteOfKind k p v site) (sym same) holds
+
+  module _ (a : Assignment) (is_rewritten : air ≡ rewritten (selected p) a) where
+    -- the value that a call, or an access that traps, is selected for
+    source_named : (site : Site) (s : IsSiteIn air frame site) (from : IsSourceOf p a s.inst)
+        → value_named p site.value ≡ Some from.selected_for.value
+    source_named site s from =
+        let of = from.selected_for in
+        ap (value_named p) (s.value ∙ ap (λ (i : AirInst). i.value) from.is ∙ of.made)
+        ∙ value_of_id p (is_kept p valid fit).distinct of.block of.value (contains_at (values_of p of.block) of.at of.value of.stands)
+
+    trap_value : (site : Site) (s : IsSiteIn air frame site) → accesses (kind_of s.inst.op) ≡ true → s.inst.traps ≡ true → IsTrapOf s.inst site
+        → HasItsValue p site
+    trap_value site s access traps trap =
+        let from : IsSourceOf p a s.inst = source_of p a air s.block s.place s.inst is_rewritten s.there (λ e. (access, traps)) in
+        let of = from.selected_for in
+        let accessed = of.from.trap (ap (λ (i : AirInst). accesses (kind_of i.op)) (sym from.is) ∙ access)
+        (ap (λ (i : AirInst). i.traps) (sym from.is) ∙ traps) in
+        record {
+          value = of.value;
+          named = source_named site s from;
+          outward = access_outward (role_of of.value.kind.opcode) of.value.kind.traps accessed.0 accessed.1;
+          is = as_kind site.kind site_kind.Trap of.value site trap.kind accessed;
+          result = one_result site (trapped (record { inst = s.inst; trap = trap }));
+        }
+
+    call_value : (site : Site) (s : IsSiteIn air frame site) (typed : Bool) → kind_of s.inst.op ≡ Calls typed → IsCallOf typed s.inst site
+        → HasItsValue p site
+    call_value site s typed kind call =
+        let from : IsSourceOf p a s.inst = source_of p a air s.block s.place s.inst is_rewritten s.there
+        (λ e. absurd (let bad = sym (ap calls kind) ∙ e in cc)) in
+        let of = from.selected_for in
+        let is = call_site p valid a typed s.inst site from kind call in
+        record {
+          value = of.value;
+          named = source_named site s from;
+          outward = ap (λ c. is_outward (role_of c) of.value.kind.traps) is.opcode;
+          is = as_kind site.kind site_kind.Call of.value site call.kind is;
+          result = one_result site (called (record { typed = typed; inst = s.inst; call = call }));
+        }
+
+    map_value : (site : Site) → OfStackmap site → HasItsValue p site
+    map_value site m = record {
+      value = m.value;
+      named = m.named;
+      outward = outward m.inst.op m.expressed.stackmap m.value m.expressed.op;
+      is = as_kind site.kind (kind_by (patch_in m.inst.op)) m.value site m.made.from.kind (by_kind (patch_in m.inst.op) m.value site m.is);
+      result = one_result site (mapped m);
+    }
+
+    value_by : (site : Site) (s : IsSiteIn air frame site) (kind : Kind) → kind_of s.inst.op ≡ kind → IsSiteBy kind frame s.inst site → HasItsValue p site
+    value_by site s (Loads extent extends) kind is = trap_value site s (ap accesses kind) (ap (λ k. makes_site k s.inst.traps) (sym kind) ∙ s.makes) is
+    value_by site s (Stores extent) kind is = trap_value site s (ap accesses kind) (ap (λ k. makes_site k s.inst.traps) (sym kind) ∙ s.makes) is
+    value_by site s (Calls typed) kind is = call_value site s typed kind is
+    value_by site s (Patches typed) kind is = map_value site (stackmap_of site s (ap has_stackmap kind) is)
+    value_by site s (Checks test) kind is = map_value site (stackmap_of site s (ap has_stackmap kind) is)
+    value_by site s (ChecksResult checked) kind is = map_value site (stackmap_of site s (ap has_stackmap kind) is)
+    value_by site s _ kind is = absurd is
+
+    pub has_its_value : (site : Site) → IsSiteIn air frame site → HasItsValue p site
+    has_its_value site s = value_by site s (kind_of s.inst.op) refl s.is
 
   -- ---- its size
   is_patch : (o : AirOp) (patch : ℕ × Bool) (map : Stackmap) (v : Value) → patch_in o ≡ Some patch → IsOpOf map v o → v.kind.opcode ≡ opcode.Patchpoint

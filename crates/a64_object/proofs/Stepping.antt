@@ -18,8 +18,8 @@ use Rattle.a64_word.specs.Decode.{decode}
 use Rattle.a64_word.specs.Word.{word}
 use Rattle.a64_layout.specs.Machine as layout
 use Rattle.a64_layout.specs.Machine.{Machine, machine_of, mark_at, outside_at, place_of}
-use Rattle.a64_run.specs.Machine.{Entry, Runs, State, execute, has_returned, is_empty_byte, is_ret, is_text_word, keeps_saved, machine_step, of_kind, site_among, site_at, touched, touches_empty, touches_empty_at}
-use Rattle.a64_run.specs.Moments.{IsProperState, TouchesAbove}
+use Rattle.a64_run.specs.Machine.{Entry, Runs, State, execute, has_returned, is_empty_byte, is_ret, is_text_word, machine_step, of_kind, site_among, site_at, touched, touches_empty, touches_empty_at}
+use Rattle.a64_run.specs.Moments.{IsProperState, KeepsFrame, TouchesAbove}
 use Rattle.a64_run.specs.Placement.{in_frame, in_text, is_within}
 use Rattle.a64_run.proofs.Steps.{of_kind-other, word_at-word, word_executes, word_is_proper}
 use Rattle.a64_emit.specs.Emitted.{Log}
@@ -175,8 +175,8 @@ module _ (e : Entry) (words : List ℕ) (rows : List SiteRow) (has : HasText e w
       → slice_get words here ≡ Some (word inst) → decode (word inst) ≡ Some inst → of_kind Patchpoint (site_among (4 * here) rows) ≡ None
       → c.registers.sp % 16 ≡ 0 → TouchesAbove e (state_of log c) inst
       → (step_of inst c.registers c.memory).registers.x 18 ≡ c.registers.x 18
-      → ((site : Site) → of_kind Exit (site_among (4 * here) rows) ≡ Some site → keeps_saved e (state_of log c) ≡ true)
-      → ((site : Site) → of_kind Call (site_among (4 * here) rows) ≡ Some site → c.registers.sp ≡ e.start.sp - e.frame.bytes)
+      → ((site : Site) → of_kind Exit (site_among (4 * here) rows) ≡ Some site → KeepsFrame e (state_of log c))
+      → ((site : Site) → of_kind Call (site_among (4 * here) rows) ≡ Some site → KeepsFrame e (state_of log c))
       → IsProperState e (state_of log c)
   word_proper log c here inst at there decodes none aligned above platform exit call =
       let is = site_is here c.registers.pc (word inst) at there in

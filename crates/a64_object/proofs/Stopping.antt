@@ -28,7 +28,8 @@ use Rattle.a64_layout.specs.Machine.{Machine, moved_to}
 use Rattle.a64_layout.proofs.Least.{place-next, place_mono}
 use Rattle.a64_run.specs.Machine as machine
 use Rattle.a64_run.specs.Machine.{Entry, Stops, execute, has_returned, is_word, keeps_at, keeps_first, keeps_registers, keeps_saved, machine_step, of_kind, returned_word, saved_at, seen_as, site_among, site_at, stops, touched, touches_empty_at}
-use Rattle.a64_run.specs.Moments.{IsProper as IsMoment}
+use Rattle.a64_run.specs.Moments.{IsProper as IsMoment, KeepsFrame}
+use Rattle.a64_run.specs.Placement.{frame_pointer_of}
 use Rattle.a64_run.proofs.Steps.{of_kind-itself, of_kind-other}
 use Rattle.a64_emit.specs.Setting.{Setting, address_of, site_before}
 use Rattle.a64_emit.specs.Related.{HasFrame}
@@ -74,8 +75,18 @@ module _ (x : Subject) (log : Log) (a : ℕ) (c : Machine) (frame : HasFrame (se
   kept_first zero le = refl
   kept_first (suc n) le = rw (kept_first n (omega arith), kept_by (19 + n) (saved_at x.frame.saved (19 + n)) (omega arith) (omega arith) refl) refl
 
-  pub kept_saved : keeps_saved (entry x) (state_of log (moved_to a c)) ≡ true
+  kept_saved : keeps_saved (entry x) (state_of log (moved_to a c)) ≡ true
   kept_saved = kept_first 10 (omega arith)
+
+  -- and so is the frame
+  pub kept_frame : KeepsFrame (entry x) (state_of log (moved_to a c))
+  kept_frame = record {
+    sp = frame.sp;
+    x29 = frame.x29;
+    caller = let none : frame_pointer_of x.start - 0 ≡ frame_pointer_of x.start = omega arith in ap (λ at. read_word c.memory at 8) (sym none) ∙ frame.caller;
+    link = frame.link;
+    saved = kept_saved;
+  }
 
 -- ---- coming back to the caller
 keeps_all : (e : Entry) (r : Registers) (n : ℕ) → n ≤ 11 → ((k : ℕ) → 19 ≤ k → k ≤ 29 → r.x k ≡ e.start.registers k) → keeps_registers e r n ≡ true
@@ -206,12 +217,12 @@ module _ (x : Subject) (stands : Stands x) where
         let s = state_of log here in
         let at : site_at e (address_of z k) ≡ Some stopped.site =
         site_is e x.text.words (rows_in x) stands.has_text (place x.code x.long k) (address_of z k) (word (Break 1)) refl i.there ∙ row in
-        let kept = kept_saved x log (address_of z k) c stopped.frame in
+        let kept = kept_frame x log (address_of z k) c stopped.frame in
         let no_patchpoint = ap (of_kind Patchpoint) row ∙ of_kind-other Patchpoint Exit stopped.site stopped.kind refl in
         let no_call = ap (of_kind Call) row ∙ of_kind-other Call Exit stopped.site stopped.kind refl in
         record {
           step = executes e x.text.words (rows_in x) stands.has_text log here (place x.code x.long k) (Break 1) refl i.there i.decodes no_patchpoint
-              ∙ exits_so e s stopped.site stopped.words (ap (of_kind Exit) at ∙ of_kind-itself Exit stopped.site stopped.kind refl) stopped.places kept
+              ∙ exits_so e s stopped.site stopped.words (ap (of_kind Exit) at ∙ of_kind-itself Exit stopped.site stopped.kind refl) stopped.places kept.saved
               ∙ ap Stops (sym stopped.shows);
           proper = word_proper e x.text.words (rows_in x) stands.has_text log here (place x.code x.long k)
               (Break 1) refl i.there i.decodes no_patchpoint proper.aligned safe.there safe.platform

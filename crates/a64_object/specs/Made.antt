@@ -1,6 +1,6 @@
 -- What a procedure's code in an object is made by: a procedure of Air with the same blocks, in registers and spill
 -- places; its frame; labelled code of it and the sites of its marks; and the shortest text of that.
-use Rattle.std.specs.Prelude.{◌≡◌, ℕ, ◌+◌, ◌*◌, ◌≤◌, Bool, true, false, List, [], ◌∷◌, Some, length, map}
+use Rattle.std.specs.Prelude.{◌≡◌, ℕ, ◌+◌, ◌*◌, ◌≤◌, true, List, [], ◌∷◌, Some, length, map}
 use Rattle.b3_ir.specs.Naming.{value_named}
 use Rattle.b3_ir.specs.Procedure.{Procedure, total}
 use Rattle.b3_ir.specs.declared.opcode.Ty.TheVariants.{Int32, Int64}

@@ -1,8 +1,8 @@
--- The procedures that are taken: valid ones within the limits.
+-- The procedures that are taken: they have names, and keep the limits of a text.
 use Rattle.std.specs.Prelude.{ℕ, ◌≤◌, List, All, length, sum_by}
-use Rattle.b3_ir.specs.Procedure.{AllFit, Procedure, total}
+use Rattle.b3_ir.specs.Names.{IsName}
+use Rattle.b3_ir.specs.Procedure.{Procedure, total}
 use Rattle.b3_ir.specs.declared.procedure.SlotLine.{SlotLine}
-use Rattle.b3_rules.specs.Valid.{IsValidProcedure}
 use Rattle.a64_run.specs.Agrees.{child_count}
 use Rattle.air_select.specs.Contract.{IsWithinLimits}
 
@@ -14,12 +14,10 @@ pub record HasFewSlots (p : Procedure) : Type 0 where
   pub slots : length p.slots ≤ 4096
   pub bytes : sum_by bytes_in p.slots ≤ 65536
 
-pub record IsTaken (p : Procedure) : Type 0 where
-  pub valid : IsValidProcedure p
-  pub fit : AllFit p.blocks
-  pub sizes : All (λ (slot : SlotLine). 1 ≤ slot.bytes) p.slots
-  pub limits : IsWithinLimits p
-  pub slots : HasFewSlots p
+-- procedures that one object may hold: at most 256, each with a name
+pub record HaveNames (ps : List Procedure) : Type 0 where
+  pub few : length ps ≤ 256
+  pub names : All (λ (p : Procedure). IsName p.name) ps
 
 -- procedures that have no more values, children and cases, and slots than a text may have
 pub record AreWithinLimits (ps : List Procedure) : Type 0 where

@@ -1,17 +1,17 @@
 //! The object of a module.
 
 ghost use Rattle.std.specs.Prelude.{◌≡◌, ◌*◌, ◌<◌, ◌≤◌, ◌^◌, ◌++◌, length, map, All, IfOk, OnOk};
-ghost use Rattle.b3_ir.specs.Procedure.{procedures};
-ghost use Rattle.b3_supported.specs.Supported.{AreSupported};
+ghost use Rattle.b3_ir.specs.Procedure.{AllFit, Procedure, procedures};
 ghost use Rattle.elf_obj.specs.Size.{size_bound};
 ghost use Rattle.a64_run.specs.CodeOf.{IsCodeOf};
-ghost use Rattle.air_select.specs.Contract.{procedure_at};
+ghost use Rattle.air_select.specs.Contract.{IsWithinLimits, procedure_at};
 ghost use Rattle.a64_object.specs.Joined.{IsJoinedOf, IsPartOf, Part, site_from, with_part};
 ghost use Rattle.a64_object.specs.Made.{site_rows};
-ghost use Rattle.a64_object.specs.Taken.{AreWithinLimits, IsTaken};
+ghost use Rattle.a64_object.specs.Taken.{AreWithinLimits, HasFewSlots, HaveNames};
 
 use crate::procedure::procedure_text;
 use b3_base::{CodeWords, Ids, Name, NoMemory};
+use b3_ir::Module;
 use b3_validate::Valid;
 use elf_obj::{Object, Symbol, Symbols};
 use exit_table::{FrameRows, SiteRow, SiteRows, Tables};
@@ -21,18 +21,27 @@ use std::alloc::Global;
 /// The object of a valid module's procedures with their code, one after the other; its file has at most 134,217,728
 /// bytes. It is refused for want of memory alone.
 pub fn module_object(alloc: Global, valid: &Valid) -> Result<Object, NoMemory>
-    requires supported { AreSupported (procedures valid.now) }
+    requires named { HaveNames (procedures valid.now) }
     requires limits { AreWithinLimits (procedures valid.now) }
     ensures code { IfOk result (IsCodeOf (procedures valid.now) (procedures valid.now)) }
     ensures small { IfOk result (λ o. size_bound o ≤ 134217728) }
 {
-    valid.module();
+    all_fit(valid.module());
     joined_object(alloc, valid)
+}
+
+/// Tells that each value of a module is one that may stand in a procedure. It takes no memory.
+fn all_fit(module_: &Module)
+    ensures { All (λ (p : Procedure). AllFit p.blocks) (procedures module_.now) }
+{
+    for at in 0..module_.procs() {
+        module_.proc(at).whole();
+    }
 }
 
 /// The same, as the codes of the procedures that are joined.
 fn joined_object(alloc: Global, valid: &Valid) -> Result<Object, NoMemory>
-    requires supported { AreSupported (procedures valid.now) }
+    requires named { HaveNames (procedures valid.now) }
     requires limits { AreWithinLimits (procedures valid.now) }
     ensures joined { IfOk result (IsJoinedOf (procedures valid.now)) }
     ensures narrow { IfOk result (λ o. All (λ word. word < 2 ^ 32) o.text) }
@@ -60,7 +69,8 @@ fn push_procedure(
     at: usize,
 ) -> Result<(), NoMemory>
     requires there { at < length valid.now }
-    requires taken { IsTaken (procedure_at valid.now at) }
+    requires limits { IsWithinLimits (procedure_at valid.now at) }
+    requires slots { HasFewSlots (procedure_at valid.now at) }
     requires short { length object.old.text < 2 ^ 24 }
     ensures { OnOk result ((part : Part) × IsPartOf (procedure_at valid.now at) part
         × (object.new ≡ with_part object.old part)) }

@@ -1,6 +1,8 @@
 //! The passes of one procedure, one after the other.
 
 ghost use Rattle.std.specs.Prelude.{◌≡◌, ◌^◌, ◌<◌, ◌≤◌, length, All, IfOk};
+ghost use Rattle.b3_ir.specs.Procedure.{AllFit};
+ghost use Rattle.b3_rules.specs.Valid.{IsValidProcedure};
 ghost use Rattle.air_ir.specs.Weight.{weight};
 ghost use Rattle.air_ir.specs.WellFormed.{IsWellFormed};
 ghost use Rattle.air_flow.specs.Proper.{IsProper};
@@ -8,9 +10,9 @@ ghost use Rattle.air_graph.specs.Graph.{IsInterferenceOf};
 ghost use Rattle.air_graph.specs.declared.interference.Interference.{Interference};
 ghost use Rattle.air_colour.specs.Assigned.{IsColouringOf};
 ghost use Rattle.air_frame.specs.Frames as frames;
-ghost use Rattle.air_select.specs.Contract.{procedure_at};
+ghost use Rattle.air_select.specs.Contract.{IsWithinLimits, procedure_at};
 ghost use Rattle.a64_object.specs.Made.{IsColouredOf, IsMadeOf, IsPlacedOf, site_rows};
-ghost use Rattle.a64_object.specs.Taken.{IsTaken};
+ghost use Rattle.a64_object.specs.Taken.{HasFewSlots};
 
 use a64_emit::emit;
 use a64_layout::resolve;
@@ -55,14 +57,25 @@ pub fn coloured(alloc: Global, p: &AirProc) -> Result<Assignment, NoMemory>
     Ok(assignment)
 }
 
+/// Tells that a procedure of a valid module, by its place, keeps all rules, and that each of its values is one that may
+/// stand in a procedure. It takes no memory.
+fn keeps_rules(valid: &Valid, proc: usize)
+    requires { proc < length valid.now }
+    ensures valid { IsValidProcedure (procedure_at valid.now proc) }
+    ensures fit { AllFit (procedure_at valid.now proc).blocks }
+{
+    valid.module().proc(proc).whole();
+}
+
 /// A procedure of a valid module, by its place, in registers and spill places: it is selected, and its temporaries are
 /// coloured. It is refused for want of memory alone.
 pub fn placed_procedure(alloc: Global, valid: &Valid, proc: usize) -> Result<AirProc, NoMemory>
     requires there { proc < length valid.now }
-    requires taken { IsTaken (procedure_at valid.now proc) }
+    requires limits { IsWithinLimits (procedure_at valid.now proc) }
     ensures placed { IfOk result (IsPlacedOf (procedure_at valid.now proc)) }
     ensures coloured { IfOk result (IsColouredOf (procedure_at valid.now proc)) }
 {
+    keeps_rules(valid, proc);
     same_blocks_laws();
     spill_counts();
     let selected = select(alloc, valid, proc)?;
@@ -75,11 +88,13 @@ pub fn placed_procedure(alloc: Global, valid: &Valid, proc: usize) -> Result<Air
 /// It is refused for want of memory alone.
 pub fn procedure_text(alloc: Global, valid: &Valid, proc: usize) -> Result<ProcedureText, NoMemory>
     requires there { proc < length valid.now }
-    requires taken { IsTaken (procedure_at valid.now proc) }
+    requires limits { IsWithinLimits (procedure_at valid.now proc) }
+    requires slots { HasFewSlots (procedure_at valid.now proc) }
     ensures made { IfOk result (λ t. IsMadeOf (procedure_at valid.now proc) t.words t.row (site_rows t.marks t.sites)) }
     ensures marks { IfOk result (λ t. length t.marks ≡ length t.sites) }
     ensures within { IfOk result (λ t. All (λ mark. mark < 2 ^ 24) t.marks) }
 {
+    keeps_rules(valid, proc);
     let placed = placed_procedure(alloc, valid, proc)?;
     let frame = layout(alloc, &placed)?;
     let emitted = emit(alloc, &placed, &frame)?;

@@ -16,8 +16,8 @@ use Rattle.stackmap.specs.declared.site.Site.{Site}
 use Rattle.stackmap.specs.declared.site.SiteKind.{SiteKind}
 use Rattle.stackmap.specs.declared.site.SiteKind.TheVariants.{Call, Patchpoint, Exit}
 use Rattle.exit_table.specs.declared.tables.SiteRow.{SiteRow}
-use Rattle.a64_run.specs.Machine.{Entry, State, Runs, word_at, touched, touches_empty, touches_empty_at, keeps_saved, execute, decoded, fetched, stepped, is_ret, machine_step, of_kind, same_kind, site_among, site_at}
-use Rattle.a64_run.specs.Moments.{IsProperState, TouchesAbove, decoded_word, instruction_at, registers_next, site_here}
+use Rattle.a64_run.specs.Machine.{Entry, State, Runs, word_at, touched, touches_empty, touches_empty_at, execute, decoded, fetched, stepped, is_ret, machine_step, of_kind, same_kind, site_among, site_at}
+use Rattle.a64_run.specs.Moments.{IsProperState, KeepsFrame, TouchesAbove, decoded_word, instruction_at, registers_next, site_here}
 
 -- an address of the text is that of its word k
 byte_of_word : (code k address : ℕ) → address ≡ code + 4 * k → (nat_le code address ≡ true) × (nat_eq ((address - code) % 4) 0 ≡ true)
@@ -67,9 +67,9 @@ is_proper e s k inst none at there decodes aligned above platform =
       aligned = aligned;
       access = λ other found. subst (TouchesAbove e s) (same other found) above;
       platform = λ other found. subst (λ (i : Inst). (registers_next s i).x 18 ≡ s.registers.x 18) (same other found) platform;
-      patchpoint = λ site found. no_other (site_here e s Patchpoint) site (keeps_saved e s ≡ true) (no_site e s.registers.pc Patchpoint none) found;
-      exit = λ site found. no_other (site_here e s Exit) site (keeps_saved e s ≡ true) (no_site e s.registers.pc Exit none) found;
-      call = λ site found. no_other (site_here e s Call) site (s.registers.sp ≡ e.start.sp - e.frame.bytes) (no_site e s.registers.pc Call none) found;
+      patchpoint = λ site found. no_other (site_here e s Patchpoint) site (KeepsFrame e s) (no_site e s.registers.pc Patchpoint none) found;
+      exit = λ site found. no_other (site_here e s Exit) site (KeepsFrame e s) (no_site e s.registers.pc Exit none) found;
+      call = λ site found. no_other (site_here e s Call) site (KeepsFrame e s) (no_site e s.registers.pc Call none) found;
     }
 
 -- where it touches no empty byte of the frame, ends as the next instruction does, is no RET and
@@ -115,8 +115,8 @@ word_executes e s k inst none at there decodes =
 pub word_is_proper : (e : Entry) (s : State) (k : ℕ) (inst : Inst) → site_here e s Patchpoint ≡ None → s.registers.pc ≡ e.start.code + 4 * k
     → slice_get e.object.text k ≡ Some (word inst) → decode (word inst) ≡ Some inst
     → s.registers.sp % 16 ≡ 0 → TouchesAbove e s inst → (registers_next s inst).x 18 ≡ s.registers.x 18
-    → ((site : Site) → site_here e s Exit ≡ Some site → keeps_saved e s ≡ true)
-    → ((site : Site) → site_here e s Call ≡ Some site → s.registers.sp ≡ e.start.sp - e.frame.bytes) → IsProperState e s
+    → ((site : Site) → site_here e s Exit ≡ Some site → KeepsFrame e s)
+    → ((site : Site) → site_here e s Call ≡ Some site → KeepsFrame e s) → IsProperState e s
 word_is_proper e s k inst none at there decodes aligned above platform exit call =
     let is : instruction_at e s ≡ Some inst =
     ap (λ (site : Option Site). if is_some site then None else decoded_word (word_at e s.registers.pc)) none
@@ -126,14 +126,14 @@ word_is_proper e s k inst none at there decodes aligned above platform exit call
       aligned = aligned;
       access = λ other found. subst (TouchesAbove e s) (same other found) above;
       platform = λ other found. subst (λ (i : Inst). (registers_next s i).x 18 ≡ s.registers.x 18) (same other found) platform;
-      patchpoint = λ site found. no_other (site_here e s Patchpoint) site (keeps_saved e s ≡ true) none found;
+      patchpoint = λ site found. no_other (site_here e s Patchpoint) site (KeepsFrame e s) none found;
       exit = exit;
       call = call;
     }
 
 -- at a patchpoint no instruction is taken
 pub patchpoint_is_proper : (e : Entry) (s : State) (site : Site) → site_at e s.registers.pc ≡ Some site → site.kind ≡ Patchpoint
-    → s.registers.sp % 16 ≡ 0 → keeps_saved e s ≡ true → IsProperState e s
+    → s.registers.sp % 16 ≡ 0 → KeepsFrame e s → IsProperState e s
 patchpoint_is_proper e s site at kind aligned kept =
     let here : site_here e s Patchpoint ≡ Some site = ap (of_kind Patchpoint) at ∙ of_kind-itself Patchpoint site kind refl in
     let no_exit : site_here e s Exit ≡ None = ap (of_kind Exit) at ∙ of_kind-other Exit Patchpoint site kind refl in
@@ -144,6 +144,6 @@ patchpoint_is_proper e s site at kind aligned kept =
       access = λ inst found. no_other (instruction_at e s) inst (TouchesAbove e s inst) none found;
       platform = λ inst found. no_other (instruction_at e s) inst ((registers_next s inst).x 18 ≡ s.registers.x 18) none found;
       patchpoint = λ other found. kept;
-      exit = λ other found. no_other (site_here e s Exit) other (keeps_saved e s ≡ true) no_exit found;
-      call = λ other found. no_other (site_here e s Call) other (s.registers.sp ≡ e.start.sp - e.frame.bytes) no_call found;
+      exit = λ other found. no_other (site_here e s Exit) other (KeepsFrame e s) no_exit found;
+      call = λ other found. no_other (site_here e s Call) other (KeepsFrame e s) no_call found;
     }

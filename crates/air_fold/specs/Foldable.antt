@@ -190,10 +190,11 @@ module _ (x : Index) where
   abbrev pub pointer_of : ℕ → Opcode → Bool → Known → Bool
   pointer_of user op is_word k = pointer_fits (access_bytes op (known x user)) is_word (known x user).offset k
 
-  -- as a first child a comparison fits as the condition of a Branch or a Select, a test of a bit as that of a Branch,
-  -- and a sum as the pointer of a load
+  -- as a first child a comparison fits as the condition of a Branch, a Check or a Select, a test of a bit as that of a
+  -- Branch or a Check, and a sum as the pointer of a load
   abbrev pub first_fits : Opcode → ℕ → Known → Bool
   first_fits opcode.Branch user k = is_comparison k.opcode || is_bit_test k
+  first_fits opcode.Check user k = is_comparison k.opcode || is_bit_test k
   first_fits opcode.Select user k = is_comparison k.opcode
   first_fits opcode.Load8Z user k = pointer_of user opcode.Load8Z false k
   first_fits opcode.Load8S user k = pointer_of user opcode.Load8S false k

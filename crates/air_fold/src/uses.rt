@@ -117,7 +117,7 @@ fn first_fits(index: &Index, known: Known, used: Used) -> bool
     ensures { result ≡ fold.first_fits index.now used.opcode used.user known }
 {
     match used.opcode {
-        Opcode::Branch => is_comparison(known.opcode) || is_bit_test(index, known),
+        Opcode::Branch | Opcode::Check => is_comparison(known.opcode) || is_bit_test(index, known),
         Opcode::Select => is_comparison(known.opcode),
         Opcode::Load8Z | Opcode::Load8S | Opcode::Load16Z | Opcode::Load16S => {
             pointer_fits(index, used, false, known)

@@ -82,7 +82,7 @@ and_parts true true e = (refl, refl)
 and_parts true false e = absurd (cc)
 and_parts false b e = absurd (cc)
 
-or_parts : (a b : Bool) → (a || b) ≡ true → (a ≡ true) ⊎ (b ≡ true)
+pub or_parts : (a b : Bool) → (a || b) ≡ true → (a ≡ true) ⊎ (b ≡ true)
 or_parts true b e = inl refl
 or_parts false b e = inr e
 

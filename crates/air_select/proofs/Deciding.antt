@@ -1,4 +1,4 @@
--- A condition: the test of a Branch or a Select passes exactly where the word of its child isn't 0.
+-- A condition: the test of a Branch, a Check or a Select passes exactly where the word of its child isn't 0.
 use Rattle.std.proofs.Common.{◌≡◌, ◌≢◌, ℕ, zero, suc, ◌*◌, ◌^◌, ◌<◌, ◌⊎◌, inl, inr, Bool, true, false, ◌&&◌, ◌||◌, List, [], ◌∷◌, ◌++◌, map, Some, nat_eq, refl, sym, ap, ◌∙◌, subst, arith, ⊎_elim}
 use Rattle.std.specs.Prelude.{Contains, if◌then◌else◌, not, slice_get}
 use Rattle.std.specs.Int.{bit_at}

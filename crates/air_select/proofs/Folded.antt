@@ -36,8 +36,9 @@ use Rattle.air_ir.specs.declared.procedure.AirBlock.{AirBlock}
 use Rattle.air_ir.specs.declared.procedure.AirInst.{AirInst}
 use Rattle.air_select.specs.Contract.{CarriesBits, CarriesComparisons, CarriesConstants, CarriesStored, CarriesSums, HasAddress, HasFirst, HasSecond, IsFolded, IsMade, NoneIsMade, TestsBit, TestsComparison, carried_word, test_in}
 use Rattle.air_fold.specs.Foldable.{access_bytes, bit_of, first_fits, first_immediates, is_add, is_and, is_bit, is_bit_test, is_comparison, is_constant, is_foldable, is_immediate, is_index, is_pointer, is_shl, is_store, is_three, pointer_of, pointers, reaches, second_fits, second_immediates, sum_fits, uses, value_fits}
-use Rattle.air_select.specs.Selected.{Condition, Tables, access, address_of, arg_of, before_access, block_code, branch_on, code_of, computes, condition, condition_of, entry_of, folds, inst, last_id, load_of, negative_amount, op_of, result_of, rotate_by, select_on, selected, selected_by, store_of, sum_address, tables, turned, use_at, use_of, value_code}
+use Rattle.air_select.specs.Selected.{Condition, Tables, access, address_of, arg_of, before_access, block_code, branch_on, check_on, code_of, computes, condition, condition_of, entry_of, folds, inst, last_id, load_of, negative_amount, op_of, reported_behind, result_of, rotate_by, select_on, selected, selected_by, store_of, sum_address, tables, turned, use_at, use_of, value_code}
 use Rattle.air_select.specs.Temporaries.{first_extra}
+use Rattle.air_stackmap.specs.SiteCode.{child_moves, site_inst}
 use Rattle.air_fold.specs.Values.{Index, child, ids_of, index_of, known, known_in, width_at, word_in}
 use Rattle.air_fold.specs.declared.known.Known.{Known}
 use Rattle.air_select.proofs.Children.{fit_cases}
@@ -122,11 +123,13 @@ not_both b e f = let bad : true ≡ false = sym e ∙ f in cc
 -- which conditions fit
 abbrev condition_fits : Index → Opcode → ℕ → Known → Bool
 condition_fits x opcode.Branch zero k = is_comparison k.opcode || is_bit_test x k
+condition_fits x opcode.Check zero k = is_comparison k.opcode || is_bit_test x k
 condition_fits x opcode.Select zero k = is_comparison k.opcode
 condition_fits x op at k = false
 
 user_kind : (x : Index) (o : Opcode) (i : ℕ) (k : Known) → condition_fits x o i k ≡ true → HasNoKind o
 user_kind x opcode.Branch i k e = record { constant = refl; comparison = refl; conjunction = refl; sum = refl; shift = refl }
+user_kind x opcode.Check i k e = record { constant = refl; comparison = refl; conjunction = refl; sum = refl; shift = refl }
 user_kind x opcode.Select i k e = record { constant = refl; comparison = refl; conjunction = refl; sum = refl; shift = refl }
 user_kind x _ i k e = absurd cc
 
@@ -137,6 +140,7 @@ no_sum_fits x user o w k e other =
 
 only_first : (x : Index) (o : Opcode) (user : ℕ) (k : Known) → first_fits x o user k ≡ true → (is_add k.opcode ≡ true → ⊥) → condition_fits x o 0 k ≡ true
 only_first x opcode.Branch user k e other = e
+only_first x opcode.Check user k e other = e
 only_first x opcode.Select user k e other = e
 only_first x opcode.Load8Z user k e other = absurd (no_sum_fits x user opcode.Load8Z false k e other)
 only_first x opcode.Load8S user k e other = absurd (no_sum_fits x user opcode.Load8S false k e other)
@@ -198,10 +202,13 @@ add_facts _ e = absurd cc
 no_test : (x : Index) (k : Known) → is_and k.opcode ≡ false → is_bit_test x k ≡ true → ⊥
 no_test x k none e = not_both (is_and k.opcode) (both_first (is_and k.opcode) (is_constant (known x k.second).opcode && is_bit (known x k.second).word) e) none
 
+add_no_condition : (x : Index) (k : Known) → (is_comparison k.opcode || is_bit_test x k) ≡ true → is_add k.opcode ≡ true → ⊥
+add_no_condition x k e add =
+    let facts = add_facts k.opcode add in no_test x k facts.1 (sym (ap (λ b. b || is_bit_test x k) facts.0) ∙ e)
+
 add_first : (x : Index) (o : Opcode) (user : ℕ) (k : Known) → first_fits x o user k ≡ true → is_add k.opcode ≡ true → is_access o ≡ true
-add_first x opcode.Branch user k e add =
-    let facts = add_facts k.opcode add in
-    absurd (no_test x k facts.1 (sym (ap (λ b. b || is_bit_test x k) facts.0) ∙ e))
+add_first x opcode.Branch user k e add = absurd (add_no_condition x k e add)
+add_first x opcode.Check user k e add = absurd (add_no_condition x k e add)
 add_first x opcode.Select user k e add = absurd (not_both (is_comparison k.opcode) e (add_facts k.opcode add).0)
 add_first x opcode.Load8Z user k e add = refl
 add_first x opcode.Load8S user k e add = refl
@@ -391,6 +398,14 @@ module _ (t : Tables) (v : Value) (id : ℕ) (folded : folds t id ≡ true) wher
   abbrev Compared : Known → AirInst → Type 0
   Compared k i = (test_in i.op ≡ Compare (condition k.opcode) ∷ []) × (take 2 i.operands ≡ use_of t k.first ∷ use_of t k.second ∷ [])
 
+  -- the code of a check ends with the instruction of its condition
+  checks_on : (c : Condition) (Has : AirInst → Type 0) → Has (site_inst v (op.CheckIf c.test) c.over (reported_behind t 1 v) [])
+      → HasInst (check_on t v c) Has
+  checks_on c Has has =
+      let moves = child_moves v (reported_behind t 1 v) in
+      let last : AirInst = site_inst v (op.CheckIf c.test) c.over (reported_behind t 1 v) [] in
+      (length moves + 0, last, get_behind moves (last ∷ []) 0, has)
+
   carries_comparison : (o : Opcode) (i : ℕ) → condition_fits t.index o i (known t.index id) ≡ true → is_comparison (known t.index id).opcode ≡ true
       → slice_get v.children i ≡ Some id → HasInst (code_of t o v) (Compared (known t.index id))
   carries_comparison opcode.Branch zero e is at =
@@ -406,29 +421,49 @@ module _ (t : Tables) (v : Value) (id : ℕ) (folded : folds t id ≡ true) wher
         refl,
         (refl, refl),
       )
+  carries_comparison opcode.Check zero e is at =
+      let c : condition_of t (child v.children 0) ≡ comparing (known t.index id) = ap (condition_of t) (child_is v.children 0 id at) ∙ compares is in
+      subst (λ (d : Condition). HasInst (check_on t v d) (Compared (known t.index id))) (sym c)
+      (checks_on (comparing (known t.index id)) (Compared (known t.index id)) (refl, refl))
   carries_comparison opcode.Branch (suc i) e is at = absurd cc
+  carries_comparison opcode.Check (suc i) e is at = absurd cc
   carries_comparison opcode.Select (suc i) e is at = absurd cc
   carries_comparison _ i e is at = absurd cc
 
   abbrev BitTested : Known → AirInst → Type 0
   BitTested k i =
       (is_bit (known t.index k.second).word ≡ true) × (test_in i.op ≡ Bit (bit_of (known t.index k.second).word) ∷ [])
-      × (i.operands ≡ use_of t k.first ∷ [])
+      × (take 1 i.operands ≡ use_of t k.first ∷ [])
+
+  -- what fits as a condition and is a conjunction is the test of a bit
+  bit_fits : (is_comparison (known t.index id).opcode || is_bit_test t.index (known t.index id)) ≡ true → is_and (known t.index id).opcode ≡ true
+      → slice_get v.children 0 ≡ Some id
+      → (is_bit (known t.index (known t.index id).second).word ≡ true) × (condition_of t (child v.children 0) ≡ bit_testing (known t.index id))
+  bit_fits e is at =
+      let k = known t.index id in
+      let other : is_comparison k.opcode ≡ false = and_no_comparison k.opcode is in
+      let test : is_bit_test t.index k ≡ true = sym (ap (λ b. b || is_bit_test t.index k) other) ∙ e in
+      let second : (is_constant (known t.index k.second).opcode && is_bit (known t.index k.second).word) ≡ true =
+      both_second (is_and k.opcode) (is_constant (known t.index k.second).opcode && is_bit (known t.index k.second).word) test in (
+        both_second (is_constant (known t.index k.second).opcode) (is_bit (known t.index k.second).word) second,
+        ap (condition_of t) (child_is v.children 0 id at) ∙ tests_bit other,
+      )
 
   carries_bit : (o : Opcode) (i : ℕ) → condition_fits t.index o i (known t.index id) ≡ true → is_and (known t.index id).opcode ≡ true
       → slice_get v.children i ≡ Some id → HasInst (code_of t o v) (BitTested (known t.index id))
   carries_bit opcode.Branch zero e is at =
       let k = known t.index id in
-      let other : is_comparison k.opcode ≡ false = and_no_comparison k.opcode is in
-      let test : is_bit_test t.index k ≡ true = sym (ap (λ b. b || is_bit_test t.index k) other) ∙ e in
-      let second : (is_constant (known t.index k.second).opcode && is_bit (known t.index k.second).word) ≡ true =
-      both_second (is_and k.opcode) (is_constant (known t.index k.second).opcode && is_bit (known t.index k.second).word) test in
-      let bit = both_second (is_constant (known t.index k.second).opcode) (is_bit (known t.index k.second).word) second in
-      let c : condition_of t (child v.children 0) ≡ bit_testing k = ap (condition_of t) (child_is v.children 0 id at) ∙ tests_bit other in
-      subst (λ (d : Condition). HasInst (branch_on t v d) (BitTested k)) (sym c)
-      (0, inst v (op.BranchIf (bit_testing k).test) (bit_testing k).over, refl, (bit, refl, refl))
+      let fits = bit_fits e is at in
+      subst (λ (d : Condition). HasInst (branch_on t v d) (BitTested k)) (sym fits.1)
+      (0, inst v (op.BranchIf (bit_testing k).test) (bit_testing k).over, refl, (fits.0, refl, refl))
+  carries_bit opcode.Check zero e is at =
+      let k = known t.index id in
+      let fits = bit_fits e is at in
+      subst (λ (d : Condition). HasInst (check_on t v d) (BitTested k)) (sym fits.1)
+      (checks_on (bit_testing k) (BitTested k) (fits.0, refl, refl))
   carries_bit opcode.Select zero e is at = absurd (not_both (is_comparison (known t.index id).opcode) e (and_no_comparison (known t.index id).opcode is))
   carries_bit opcode.Branch (suc i) e is at = absurd cc
+  carries_bit opcode.Check (suc i) e is at = absurd cc
   carries_bit opcode.Select (suc i) e is at = absurd cc
   carries_bit _ i e is at = absurd cc
 

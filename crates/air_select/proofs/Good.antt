@@ -595,10 +595,10 @@ module _ (p : Procedure) (valid : IsValidProcedure p) (fit : ValuesFit p.blocks)
         let few = behind_count v.children 8 ((valid rule.Sizes (ValueAt b j v) at).0 is) in
         call_all t v Has
         (λ k c there.
-        let fits = site_child p kept t sound b v here opcode.CCall is refl (suc k) c (behind_first v.children k c there) in
+        let fits = site_child p kept t sound b v here opcode.CCall is refl (suc k) c refl (behind_first v.children k c there) in
         move_has (width_at t.index c) (arg_of t c) (register (0 + k)) (home_word (width_of (type_of p c)) c fits AnyWord (width_at t.index c)))
         (call_is (drop 1 v.children) few (child v.children 0) callee.1
-        (site_child p kept t sound b v here opcode.CCall is refl 0 (child v.children 0) callee.0))
+        (site_child p kept t sound b v here opcode.CCall is refl 0 (child v.children 0) refl callee.0))
         (move_has (width_of v.ty) (At (register 0)) (home t.index v.id) tt)
 
     its_known : known t.index v.id ≡ known_in b v

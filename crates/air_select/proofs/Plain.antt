@@ -94,6 +94,7 @@ one_op_pure _ e = refl
 -- which opcodes have a child at which a value fits that is no constant
 abbrev pub takes_values : Opcode → Bool
 takes_values opcode.Branch = true
+takes_values opcode.Check = true
 takes_values opcode.Select = true
 takes_values opcode.Add = true
 takes_values opcode.Load8Z = true
@@ -108,6 +109,7 @@ takes_values _ = false
 
 no_first : (x : Index) (o : Opcode) (user : ℕ) (k : Known) → takes_values o ≡ false → first_fits x o user k ≡ false
 no_first x opcode.Branch user k e = absurd cc
+no_first x opcode.Check user k e = absurd cc
 no_first x opcode.Select user k e = absurd cc
 no_first x opcode.Load8Z user k e = absurd cc
 no_first x opcode.Load8S user k e = absurd cc
@@ -128,24 +130,28 @@ no_value x f o zero user k e = no_first x o user k e
 no_value x f o (suc zero) user k e = no_second x f o user k e
 no_value x f o (suc (suc i)) user k e = refl
 
--- a call, a patchpoint and a check have none
-pub site_values : (o : Opcode) → is_site o ≡ true → takes_values o ≡ false
-site_values opcode.Branch e = absurd cc
-site_values opcode.Select e = absurd cc
-site_values opcode.Add e = absurd cc
-site_values opcode.Load8Z e = absurd cc
-site_values opcode.Load8S e = absurd cc
-site_values opcode.Load16Z e = absurd cc
-site_values opcode.Load16S e = absurd cc
-site_values opcode.Load e = absurd cc
-site_values opcode.Store8 e = absurd cc
-site_values opcode.Store16 e = absurd cc
-site_values opcode.Store e = absurd cc
-site_values _ e = refl
+-- the child that is the condition of a Check
+abbrev pub is_condition : Opcode → ℕ → Bool
+is_condition opcode.Check zero = true
+is_condition _ i = false
+
+-- a call, a patchpoint and a check have no other child at which one fits
+pub site_values : (x : Index) (f : List Bool) (o : Opcode) (i user : ℕ) (k : Known) → is_site o ≡ true → is_condition o i ≡ false
+    → value_fits x f o i user k ≡ false
+site_values x f opcode.Check zero user k e other = absurd cc
+site_values x f opcode.Check (suc zero) user k e other = refl
+site_values x f opcode.Check (suc (suc i)) user k e other = refl
+site_values x f opcode.CCall i user k e other = no_value x f opcode.CCall i user k refl
+site_values x f opcode.Patchpoint i user k e other = no_value x f opcode.Patchpoint i user k refl
+site_values x f opcode.CheckAdd i user k e other = no_value x f opcode.CheckAdd i user k refl
+site_values x f opcode.CheckSub i user k e other = no_value x f opcode.CheckSub i user k refl
+site_values x f opcode.CheckMul i user k e other = no_value x f opcode.CheckMul i user k refl
+site_values x f _ i user k e other = absurd cc
 
 one_op_values : (o : Opcode) → is_one_op o ≡ true → (is_add o ≡ true) ⊎ (takes_values o ≡ false)
 one_op_values opcode.Add e = inl refl
 one_op_values opcode.Branch e = absurd cc
+one_op_values opcode.Check e = absurd cc
 one_op_values opcode.Select e = absurd cc
 one_op_values opcode.Load8Z e = absurd cc
 one_op_values opcode.Load8S e = absurd cc

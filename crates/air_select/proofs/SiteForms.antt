@@ -29,7 +29,7 @@ use Rattle.air_ir.specs.Forms.{Fits, Immediates, NoImmediate, Word}
 use Rattle.air_stackmap.specs.Described.{AreReported, IsKnown, IsSmall, Stands, Sums}
 use Rattle.air_stackmap.specs.declared.child.Child.{Child}
 use Rattle.air_stackmap.proofs.Kept.{HasItsMap, its_map}
-use Rattle.air_fold.specs.Foldable.{constant_fits, is_constant, pointers, sum_fits, value_fits}
+use Rattle.air_fold.specs.Foldable.{constant_fits, is_bit_test, is_comparison, is_constant, pointers, sum_fits, value_fits}
 use Rattle.air_fold.specs.Values.{child, known, width_at}
 use Rattle.air_select.specs.Selected.{Tables, child_of, condition_of, result_of, use_of}
 use Rattle.air_stackmap.specs.Laws.{has_stackmap as has_map}
@@ -38,9 +38,10 @@ use Rattle.air_select.specs.Temporaries.{home}
 use Rattle.air_select.proofs.Forms as forms
 use Rattle.air_select.proofs.Forms.{fit_two}
 use Rattle.air_select.proofs.Operands.{constant_small, constant_value, no_immediate, no_sum}
-use Rattle.air_select.proofs.Plain.{no_value, site_values}
+use Rattle.air_select.proofs.Plain.{is_condition, site_values}
 use Rattle.air_select.proofs.Returned.{contains_at}
 use Rattle.air_select.proofs.Setting.{IsSound}
+use Rattle.air_select.proofs.Children.{or_parts}
 use Rattle.air_select.proofs.Tested.{IsTested, condition_tested}
 
 -- ---- rows
@@ -155,13 +156,13 @@ module _ (p : Procedure) (kept : IsKept p) (t : Tables) (sound : IsSound p t) wh
       by false other = tt
 
   module _ (b : ℕ) (v : Value) (here : Contains (values_of p b) v) where
-    -- a child of a call, a patchpoint or a check stands in its home
-    pub site_child : (o : Opcode) → v.kind.opcode ≡ o → is_site o ≡ true → (i c : ℕ) → slice_get v.children i ≡ Some c
+    -- a child of a call, a patchpoint or a check stands in its home, but for the condition of a Check
+    pub site_child : (o : Opcode) → v.kind.opcode ≡ o → is_site o ≡ true → (i c : ℕ) → is_condition o i ≡ false → slice_get v.children i ≡ Some c
         → Fits (Word (width_of (type_of p c)) NoImmediate) (use_of t c)
-    site_child o is site i c at =
+    site_child o is site i c other at =
         subst (λ (m : Immediates). Fits (Word (width_of (type_of p c)) m) (use_of t c)) (no_immediate o i site)
         (forms.child_as p kept t sound b v here o is i c (type_of p c) at
-        (λ k. no_value t.index (pointers p) o i v.id k (site_values o site)) (no_sum t.index (pointers p) o i v.id site) refl
+        (λ k. site_values t.index (pointers p) o i v.id k site other) (no_sum t.index (pointers p) o i v.id site) refl
         (typed_child p kept b v here i c at))
 
     -- ---- what is reported
@@ -192,13 +193,13 @@ module _ (p : Procedure) (kept : IsKept p) (t : Tables) (sound : IsSound p t) wh
     -- ---- what is computed
 
     -- the two words of a check, and its result
-    pub sums_here : (o : Opcode) → v.kind.opcode ≡ o → is_site o ≡ true → (a : Ty) → AreTaken a (Alike ∷ Alike ∷ []) Reported (types_of p v) → v.ty ≡ a
+    pub sums_here : (o : Opcode) → v.kind.opcode ≡ o → is_site o ≡ true → ((i : ℕ) → is_condition o i ≡ false) → (a : Ty) → AreTaken a (Alike ∷ Alike ∷ []) Reported (types_of p v) → v.ty ≡ a
         → Sums (use_of t (child v.children 0) ∷ use_of t (child v.children 1) ∷ []) (result_of t v ∷ [])
-    sums_here o is site a taken own =
+    sums_here o is site other a taken own =
         let w = width_of a in
         let two = two_first (type_of p) a v.children taken in
-        let x = site_child o is site 0 (child v.children 0) two.first in
-        let y = site_child o is site 1 (child v.children 1) two.second in (
+        let x = site_child o is site 0 (child v.children 0) (other 0) two.first in
+        let y = site_child o is site 1 (child v.children 1) (other 1) two.second in (
           w,
           fit_two (Word w NoImmediate) (Word w NoImmediate) (use_of t (child v.children 0)) (use_of t (child v.children 1))
               (subst (λ (ty : Ty). Fits (Word (width_of ty) NoImmediate) (use_of t (child v.children 0))) two.one x)
@@ -212,14 +213,14 @@ module _ (p : Procedure) (kept : IsKept p) (t : Tables) (sound : IsSound p t) wh
         let row = row_here p kept b v here opcode.Check is in
         let one = one_first (type_of p) row.alike v.children row.children in
         condition_tested p kept t sound b v here (child v.children 0) one.0 one.1
-        (λ k fits. absurd (let none : false ≡ true = sym (ap (λ q. value_fits t.index (pointers p) q 0 v.id k) is) ∙ fits in cc))
+        (λ k fits. or_parts (is_comparison k.opcode) (is_bit_test t.index k) (sym (ap (λ q. value_fits t.index (pointers p) q 0 v.id k) is) ∙ fits))
         (λ width word. ap (λ q. constant_fits q 0 width word) is) (ap (λ q. sum_fits t.index (pointers p) q 0 v.id) is)
 
     pub sums_of : (o : Opcode) → v.kind.opcode ≡ o → (o ≡ opcode.CheckAdd) ⊎ ((o ≡ opcode.CheckSub) ⊎ (o ≡ opcode.CheckMul))
         → Sums (use_of t (child v.children 0) ∷ use_of t (child v.children 1) ∷ []) (result_of t v ∷ [])
     sums_of o is (inl add) =
-        let e = is ∙ add in let row = row_here p kept b v here opcode.CheckAdd e in sums_here opcode.CheckAdd e refl row.alike row.children row.gives
+        let e = is ∙ add in let row = row_here p kept b v here opcode.CheckAdd e in sums_here opcode.CheckAdd e refl (λ i. refl) row.alike row.children row.gives
     sums_of o is (inr (inl sub)) =
-        let e = is ∙ sub in let row = row_here p kept b v here opcode.CheckSub e in sums_here opcode.CheckSub e refl row.alike row.children row.gives
+        let e = is ∙ sub in let row = row_here p kept b v here opcode.CheckSub e in sums_here opcode.CheckSub e refl (λ i. refl) row.alike row.children row.gives
     sums_of o is (inr (inr mul)) =
-        let e = is ∙ mul in let row = row_here p kept b v here opcode.CheckMul e in sums_here opcode.CheckMul e refl row.alike row.children row.gives
+        let e = is ∙ mul in let row = row_here p kept b v here opcode.CheckMul e in sums_here opcode.CheckMul e refl (λ i. refl) row.alike row.children row.gives

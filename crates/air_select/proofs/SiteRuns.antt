@@ -1,5 +1,5 @@
 -- The runs of patchpoints and checks: their children are put into registers, and the site reads their words.
-use Rattle.std.proofs.Common.{◌≡◌, ℕ, ℤ, pos, negsuc, ◌*◌, ◌^◌, ◌<◌, inl, inr, Bool, true, false, ◌&&◌, List, [], ◌∷◌, ◌++◌, Option, Some, None, map, drop, length, append-nil, append_assoc, refl, sym, ap, ◌∙◌, subst, arith}
+use Rattle.std.proofs.Common.{◌≡◌, ℕ, suc, ℤ, pos, negsuc, ◌*◌, ◌^◌, ◌<◌, inl, inr, Bool, true, false, ◌&&◌, List, [], ◌∷◌, ◌++◌, Option, Some, None, map, drop, length, append-nil, append_assoc, refl, sym, ap, ◌∙◌, subst, arith}
 use Rattle.std.specs.Prelude.{All, Contains, if◌then◌else◌, not, nat_eq, slice_get}
 use Rattle.std.proofs.lemmas.Bool.{ltb-true}
 use Rattle.std.proofs.lemmas.List.{length-map}
@@ -58,7 +58,7 @@ use Rattle.air_stackmap.specs.declared.child.Child.{Child}
 use Rattle.air_stackmap.proofs.Expressed.{parts_fit}
 use Rattle.air_stackmap.proofs.Reading.{changed_are_registers, inputs_read, site_reads, site_writes}
 use Rattle.air_stackmap.proofs.Running.{moves_keep, moves_run}
-use Rattle.air_fold.specs.Foldable.{bit_of, constant_fits, is_comparison, is_constant, pointers, sum_fits, value_fits}
+use Rattle.air_fold.specs.Foldable.{bit_of, constant_fits, is_bit_test, is_comparison, is_constant, pointers, sum_fits, value_fits}
 use Rattle.air_fold.specs.Values.{child, known, place, width_at}
 use Rattle.air_select.specs.Selected.{Condition, Tables, arg_of, check_on, checked_of, child_of, condition, condition_of, folded_condition, folds, move, patched_from, patchpoint_of, register, result_from, result_of, use_of}
 use Rattle.air_stackmap.specs.Laws.{has_stackmap as has_map}
@@ -66,13 +66,13 @@ use Rattle.air_select.specs.Sited.{computed_count, is_site}
 use Rattle.air_select.specs.Temporaries.{home}
 use Rattle.air_select.proofs.Asking.{WritesNoTmp, asks_does, bare, over, own, target_in}
 use Rattle.air_select.proofs.Calls.{child_at}
-use Rattle.air_select.proofs.Children.{known_word, unfolded, width_is, word_small, words_cons, words_nil}
+use Rattle.air_select.proofs.Children.{known_word, or_parts, unfolded, width_is, word_small, words_cons, words_nil}
 use Rattle.air_select.proofs.Deciding.{Decides, decides}
 use Rattle.air_select.proofs.Does.{DoesSome, Here, allows, are_words, at, here, words_here}
 use Rattle.air_select.proofs.Facts.{child_ran}
 use Rattle.air_select.proofs.Instructions.{at_home, of_immediate, reads_none, reads_use, writes_def, writes_none}
 use Rattle.air_select.proofs.Operands.{never_constant, no_sum}
-use Rattle.air_select.proofs.Plain.{child_place, copying, no_value, site_values}
+use Rattle.air_select.proofs.Plain.{child_place, copying, is_condition, site_values, takes_values}
 use Rattle.air_select.proofs.Related.{Related, kept_related, low_word}
 use Rattle.air_select.proofs.SiteForms.{constraints_counted, map_site, sums_of, tests_here}
 use Rattle.air_select.proofs.Leaving.{same_seen}
@@ -132,15 +132,20 @@ module _ (p : Procedure) (t : Tables) (start : Start) (v : Value) (h : Here p t 
 
   -- ---- children
 
-  -- a child is not folded, and so it is found in its home, or as its word
-  home_here : (id : ℕ) → Contains v.children id → folds t id ≡ false
-  home_here id among =
-      let place = child_place v.children id among in
-      unfolded p h.valid t h.sound start h.block v (here p t start v h) place.0 id place.1
-      (λ k. no_value t.index (pointers p) v.kind.opcode place.0 v.id k (site_values v.kind.opcode site))
-      (λ width word. never_constant v.kind.opcode place.0 width word site) (no_sum t.index (pointers p) v.kind.opcode place.0 v.id site)
+  -- a child that is no condition
+  record IsReported (id : ℕ) : Type 0 where
+    at : ℕ
+    there : slice_get v.children at ≡ Some id
+    other : is_condition v.kind.opcode at ≡ false
 
-  found : (id w : ℕ) → Contains v.children id → h.st.words id ≡ Some w
+  -- it is not folded, and so it is found in its home, or as its word
+  home_here : (id : ℕ) → IsReported id → folds t id ≡ false
+  home_here id among =
+      unfolded p h.valid t h.sound start h.block v (here p t start v h) among.at id among.there
+      (λ k. site_values t.index (pointers p) v.kind.opcode among.at v.id k site among.other)
+      (λ width word. never_constant v.kind.opcode among.at width word site) (no_sum t.index (pointers p) v.kind.opcode among.at v.id site)
+
+  found : (id w : ℕ) → IsReported id → h.st.words id ≡ Some w
       → word_of h.s.homes (width_at t.index id) (sites.arg_of (child_of t id)) ≡ Some w
   found id w among now = by (is_constant (known t.index id).opcode) refl
     where
@@ -148,13 +153,14 @@ module _ (p : Procedure) (t : Tables) (start : Start) (v : Value) (h : Here p t 
           → word_of h.s.homes (width_at t.index id) (sites.arg_by (if c then Some (known t.index id).word else None) (home t.index id)) ≡ Some w
       by false other = at_home h.s.homes (width_at t.index id) (home t.index id) w (h.related.words id w now (home_here id among))
       by true const =
-          let ran = child_ran p h.valid h.passed h.block h.before h.st h.reached v (at p t start v h) id among in
+          let ran = child_ran p h.valid h.passed h.block h.before h.st h.reached v (at p t start v h) id
+          (contains_at v.children among.at id among.there) in
           let is = known_word p h.valid t h.sound start h.passed h.block h.before (v ∷ h.rest) h.stands h.st h.reached h.s h.related id w ran const now in
           let small = word_small p h.valid t h.sound start h.passed h.block h.before (v ∷ h.rest) h.stands h.st h.reached h.s h.related id w now in
           of_immediate h.s.homes (width_at t.index id) (known t.index id).word ∙ ap (λ n. Some (low (width_at t.index id) n)) is
           ∙ ap Some (low_word (width_at t.index id) w small)
 
-  have_words : (ids ws : List ℕ) → ((id : ℕ) → Contains ids id → Contains v.children id) → b3.words_of (type_of p) h.st.words ids ≡ Some ws
+  have_words : (ids ws : List ℕ) → ((id : ℕ) → Contains ids id → IsReported id) → b3.words_of (type_of p) h.st.words ids ≡ Some ws
       → HaveWords h.s.homes (map (child_of t) ids) ws
   unfolding HaveWords
   have_words [] ws among e = subst (HaveWords h.s.homes []) (sym (words_nil (type_of p) h.st.words ws e)) tt
@@ -187,7 +193,7 @@ module _ (p : Procedure) (t : Tables) (start : Start) (v : Value) (h : Here p t 
   all_free : (ids : List ℕ) → All StandsFree (map (child_of t) ids)
   all_free ids = All-map StandsFree (child_of t) ids (all_of (λ id. StandsFree (child_of t id)) (λ id none. tt) ids)
 
-  module _ (ids ws : List ℕ) (among : (id : ℕ) → Contains ids id → Contains v.children id) (counts : length ids ≡ length (constraints_of v))
+  module _ (ids ws : List ℕ) (among : (id : ℕ) → Contains ids id → IsReported id) (counts : length ids ≡ length (constraints_of v))
       (now : b3.words_of (type_of p) h.st.words ids ≡ Some ws) where
     abbrev cs : List Child
     cs = map (child_of t) ids
@@ -338,6 +344,11 @@ module _ (p : Procedure) (t : Tables) (start : Start) (v : Value) (h : Here p t 
 
   -- ---- what is left of each opcode
 
+  -- each child is reported where none is a condition
+  all_reported : ((i : ℕ) → is_condition v.kind.opcode i ≡ false) → (id : ℕ) → Contains v.children id → IsReported id
+  all_reported other id has' =
+      let place = child_place v.children id has' in record { at = place.0; there = place.1; other = other place.0 }
+
   counts_here : (n : ℕ) → computed_count v.kind.opcode ≡ n → length (drop n v.children) ≡ length (constraints_of v)
   counts_here n is =
       subst (λ m. length (drop m v.children) ≡ length (constraints_of v)) is
@@ -403,7 +414,7 @@ module _ (p : Procedure) (t : Tables) (start : Start) (v : Value) (h : Here p t 
       ∙ ap (λ (l : List AirInst). child_moves v cs ++ i ∷ l) as_it_is.from in
       subst (λ (l : List AirInst). DoesSome p t start v (b3.patches h.st v (types_of p v) (words_here p t start v h)) (steps (meaning start) l h.s junk))
       (sym code)
-      (patched_with ids (words_here p t start v h) (λ id has'. has') (counts_here 0 (ap computed_count eo)) (are_words p t start v h) as_it_is.reg typed
+      (patched_with ids (words_here p t start v h) (all_reported (λ i. ap (λ (o : Opcode). is_condition o i) eo)) (counts_here 0 (ap computed_count eo)) (are_words p t start v h) as_it_is.reg typed
       as_it_is.into patch_computes (ap kind_of patch_is))
 
   tested_with : v.kind.opcode ≡ opcode.Check → (cs ws : List ℕ) → v.children ≡ cs → (alike : Ty) → AreTaken alike (Any ∷ []) Reported (map (type_of p) cs)
@@ -419,12 +430,22 @@ module _ (p : Procedure) (t : Tables) (start : Start) (v : Value) (h : Here p t 
       let tested = subst (λ (l : List ℕ). IsTested (condition_of t (child l 0))) is tests in
       let d = decides p t start v h c one.0 first (contains_at v.children 0 c first) one.3 (λ width word. ap (λ (q : Opcode). constant_fits q 0 width word) eo)
       (ap (λ (q : Opcode). sum_fits t.index (pointers p) q 0 v.id) eo)
-      (λ k fits. absurd (let none : false ≡ true = sym (ap (λ (q : Opcode). value_fits t.index (pointers p) q 0 v.id k) eo) ∙ fits in cc)) in
+      (λ k fits. or_parts (is_comparison k.opcode) (is_bit_test t.index k)
+      (sym (ap (λ (q : Opcode). value_fits t.index (pointers p) q 0 v.id k) eo) ∙ fits)) in
       subst (λ (l : List ℕ). DoesSome p t start v (b3.checks h.st v l)
       (steps (meaning start) (site_code v (op.CheckIf (condition_of t c).test) (condition_of t c).over (map (child_of t) cs) []) h.s junk)) (sym one.2)
-      (test_does cs one.1 (λ id has'. subst (λ (l : List ℕ). Contains l id) (sym is) (contains_tail c cs id has'))
+      (test_does cs one.1 behind
       (subst (λ (l : List ℕ). length (drop 1 l) ≡ length (constraints_of v)) is (counts_here 1 (ap computed_count eo))) one.4
       (condition_of t c) one.0 d (tested.0, tested.1, refl) (free_condition t c))
+    where
+      behind : (id : ℕ) → Contains cs id → IsReported id
+      behind id has' =
+          let place = child_place cs id has' in
+          record {
+            at = suc place.0;
+            there = ap (λ (l : List ℕ). slice_get l (suc place.0)) is ∙ place.1;
+            other = ap (λ (o : Opcode). is_condition o (suc place.0)) eo;
+          }
 
   pub check_does : v.kind.opcode ≡ opcode.Check
       → DoesSome p t start v (b3.checks h.st v (words_here p t start v h))
@@ -435,22 +456,21 @@ module _ (p : Procedure) (t : Tables) (start : Start) (v : Value) (h : Here p t 
 
   summed_with : (o : AirOp) (kind : Checked) → kind_of o ≡ ChecksResult kind
       → (inputs_fit : (inputs results : List Operand) → Sums inputs results → ComputesWith v o inputs results)
-      → computed_count v.kind.opcode ≡ 2
+      → computed_count v.kind.opcode ≡ 2 → takes_values v.kind.opcode ≡ false → ((i : ℕ) → is_condition v.kind.opcode i ≡ false)
       → Sums (use_of t (child v.children 0) ∷ use_of t (child v.children 1) ∷ []) (result_of t v ∷ [])
       → (cs ws : List ℕ) → v.children ≡ cs → (alike : Ty) → AreTaken alike (Alike ∷ Alike ∷ []) Reported (map (type_of p) cs) → v.ty ≡ alike
       → b3.words_of (type_of p) h.st.words cs ≡ Some ws
       → DoesSome p t start v (b3.checks_result h.st v kind ws)
       (steps (meaning start) (site_code v o (use_of t (child cs 0) ∷ use_of t (child cs 1) ∷ []) (map (child_of t) (drop 2 cs)) (result_of t v ∷ [])) h.s junk)
-  summed_with o kind is_kind inputs_fit two sums [] ws is alike taken gives e = absurd taken
-  summed_with o kind is_kind inputs_fit two sums (c ∷ []) ws is alike taken gives e = absurd taken.1
-  summed_with o kind is_kind inputs_fit two sums (c ∷ c' ∷ cs) ws is alike taken gives e =
+  summed_with o kind is_kind inputs_fit two plain none sums [] ws is alike taken gives e = absurd taken
+  summed_with o kind is_kind inputs_fit two plain none sums (c ∷ []) ws is alike taken gives e = absurd taken.1
+  summed_with o kind is_kind inputs_fit two plain none sums (c ∷ c' ∷ cs) ws is alike taken gives e =
       let one = words_cons (type_of p) h.st.words c (c' ∷ cs) ws e in
       let other = words_cons (type_of p) h.st.words c' cs one.1 one.4 in
       let k = width_of alike in
       let among : (id : ℕ) → Contains (c ∷ c' ∷ cs) id → Contains v.children id = λ id has'. subst (λ (l : List ℕ). Contains l id) (sym is) has' in
       let width : (id : ℕ) → type_of p id ≡ alike → width_at t.index id ≡ k =
       λ id typed. width_is p h.valid t h.sound start h.passed h.block h.before (v ∷ h.rest) h.stands h.st h.reached h.s h.related id ∙ ap width_of typed in
-      let plain = site_values v.kind.opcode site in
       let first = child_at p t start v h plain junk h.s h.related c one.0 (among c (contains_head c (c' ∷ cs))) one.3 in
       let second = child_at p t start v h plain junk h.s h.related c' other.0 (among c' (contains_tail c (c' ∷ cs) c' (contains_head c' cs))) other.3 in
       let inputs : List Operand = use_of t c ∷ use_of t c' ∷ [] in
@@ -463,7 +483,7 @@ module _ (p : Procedure) (t : Tables) (start : Start) (v : Value) (h : Here p t 
       (subst (λ (l : List ℕ). Sums (use_of t (child l 0) ∷ use_of t (child l 1) ∷ []) (result_of t v ∷ [])) is sums) in
       subst (λ (l : List ℕ). DoesSome p t start v (b3.checks_result h.st v kind l)
       (steps (meaning start) (site_code v o inputs (map (child_of t) cs) (result_of t v ∷ [])) h.s junk)) (sym (one.2 ∙ ap (λ (l : List ℕ). one.0 ∷ l) other.2))
-      (sum_does cs other.1 (λ id has'. among id (contains_tail c (c' ∷ cs) id (contains_tail c' cs id has')))
+      (sum_does cs other.1 (λ id has'. all_reported none id (among id (contains_tail c (c' ∷ cs) id (contains_tail c' cs id has'))))
       (subst (λ (l : List ℕ). length (drop 2 l) ≡ length (constraints_of v)) is (counts_here 2 two)) other.4
       o kind inputs one.0 other.0 k is_kind computes (free_two t c c') (ap width_of gives) reads)
 
@@ -474,20 +494,20 @@ module _ (p : Procedure) (t : Tables) (start : Start) (v : Value) (h : Here p t 
   pub add_does : v.kind.opcode ≡ opcode.CheckAdd → Checks op.CheckAdd Sum
   add_does eo =
       let row = subst (λ (q : Opcode). AllowsTypes q v.ty (types_of p v)) eo (allows p t start v h) in
-      summed_with op.CheckAdd Sum refl (λ inputs results sums. sums) (ap computed_count eo)
+      summed_with op.CheckAdd Sum refl (λ inputs results sums. sums) (ap computed_count eo) (ap takes_values eo) (λ i. ap (λ (o : Opcode). is_condition o i) eo)
       (sums_of p h.valid t h.sound h.block v (here p t start v h) opcode.CheckAdd eo (inl refl))
       v.children (words_here p t start v h) refl row.alike row.children row.gives (are_words p t start v h)
 
   pub sub_does : v.kind.opcode ≡ opcode.CheckSub → Checks op.CheckSub Difference
   sub_does eo =
       let row = subst (λ (q : Opcode). AllowsTypes q v.ty (types_of p v)) eo (allows p t start v h) in
-      summed_with op.CheckSub Difference refl (λ inputs results sums. sums) (ap computed_count eo)
+      summed_with op.CheckSub Difference refl (λ inputs results sums. sums) (ap computed_count eo) (ap takes_values eo) (λ i. ap (λ (o : Opcode). is_condition o i) eo)
       (sums_of p h.valid t h.sound h.block v (here p t start v h) opcode.CheckSub eo (inr (inl refl)))
       v.children (words_here p t start v h) refl row.alike row.children row.gives (are_words p t start v h)
 
   pub mul_does : v.kind.opcode ≡ opcode.CheckMul → Checks op.CheckMul Product
   mul_does eo =
       let row = subst (λ (q : Opcode). AllowsTypes q v.ty (types_of p v)) eo (allows p t start v h) in
-      summed_with op.CheckMul Product refl (λ inputs results sums. sums) (ap computed_count eo)
+      summed_with op.CheckMul Product refl (λ inputs results sums. sums) (ap computed_count eo) (ap takes_values eo) (λ i. ap (λ (o : Opcode). is_condition o i) eo)
       (sums_of p h.valid t h.sound h.block v (here p t start v h) opcode.CheckMul eo (inr (inr refl)))
       v.children (words_here p t start v h) refl row.alike row.children row.gives (are_words p t start v h)

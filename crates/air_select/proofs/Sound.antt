@@ -159,11 +159,16 @@ pointer_kind : (x : Index) (user : ℕ) (op : Opcode) (is_word : Bool) (k : Know
 pointer_kind x user op is_word k e =
     inr (inr (inr (inl (both_first (is_add k.opcode) (reaches (access_bytes x op (known x user)) is_word (known x user).offset (known x k.second)) e))))
 
-first_kind : (x : Index) (op : Opcode) (user : ℕ) (k : Known) → first_fits x op user k ≡ true → IsKind x k
-first_kind x opcode.Branch user k e = elim (one_of (is_comparison k.opcode) (is_bit_test x k) e) [
+-- and what fits as a condition is a comparison or a test of a bit
+condition_kind : (x : Index) (k : Known) → (is_comparison k.opcode || is_bit_test x k) ≡ true → IsKind x k
+condition_kind x k e = elim (one_of (is_comparison k.opcode) (is_bit_test x k) e) [
   | inl comparison ↦ inr (inl comparison)
   | inr bit ↦ inr (inr (inl bit))
 ]
+
+first_kind : (x : Index) (op : Opcode) (user : ℕ) (k : Known) → first_fits x op user k ≡ true → IsKind x k
+first_kind x opcode.Branch user k e = condition_kind x k e
+first_kind x opcode.Check user k e = condition_kind x k e
 first_kind x opcode.Select user k e = inr (inl e)
 first_kind x opcode.Load8Z user k e = pointer_kind x user opcode.Load8Z false k e
 first_kind x opcode.Load8S user k e = pointer_kind x user opcode.Load8S false k e

@@ -230,7 +230,7 @@ module _ (p : Procedure) (kept : IsKept p) (t : Tables) (sound : IsSound p t) wh
             (low_bit (bit_of (known t.index k.second).word) (bits pair.width) lt)),
       )
 
-  -- ---- the condition of a Branch or a Select
+  -- ---- the condition of a Branch, a Check or a Select
   module _ (b : ℕ) (v : Value) (here : Contains (values_of p b) v) (c : ℕ) (at : slice_get v.children 0 ≡ Some c) (typed : type_of p c ≢ Void) where
     -- which conditions fit
     abbrev pub Allows : Type 0

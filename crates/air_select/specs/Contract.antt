@@ -13,7 +13,7 @@ use Rattle.air_ir.specs.Expressed.{IsExpressed}
 use Rattle.air_ir.specs.Kinds.{Kind, Copies, Computes, Checks, ChecksResult, Patches, Branches, Jumps, Switches, Returns, Fails, kind_of, makes_site}
 use Rattle.air_ir.specs.WellFormed as air
 use Rattle.air_ir.specs.declared.op.AirOp.{AirOp}
-use Rattle.air_ir.specs.declared.op.AirOp.TheVariants.{BranchIf, SelectIf, Shuffle}
+use Rattle.air_ir.specs.declared.op.AirOp.TheVariants.{BranchIf, CheckIf, SelectIf, Shuffle}
 use Rattle.air_ir.specs.declared.op.Test.{Test}
 use Rattle.air_ir.specs.declared.op.Test.TheVariants.{Bit, Compare}
 use Rattle.air_ir.specs.declared.operand.Arg.{Arg}
@@ -165,6 +165,7 @@ HasSecond word i = (o : Operand) × (slice_get i.operands 1 ≡ Some o) × (o.ar
 abbrev pub test_in : AirOp → List Test
 test_in (BranchIf test) = test ∷ []
 test_in (SelectIf test) = test ∷ []
+test_in (CheckIf test) = test ∷ []
 test_in _ = []
 
 -- the instruction tests what a comparison compares: a constant that is folded stands there as its word
@@ -176,7 +177,7 @@ TestsComparison p c i =
 -- the instruction tests the one bit of a word in a value
 abbrev pub TestsBit : Procedure → ℕ → ℕ → AirInst → Type 0
 TestsBit p id word i =
-    (bit : ℕ) × (2 ^ bit ≡ word) × (test_in i.op ≡ Bit bit ∷ []) × (i.operands ≡ use_of (tables p) id ∷ [])
+    (bit : ℕ) × (2 ^ bit ≡ word) × (test_in i.op ≡ Bit bit ∷ []) × (take 1 i.operands ≡ use_of (tables p) id ∷ [])
 
 -- a foldable constant is carried by each value that uses it and is not folded itself
 abbrev pub CarriesConstants : Procedure → AirProc → Type 0

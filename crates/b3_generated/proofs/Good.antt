@@ -1,19 +1,12 @@
--- The made module is valid, within the limits and supported, and the generated text spells it.
+-- The made module is valid and within the limits, and the generated text spells it.
 use Rattle.std.proofs.Common.{◌≡◌, ℕ, zero, suc, ◌+◌, ◌*◌, ◌<◌, ◌≤◌, List, [], ◌∷◌, ◌++◌, Some, length, refl, sym, ap, ◌∙◌, subst, arith}
-use Rattle.std.specs.Prelude.{All, codes, slice_get, slice_index_or, sum_by}
+use Rattle.std.specs.Prelude.{All, codes, slice_get, sum_by}
 use Rattle.std.specs.Fmt.{decimal}
 use Rattle.std.specs.List.{AllByRecursion}
 use Rattle.std.proofs.Math.ListN.{length-append}
 use Rattle.std.proofs.lemmas.List.Elements.{All-cons, All-nil}
 use Rattle.std.proofs.lemmas.List.Sums.{sum_by-cons}
-use Rattle.std.proofs.lemmas.Option.{slice_get-get_or}
-use Rattle.b3_ir.specs.Fits.{Fits}
-use Rattle.b3_ir.specs.Names.{IsName}
-use Rattle.b3_ir.specs.Naming.{all_values}
-use Rattle.b3_ir.specs.Procedure.{AllFit, Block, Procedure, total}
-use Rattle.b3_ir.specs.declared.opcode.Opcode.{Opcode}
-use Rattle.b3_ir.specs.declared.opcode.Ty.TheVariants.{Int64}
-use Rattle.b3_ir.specs.declared.value.Body.TheVariants.{Plain}
+use Rattle.b3_ir.specs.Procedure.{Block, Procedure, total}
 use Rattle.b3_ir.specs.declared.value.Value.{Value}
 use Rattle.b3_module.specs.Canonical.{lined, lined_procedure, lined_values, rows_of_block, rows_of_procedure}
 use Rattle.b3_module.specs.Limits.{operands}
@@ -21,41 +14,21 @@ use Rattle.b3_module.specs.TextModules.{IsTextModule, IsTextProcedure}
 use Rattle.b3_module.specs.Texts.{Spells}
 use Rattle.b3_print.specs.Printed.{canonical}
 use Rattle.b3_rules.specs.Valid.{IsValid, IsValidProcedure}
-use Rattle.b3_supported.specs.Faults.{HaveNames}
-use Rattle.b3_supported.proofs.Telling.{supported}
 use Rattle.b3_trial.specs.Generated.{drawn, next_state, state_behind}
 use Rattle.b3_generated.specs.Laws.{IsGoodText}
-use Rattle.b3_generated.specs.Made.{arguments, block_of, branch, constant, entry, jump, less, loop_values, module_of, operations, procedure_of, procedures_from, return_value, upsilon, value_on}
-use Rattle.b3_generated.proofs.Forms.{AllForms, Form, IsReturn, arguments_count, by_form, by_opcode, drawn_small, entry_formed, lined_length, loop_formed, operations_count}
+use Rattle.b3_generated.specs.Made.{arguments, block_of, branch, constant, entry, jump, less, loop_values, module_of, operations, procedure_of, procedures_from, return_value, upsilon}
+use Rattle.b3_generated.proofs.Forms.{AllForms, Form, IsReturn, arguments_count, by_form, drawn_small, entry_formed, lined_length, loop_formed, operations_count}
 use Rattle.b3_generated.proofs.Limits.{HasParts, keeps_limits, three_count, three_inner}
 use Rattle.b3_generated.proofs.Names.{name_good, name_tells}
 use Rattle.b3_generated.proofs.Texts.{generated_is_canonical, procedure_listed}
 use Rattle.b3_generated.proofs.Valid.{valid_procedure}
-use Rattle.b3_generated.proofs.Values.{IsMade, all_forms, block_on, made}
+use Rattle.b3_generated.proofs.Values.{IsMade, block_on, made}
 
 -- ---- what holds of each value
 
 all_of : (P : Value → Type 0) → ((i : ℕ) (v : Value) → Form i v → P v) → (i : ℕ) (vs : List Value) → AllForms i vs → All P vs
 all_of P each i [] forms = All-nil P
 all_of P each i (v ∷ vs) forms = All-cons P v vs (each i v forms.0) (all_of P each (i + 1) vs forms.1)
-
-fits : (i : ℕ) (v : Value) → Form i v → Fits v
-fits = by_form (λ i v. Fits v) (record {
-  arguments = λ line i low. record { body = omega arith; chill = refl; traps = refl };
-  constants = λ line i word low high small. record { body = omega arith; chill = refl; traps = refl };
-  first = λ line. record { body = tt; chill = refl; traps = refl };
-  jump = λ line. record { body = refl; chill = refl; traps = refl };
-  phi = λ line. record { body = tt; chill = refl; traps = refl };
-  operations = λ line i number x y low high first second.
-      by_opcode (λ (o : Opcode). Fits (value_on line Int64 i o (x ∷ y ∷ []) Plain))
-      (record { body = tt; chill = refl; traps = refl }) (record { body = tt; chill = refl; traps = refl }) (record { body = tt; chill = refl; traps = refl })
-      (record { body = tt; chill = refl; traps = refl }) (record { body = tt; chill = refl; traps = refl })
-      (record { body = tt; chill = refl; traps = refl }) number;
-  next = λ line. record { body = tt; chill = refl; traps = refl };
-  less = λ line. record { body = tt; chill = refl; traps = refl };
-  branch = λ line. record { body = refl; chill = refl; traps = refl };
-  returned = λ line. record { body = tt; chill = refl; traps = refl };
-})
 
 few_operands : (i : ℕ) (v : Value) → Form i v → operands v ≤ 2
 few_operands = by_form (λ i v. operands v ≤ 2) (record {
@@ -76,7 +49,6 @@ few_operands = by_form (λ i v. operands v ≤ 2) (record {
 record IsGood (k : ℕ) (p : Procedure) : Type 0 where
   pub name : p.name ≡ codes "g" ++ decimal k
   pub valid : IsValidProcedure p
-  pub fit : AllFit p.blocks
   pub parts : HasParts p
   pub values : total p ≡ 517
 
@@ -91,13 +63,6 @@ loop_count state =
 module _ (name : List ℕ) (line la lb lc : ℕ) (first second third : List Value) (is : IsMade first second third) where
   abbrev p : Procedure
   p = made name line la lb lc first second third
-
-  made_fit : AllFit p.blocks
-  made_fit =
-      let P : Block → Type 0 = λ b. All Fits b.values in
-      All-cons P (block_on 0 la first) (block_on 1 lb second ∷ block_on 2 lc third ∷ []) (all_of Fits fits 0 first is.first_forms)
-      (All-cons P (block_on 1 lb second) (block_on 2 lc third ∷ []) (all_of Fits fits 12 second is.second_forms)
-      (All-cons P (block_on 2 lc third) [] (all_of Fits fits 516 third is.third_forms) (All-nil P)))
 
   made_parts : HasParts p
   made_parts =
@@ -139,7 +104,6 @@ one_good line state k =
     record {
       name = refl;
       valid = valid_procedure name line la lb lc first second third is;
-      fit = made_fit name line la lb lc first second third is;
       parts = made_parts name line la lb lc first second third is;
       values = made_total name line la lb lc first second third is;
     }
@@ -201,15 +165,6 @@ module _ (n : ℕ) where
     each = λ k p there. (good k p there).1.valid;
   }
 
-  at_index : (k : ℕ) (d : Procedure) → k < length ps → (k < 16) × IsGood k (slice_index_or ps k d)
-  at_index k d lt = good k (slice_index_or ps k d) (slice_get-get_or ps k d lt)
-
-  have : HaveNames ps
-  have = record {
-    few = omega (arith, as_many);
-    names = λ k d lt. let g = at_index k d lt in subst IsName (sym g.1.name) (name_good k (omega (arith, g.0)));
-  }
-
   listed : IsTextModule (module_of n)
   listed = record { some = omega (arith, procedures_count 16 n 0); procedures = procedures_listed 16 n 0 (omega arith) }
 
@@ -218,7 +173,6 @@ module _ (n : ℕ) where
     spells = subst (λ text. Spells text ps) (generated_is_canonical n) (again (module_of n) listed);
     within = keeps_limits ps (omega (arith, as_many)) (λ k p there. (good k p there).1.parts);
     valid = valid;
-    supported = supported ps valid (λ k d lt. (at_index k d lt).1.fit) have;
     procedures = as_many;
     values = omega (arith, total_of ps (λ k p there. (good k p there).1.values), as_many);
   }

@@ -6,8 +6,7 @@ ghost use Rattle.b3_generated.specs.Laws.{IsGoodText};
 
 use b3_print::texts_are_read_again;
 
-/// Tells that each text that is made from a number spells a valid module within the limits, all of whose procedures
-/// are supported. It takes no memory.
+/// Tells that each text that is made from a number spells a valid module within the limits. It takes no memory.
 pub fn generated_texts_are_good()
     ensures { (n : ℕ) → IsGoodText n }
 {

@@ -11,3 +11,4 @@ pub mod Telling
 pub mod Canonically
 pub mod TextLemmas
 pub mod LinedLemmas
+pub mod LimitSums

@@ -1,7 +1,8 @@
 //! Laws of texts.
 
-ghost use Rattle.std.specs.Prelude.{◌≡◌, ℕ, List};
+ghost use Rattle.std.specs.Prelude.{◌≡◌, ◌≤◌, ℕ, List, All, length};
 ghost use Rattle.std.specs.List.{AllByRecursion};
+ghost use Rattle.b3_ir.specs.Names.{IsName};
 ghost use Rattle.b3_ir.specs.Procedure.{Procedure};
 ghost use Rattle.b3_rows.specs.Ranges.{IsGoodRow};
 ghost use Rattle.b3_module.specs.Canonical.{AreRowed, RowsSpell, canonical_rows, lined};
@@ -25,6 +26,14 @@ pub fn texts_are_listed()
     ensures rows { (m : List Procedure) → IsTextModule m → AllByRecursion IsGoodRow (canonical_rows m) }
 {
     rows_are_in_range();
+}
+
+/// Tells what bytes spell within the limits: at most 256 procedures, each with a name. It takes no memory.
+pub fn texts_are_named()
+    ensures few { (m : List Procedure) → KeepsLimits m → length m ≤ 256 }
+    ensures names { (bytes : List ℕ) (m : List Procedure) → Spells bytes m → All (λ (p : Procedure). IsName p.name) m }
+{
+    texts_are_listed();
 }
 
 /// Tells what a module on new lines keeps: its canonical rows, and the limits. It takes no memory.

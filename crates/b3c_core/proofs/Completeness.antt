@@ -6,7 +6,6 @@ use Rattle.b3_io.specs.Faults.{Rose}
 use Rattle.b3_io.specs.Taken.{Takes}
 use Rattle.b3_ir.specs.Procedure.{Procedure}
 use Rattle.b3_rules.specs.Valid.{IsValid}
-use Rattle.b3_supported.specs.Supported.{AreSupported}
 use Rattle.b3_trial.specs.Generated.{generated}
 use Rattle.b3_trial.specs.Trials.{Spells, Trial}
 use Rattle.elf_obj.specs.Read.{IsFileOf as IsObjectOf}
@@ -16,7 +15,7 @@ use Rattle.elf_obj.proofs.FileLaws.{object_again}
 use Rattle.b3c_core.specs.declared.command.Command.{Command}
 use Rattle.b3c_core.specs.declared.command.Command.TheVariants as command
 use Rattle.b3c_core.specs.declared.ending.Ending.{Ending}
-use Rattle.b3c_core.specs.declared.ending.Ending.TheVariants.{Written, Usage, ReadFault, TrialReadFault, WriteFault, TooLong, TrialTooLong, Syntax, Limit, Invalid, BadObject, BadTrial, Misplaced, NotBuilt, NoMemory}
+use Rattle.b3c_core.specs.declared.ending.Ending.TheVariants.{Written, Usage, ReadFault, TrialReadFault, WriteFault, TooLong, TrialTooLong, Syntax, Limit, Invalid, BadObject, BadTrial, Misplaced, NoMemory}
 use Rattle.b3c_core.specs.Compiled.{IsCause, IsCompiled, IsTextOf, ReadsWhole}
 use Rattle.b3c_core.specs.Generating.{IsSummary}
 use Rattle.b3c_core.specs.Tried.{Begins}
@@ -89,38 +88,36 @@ takes_as call c d named other takes = ap takes_trial (same_command call c d name
 
 pub compile_settles : (call : Call) (ending : Ending) → HasEnded call ending → command_of call.words ≡ Some command.Compile
     → (Rose call.input_faults call.input_faults' → ⊥) → (Rose call.output_faults call.output_faults' → ⊥)
-    → (ps : List Procedure) (text : List ℕ) → call.left ≡ Some text → IsTextOf text ps → IsValid ps → AreSupported ps → length text ≤ text_limit
+    → (ps : List Procedure) (text : List ℕ) → call.left ≡ Some text → IsTextOf text ps → IsValid ps → length text ≤ text_limit
     → (status_of ending ≡ 0) ⊎ (status_of ending ≡ 9)
-compile_settles call Written h named input output ps text is spelled valid supported small = inl refl
-compile_settles call NoMemory h named input output ps text is spelled valid supported small = inr refl
-compile_settles call Usage h named input output ps text is spelled valid supported small = absurd (usage_named call command.Compile named h)
-compile_settles call ReadFault h named input output ps text is spelled valid supported small = absurd (input h.rose)
-compile_settles call TrialReadFault h named input output ps text is spelled valid supported small =
+compile_settles call Written h named input output ps text is spelled valid small = inl refl
+compile_settles call NoMemory h named input output ps text is spelled valid small = inr refl
+compile_settles call Usage h named input output ps text is spelled valid small = absurd (usage_named call command.Compile named h)
+compile_settles call ReadFault h named input output ps text is spelled valid small = absurd (input h.rose)
+compile_settles call TrialReadFault h named input output ps text is spelled valid small =
     absurd (no (takes_as call command.Compile h.command named h.named h.takes))
   where
     no : takes_trial command.Compile ≡ true → ⊥
     no e = cc
-compile_settles call TooLong h named input output ps text is spelled valid supported small = absurd (not_too_long call command.Compile text named is small h)
-compile_settles call TrialTooLong h named input output ps text is spelled valid supported small =
+compile_settles call TooLong h named input output ps text is spelled valid small = absurd (not_too_long call command.Compile text named is small h)
+compile_settles call TrialTooLong h named input output ps text is spelled valid small =
     absurd (no (takes_as call command.Compile h.command named h.named h.takes))
   where
     no : takes_trial command.Compile ≡ true → ⊥
     no e = cc
-compile_settles call WriteFault h named input output ps text is spelled valid supported small =
+compile_settles call WriteFault h named input output ps text is spelled valid small =
     absurd (output (answered_as call WriteFault command.Compile text named refl is h).answered.cause)
-compile_settles call (Syntax line) h named input output ps text is spelled valid supported small =
+compile_settles call (Syntax line) h named input output ps text is spelled valid small =
     absurd ((answered_as call (Syntax line) command.Compile text named refl is h).answered.none ps spelled)
-compile_settles call (Limit which line) h named input output ps text is spelled valid supported small =
+compile_settles call (Limit which line) h named input output ps text is spelled valid small =
     absurd ((answered_as call (Limit which line) command.Compile text named refl is h).answered.none ps spelled)
-compile_settles call (Invalid rule line) h named input output ps text is spelled valid supported small =
+compile_settles call (Invalid rule line) h named input output ps text is spelled valid small =
     absurd ((answered_as call (Invalid rule line) command.Compile text named refl is h).answered.none ps spelled valid)
-compile_settles call (NotBuilt line) h named input output ps text is spelled valid supported small =
-    absurd ((answered_as call (NotBuilt line) command.Compile text named refl is h).answered.none ps spelled supported)
-compile_settles call (BadObject code byte) h named input output ps text is spelled valid supported small =
+compile_settles call (BadObject code byte) h named input output ps text is spelled valid small =
     absurd (answered_as call (BadObject code byte) command.Compile text named refl is h).answered
-compile_settles call (BadTrial line) h named input output ps text is spelled valid supported small =
+compile_settles call (BadTrial line) h named input output ps text is spelled valid small =
     absurd (answered_as call (BadTrial line) command.Compile text named refl is h).answered
-compile_settles call Misplaced h named input output ps text is spelled valid supported small =
+compile_settles call Misplaced h named input output ps text is spelled valid small =
     absurd (answered_as call Misplaced command.Compile text named refl is h).answered
 
 pub print_settles : (call : Call) (ending : Ending) → HasEnded call ending → command_of call.words ≡ Some command.Print
@@ -149,7 +146,6 @@ print_settles call (Syntax line) h named input output ps text is spelled small =
 print_settles call (Limit which line) h named input output ps text is spelled small =
     absurd ((answered_as call (Limit which line) command.Print text named refl is h).answered.none ps spelled)
 print_settles call (Invalid rule line) h named input output ps text is spelled small = absurd (answered_as call (Invalid rule line) command.Print text named refl is h).answered
-print_settles call (NotBuilt line) h named input output ps text is spelled small = absurd (answered_as call (NotBuilt line) command.Print text named refl is h).answered
 print_settles call (BadObject code byte) h named input output ps text is spelled small = absurd (answered_as call (BadObject code byte) command.Print text named refl is h).answered
 print_settles call (BadTrial line) h named input output ps text is spelled small = absurd (answered_as call (BadTrial line) command.Print text named refl is h).answered
 print_settles call Misplaced h named input output ps text is spelled small = absurd (answered_as call Misplaced command.Print text named refl is h).answered
@@ -165,36 +161,34 @@ tried_as call bytes trial is h = all_of call.trial_left call.trial_left' bytes t
 
 pub eval_settles : (call : Call) (ending : Ending) → HasEnded call ending → command_of call.words ≡ Some command.Eval
     → (Rose call.input_faults call.input_faults' → ⊥) → (Rose call.trial_faults call.trial_faults' → ⊥) → (Rose call.output_faults call.output_faults' → ⊥)
-    → (ps : List Procedure) (text : List ℕ) → call.left ≡ Some text → IsTextOf text ps → IsValid ps → AreSupported ps → length text ≤ text_limit
+    → (ps : List Procedure) (text : List ℕ) → call.left ≡ Some text → IsTextOf text ps → IsValid ps → length text ≤ text_limit
     → (t : Trial) (bytes : List ℕ) → call.trial_left ≡ Some bytes → Spells bytes t → length bytes ≤ text_limit
     → ((file : List ℕ) (made : IsCompiled text file) → Begins made.file_of.object t)
     → (status_of ending ≡ 0) ⊎ (status_of ending ≡ 9)
-eval_settles call Written h named input trial output ps text is spelled valid supported small t bytes has spells short begins = inl refl
-eval_settles call NoMemory h named input trial output ps text is spelled valid supported small t bytes has spells short begins = inr refl
-eval_settles call Usage h named input trial output ps text is spelled valid supported small t bytes has spells short begins =
+eval_settles call Written h named input trial output ps text is spelled valid small t bytes has spells short begins = inl refl
+eval_settles call NoMemory h named input trial output ps text is spelled valid small t bytes has spells short begins = inr refl
+eval_settles call Usage h named input trial output ps text is spelled valid small t bytes has spells short begins =
     absurd (usage_named call command.Eval named h)
-eval_settles call ReadFault h named input trial output ps text is spelled valid supported small t bytes has spells short begins = absurd (input h.rose)
-eval_settles call TrialReadFault h named input trial output ps text is spelled valid supported small t bytes has spells short begins = absurd (trial h.rose)
-eval_settles call TooLong h named input trial output ps text is spelled valid supported small t bytes has spells short begins =
+eval_settles call ReadFault h named input trial output ps text is spelled valid small t bytes has spells short begins = absurd (input h.rose)
+eval_settles call TrialReadFault h named input trial output ps text is spelled valid small t bytes has spells short begins = absurd (trial h.rose)
+eval_settles call TooLong h named input trial output ps text is spelled valid small t bytes has spells short begins =
     absurd (not_too_long call command.Eval text named is small h)
-eval_settles call TrialTooLong h named input trial output ps text is spelled valid supported small t bytes has spells short begins =
+eval_settles call TrialTooLong h named input trial output ps text is spelled valid small t bytes has spells short begins =
     absurd (not_long text_limit call.trial_left call.trial_left' bytes has short h.long)
-eval_settles call WriteFault h named input trial output ps text is spelled valid supported small t bytes has spells short begins =
+eval_settles call WriteFault h named input trial output ps text is spelled valid small t bytes has spells short begins =
     absurd (output (answered_as call WriteFault command.Eval text named refl is h).answered.cause)
-eval_settles call (Syntax line) h named input trial output ps text is spelled valid supported small t bytes has spells short begins =
+eval_settles call (Syntax line) h named input trial output ps text is spelled valid small t bytes has spells short begins =
     absurd ((answered_as call (Syntax line) command.Eval text named refl is h).answered.none ps spelled)
-eval_settles call (Limit which line) h named input trial output ps text is spelled valid supported small t bytes has spells short begins =
+eval_settles call (Limit which line) h named input trial output ps text is spelled valid small t bytes has spells short begins =
     absurd ((answered_as call (Limit which line) command.Eval text named refl is h).answered.none ps spelled)
-eval_settles call (Invalid rule line) h named input trial output ps text is spelled valid supported small t bytes has spells short begins =
+eval_settles call (Invalid rule line) h named input trial output ps text is spelled valid small t bytes has spells short begins =
     absurd ((answered_as call (Invalid rule line) command.Eval text named refl is h).answered.none ps spelled valid)
-eval_settles call (NotBuilt line) h named input trial output ps text is spelled valid supported small t bytes has spells short begins =
-    absurd ((answered_as call (NotBuilt line) command.Eval text named refl is h).answered.none ps spelled supported)
-eval_settles call (BadObject code byte) h named input trial output ps text is spelled valid supported small t bytes has spells short begins =
+eval_settles call (BadObject code byte) h named input trial output ps text is spelled valid small t bytes has spells short begins =
     absurd (answered_as call (BadObject code byte) command.Eval text named refl is h).answered
-eval_settles call (BadTrial line) h named input trial output ps text is spelled valid supported small t bytes has spells short begins =
+eval_settles call (BadTrial line) h named input trial output ps text is spelled valid small t bytes has spells short begins =
     let a = answered_as call (BadTrial line) command.Eval text named refl is h in
     absurd (a.answered.1.none t (subst (λ b. Spells b t) (sym (tried_as call bytes a.trial has a.tried)) spells))
-eval_settles call Misplaced h named input trial output ps text is spelled valid supported small t bytes has spells short begins =
+eval_settles call Misplaced h named input trial output ps text is spelled valid small t bytes has spells short begins =
     let a = answered_as call Misplaced command.Eval text named refl is h in
     let m = a.answered.1 in
     let same : t ≡ m.tried = same_trial a.trial t m.tried (subst (λ b. Spells b t) (sym (tried_as call bytes a.trial has a.tried)) spells) m.spells in
@@ -227,8 +221,6 @@ run_settles call (Limit which line) h named input trial output o file is holds s
     absurd (answered_as call (Limit which line) command.Run file named refl is h).answered
 run_settles call (Invalid rule line) h named input trial output o file is holds small t bytes has spells short begins =
     absurd (answered_as call (Invalid rule line) command.Run file named refl is h).answered
-run_settles call (NotBuilt line) h named input trial output o file is holds small t bytes has spells short begins =
-    absurd (answered_as call (NotBuilt line) command.Run file named refl is h).answered
 run_settles call (BadObject code byte) h named input trial output o file is holds small t bytes has spells short begins =
     absurd ((answered_as call (BadObject code byte) command.Run file named refl is h).answered.none o holds)
 run_settles call (BadTrial line) h named input trial output o file is holds small t bytes has spells short begins =
@@ -261,20 +253,19 @@ made_as call ending n named r =
     subst (λ d. HasAnswered (output_of d r.input r.trial) (cause_of d r.input r.trial) call ending) (same_command call r.command (command.Gen n) r.named named) r.answered
 
 pub gen_settles : (call : Call) (ending : Ending) → HasEnded call ending → (n : ℕ) → command_of call.words ≡ Some (command.Gen n)
-    → (Rose call.output_faults call.output_faults' → ⊥) → (ps : List Procedure) → IsTextOf (generated n) ps → IsValid ps → AreSupported ps
+    → (Rose call.output_faults call.output_faults' → ⊥) → (ps : List Procedure) → IsTextOf (generated n) ps → IsValid ps
     → (status_of ending ≡ 0) ⊎ (status_of ending ≡ 9)
-gen_settles call Written h n named output ps spelled valid supported = inl refl
-gen_settles call NoMemory h n named output ps spelled valid supported = inr refl
-gen_settles call Usage h n named output ps spelled valid supported = absurd (usage_named call (command.Gen n) named h)
-gen_settles call ReadFault h n named output ps spelled valid supported = absurd (no_input call n h.command named h.named h.reads)
-gen_settles call TrialReadFault h n named output ps spelled valid supported = absurd (no_trial call n h.command named h.named h.takes)
-gen_settles call TooLong h n named output ps spelled valid supported = absurd (no_input call n h.command named h.named h.reads)
-gen_settles call TrialTooLong h n named output ps spelled valid supported = absurd (no_trial call n h.command named h.named h.takes)
-gen_settles call WriteFault h n named output ps spelled valid supported = absurd (output (made_as call WriteFault n named h).cause)
-gen_settles call (Syntax line) h n named output ps spelled valid supported = absurd ((made_as call (Syntax line) n named h).none ps spelled)
-gen_settles call (Limit which line) h n named output ps spelled valid supported = absurd ((made_as call (Limit which line) n named h).none ps spelled)
-gen_settles call (Invalid rule line) h n named output ps spelled valid supported = absurd ((made_as call (Invalid rule line) n named h).none ps spelled valid)
-gen_settles call (NotBuilt line) h n named output ps spelled valid supported = absurd ((made_as call (NotBuilt line) n named h).none ps spelled supported)
-gen_settles call (BadObject code byte) h n named output ps spelled valid supported = absurd (made_as call (BadObject code byte) n named h)
-gen_settles call (BadTrial line) h n named output ps spelled valid supported = absurd (made_as call (BadTrial line) n named h)
-gen_settles call Misplaced h n named output ps spelled valid supported = absurd (made_as call Misplaced n named h)
+gen_settles call Written h n named output ps spelled valid = inl refl
+gen_settles call NoMemory h n named output ps spelled valid = inr refl
+gen_settles call Usage h n named output ps spelled valid = absurd (usage_named call (command.Gen n) named h)
+gen_settles call ReadFault h n named output ps spelled valid = absurd (no_input call n h.command named h.named h.reads)
+gen_settles call TrialReadFault h n named output ps spelled valid = absurd (no_trial call n h.command named h.named h.takes)
+gen_settles call TooLong h n named output ps spelled valid = absurd (no_input call n h.command named h.named h.reads)
+gen_settles call TrialTooLong h n named output ps spelled valid = absurd (no_trial call n h.command named h.named h.takes)
+gen_settles call WriteFault h n named output ps spelled valid = absurd (output (made_as call WriteFault n named h).cause)
+gen_settles call (Syntax line) h n named output ps spelled valid = absurd ((made_as call (Syntax line) n named h).none ps spelled)
+gen_settles call (Limit which line) h n named output ps spelled valid = absurd ((made_as call (Limit which line) n named h).none ps spelled)
+gen_settles call (Invalid rule line) h n named output ps spelled valid = absurd ((made_as call (Invalid rule line) n named h).none ps spelled valid)
+gen_settles call (BadObject code byte) h n named output ps spelled valid = absurd (made_as call (BadObject code byte) n named h)
+gen_settles call (BadTrial line) h n named output ps spelled valid = absurd (made_as call (BadTrial line) n named h)
+gen_settles call Misplaced h n named output ps spelled valid = absurd (made_as call Misplaced n named h)

@@ -6,14 +6,11 @@ use Rattle.b3_module.specs.Texts.{BadLine, Spells}
 use Rattle.b3_module.specs.declared.fault.LimitName.{LimitName}
 use Rattle.b3_module.proofs.BadLines.{text_is_good}
 use Rattle.b3_lines.specs.Lines.{lines_of}
-use Rattle.b3_rules.specs.Valid.{IsValid}
-use Rattle.b3_supported.specs.Faults.{IsFaultLine}
-use Rattle.b3_supported.specs.Supported.{AreSupported}
 use Rattle.b3c_core.specs.declared.command.Command.{Command}
 use Rattle.b3c_core.specs.declared.command.Command.TheVariants as commands
 use Rattle.b3c_core.specs.declared.ending.Ending.{Ending}
-use Rattle.b3c_core.specs.declared.ending.Ending.TheVariants.{Written, Usage, ReadFault, TrialReadFault, WriteFault, TooLong, TrialTooLong, Syntax, Limit, Invalid, BadObject, BadTrial, Misplaced, NotBuilt, NoMemory}
-use Rattle.b3c_core.specs.Compiled.{IsNoText, IsNotBuilt, IsPastLimit, IsTextOf, ReadsWhole}
+use Rattle.b3c_core.specs.declared.ending.Ending.TheVariants.{Written, Usage, ReadFault, TrialReadFault, WriteFault, TooLong, TrialTooLong, Syntax, Limit, Invalid, BadObject, BadTrial, Misplaced, NoMemory}
+use Rattle.b3c_core.specs.Compiled.{IsNoText, IsPastLimit, ReadsWhole}
 use Rattle.b3c_core.specs.Tool.{Call, HasAnswered, HasEnded, HasRead, HasReadInput, HasReadTrial, cause_of, command_of, limit_of, output_of, reads_input, takes_trial}
 
 -- an ending that follows once all was read
@@ -34,7 +31,6 @@ ended_after call (Invalid rule line) command input trial named read tried h = ha
 ended_after call (BadObject code byte) command input trial named read tried h = has_read call (BadObject code byte) command input trial named read tried h
 ended_after call (BadTrial line) command input trial named read tried h = has_read call (BadTrial line) command input trial named read tried h
 ended_after call Misplaced command input trial named read tried h = has_read call Misplaced command input trial named read tried h
-ended_after call (NotBuilt line) command input trial named read tried h = has_read call (NotBuilt line) command input trial named read tried h
 ended_after call NoMemory command input trial named read tried h = tt
 ended_after call Usage command input trial named read tried h = absurd h
 ended_after call ReadFault command input trial named read tried h = absurd h
@@ -76,14 +72,4 @@ past_limit text which line m spells first = record {
   spells = spells;
   first = first;
   none = λ others h. (subst KeepsLimits (one_module text others m h.spells spells) h.within) which line first.passes;
-}
-
-pub not_built : (text : List ℕ) (line : ℕ) (m : List Procedure) → IsTextOf text m → IsValid m → IsFaultLine m line → ¬ (AreSupported m)
-    → IsNotBuilt text line
-not_built text line m is valid fault refused = record {
-  procedures = m;
-  text_of = is;
-  valid = valid;
-  fault = fault;
-  none = λ others h supported. refused (subst AreSupported (one_module text others m h.spells is.spells) supported);
 }

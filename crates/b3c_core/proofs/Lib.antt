@@ -5,3 +5,4 @@ pub mod Beginning
 pub mod Evaluating
 pub mod Completeness
 pub mod Agreement
+pub mod Malformed

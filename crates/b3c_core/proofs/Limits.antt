@@ -1,9 +1,7 @@
 -- Procedures of a text within the limits have no more values, blocks, children and cases, and slots than those allow.
-use Rattle.std.proofs.Common.{◌≡◌, ℕ, zero, suc, ◌+◌, ◌<◌, ◌≤◌, true, List, [], ◌∷◌, ◌++◌, Some, length, refl, sym, ap, ◌∙◌, subst, arith, nat_le, le-leb, ⊎_elim, if◌then◌else◌}
-use Rattle.std.specs.Prelude.{All, map, slice_get, sum_by}
+use Rattle.std.proofs.Common.{◌≡◌, ℕ, ◌+◌, ◌<◌, ◌≤◌, List, [], ◌∷◌, ◌++◌, length, refl, arith}
+use Rattle.std.specs.Prelude.{sum_by}
 use Rattle.std.specs.List.{flat_map}
-use Rattle.std.proofs.lemmas.Bool.{cases_lt}
-use Rattle.std.proofs.lemmas.List.Concat.{flat_map-cons}
 use Rattle.std.proofs.lemmas.List.Sums.{sum_by-append, sum_by-cons}
 use Rattle.b3_ir.specs.Procedure.{Block, Kept, Procedure, procedures, total}
 use Rattle.b3_ir.specs.declared.procedure.SlotLine.{SlotLine}
@@ -13,39 +11,12 @@ use Rattle.b3_ir.specs.declared.value.Value.{Value}
 use Rattle.b3_module.specs.Limits.{Computed, Header, Heading, KeepsLimits, Placed, cases_of, counted, most, operands, part_of_slot, part_of_value, parts_of, parts_of_block, parts_of_slots, parts_of_values, up_to}
 use Rattle.b3_module.specs.declared.fault.LimitName.{LimitName}
 use Rattle.b3_module.specs.declared.fault.LimitName.TheVariants as limits
+use Rattle.b3_module.proofs.LimitSums.{count_of, ones, sums_flat, within}
 use Rattle.a64_run.specs.Agrees.{case_count, child_count}
-use Rattle.b3_supported.specs.Supported.{AreSupported}
 use Rattle.air_select.specs.Contract.{IsWithinLimits, procedure_at}
-use Rattle.a64_object.specs.Taken.{AreWithinLimits, HasFewSlots, IsTaken, bytes_in}
-use Rattle.a64_object.proofs.GoodObject.{all_taken}
+use Rattle.a64_object.specs.Taken.{AreWithinLimits, HasFewSlots, bytes_in}
 use Rattle.a64_object.proofs.Lists.{all_of, one_in}
 use Rattle.a64_object.proofs.Making.{procedure_there}
-
--- ---- sums over all lines
-abbrev line_of : Placed → ℕ
-line_of x = x.line
-
-abbrev count_of : LimitName → Placed → ℕ
-count_of which x = counted which x.part
-
--- with the lines up to the last one stands all
-whole : (which : LimitName) (line : ℕ) (parts : List Placed) → sum_by line_of parts ≤ line → up_to which line parts ≡ sum_by (count_of which) parts
-whole which line [] le = refl
-whole which line (x ∷ parts) le =
-    let lines = sum_by-cons line_of x parts in
-    let first : nat_le x.line line ≡ true = le-leb x.line line (omega arith) in
-    let rest = whole which line parts (omega arith) in
-    sum_by-cons (λ (y : Placed). if nat_le y.line line then counted which y.part else 0) x parts
-    ∙ rw (first, rest) (sym (sum_by-cons (count_of which) x parts))
-
-not_past : (most n : ℕ) → (most < n → ⊥) → n ≤ most
-not_past most n never = ⊎_elim (λ past. absurd (never past)) (λ le. le) (cases_lt most n)
-
-sums_flat : {X : Type 0} (c : Placed → ℕ) (h : X → List Placed) (f : X → ℕ) → ((x : X) → f x ≤ sum_by c (h x)) → (xs : List X) → sum_by f xs ≤ sum_by c (flat_map h xs)
-sums_flat c h f each [] = omega arith
-sums_flat c h f each (x ∷ xs) =
-    let split : sum_by c (flat_map h (x ∷ xs)) ≡ sum_by c (h x) + sum_by c (flat_map h xs) = ap (sum_by c) (flat_map-cons h x xs) ∙ sum_by-append c (h x) (flat_map h xs) in
-    omega (arith, split, sum_by-cons f x xs, each x, sums_flat c h f each xs)
 
 -- ---- the parts of a block, and of a procedure
 values_counted : (which : LimitName) → ((n : ℕ) → counted which (Computed n) ≡ 1) → (vs : List Value) → length vs ≤ sum_by (count_of which) (parts_of_values vs)
@@ -94,10 +65,6 @@ child_counted which all p =
     let whole_of = in_procedure (count_of which) p in
     omega arith
 
-ones : (blocks : List Block) → sum_by (λ (b : Block). 1) blocks ≡ length blocks
-ones [] = refl
-ones (b ∷ blocks) = omega (arith, sum_by-cons (λ (x : Block). 1) b blocks, ones blocks)
-
 blocks_counted : (p : Procedure) → length p.blocks ≤ sum_by (count_of limits.ProcedureBlocks) (parts_of p)
 blocks_counted p =
     let blocks = sums_flat (count_of limits.ProcedureBlocks) parts_of_block (λ (b : Block). 1)
@@ -126,16 +93,10 @@ bytes_counted (slot ∷ slots) =
 -- ---- all of it
 module _ (ps : List Procedure) (keeps : KeepsLimits ps) where
   in_text : (which : LimitName) → ((line : ℕ) → most which < up_to which line (flat_map parts_of ps) → ⊥) → sum_by (count_of which) (flat_map parts_of ps) ≤ most which
-  in_text which never =
-      let line = sum_by line_of (flat_map parts_of ps) in
-      not_past (most which) (sum_by (count_of which) (flat_map parts_of ps))
-      (λ past. never line (subst (λ n. most which < n) (sym (whole which line (flat_map parts_of ps) (omega arith))) past))
+  in_text which never = within which (flat_map parts_of ps) never
 
   in_each : (which : LimitName) (p : Procedure) → ((line : ℕ) → most which < up_to which line (parts_of p) → ⊥) → sum_by (count_of which) (parts_of p) ≤ most which
-  in_each which p never =
-      let line = sum_by line_of (parts_of p) in
-      not_past (most which) (sum_by (count_of which) (parts_of p))
-      (λ past. never line (subst (λ n. most which < n) (sym (whole which line (parts_of p) (omega arith))) past))
+  in_each which p never = within which (parts_of p) never
 
   pub within_limits : AreWithinLimits ps
   within_limits = record {
@@ -175,7 +136,11 @@ module _ (ps : List Procedure) (keeps : KeepsLimits ps) where
     });
   }
 
--- so each of them may go through the passes, if all are supported
-pub taken_there : (m : List Kept) (at : ℕ) → at < length m → AreSupported (procedures m) → KeepsLimits (procedures m) → IsTaken (procedure_at m at)
-taken_there m at lt supported keeps =
-    one_in IsTaken (procedures m) at (procedure_at m at) (procedure_there m at lt) (all_taken (procedures m) supported (within_limits (procedures m) keeps))
+-- so each of them may go through the passes
+pub limits_there : (m : List Kept) (at : ℕ) → at < length m → KeepsLimits (procedures m) → IsWithinLimits (procedure_at m at)
+limits_there m at lt keeps =
+    one_in IsWithinLimits (procedures m) at (procedure_at m at) (procedure_there m at lt) (within_limits (procedures m) keeps).each
+
+pub slots_there : (m : List Kept) (at : ℕ) → at < length m → KeepsLimits (procedures m) → HasFewSlots (procedure_at m at)
+slots_there m at lt keeps =
+    one_in HasFewSlots (procedures m) at (procedure_at m at) (procedure_there m at lt) (within_limits (procedures m) keeps).slots

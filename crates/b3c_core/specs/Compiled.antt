@@ -10,17 +10,15 @@ use Rattle.b3_print.specs.Printed.{canonical}
 use Rattle.b3_rules.specs.Breaches.{Breach, IsFirstBreach}
 use Rattle.b3_rules.specs.Numbers.{number_of}
 use Rattle.b3_rules.specs.Valid.{IsValid}
-use Rattle.b3_supported.specs.Faults.{IsFaultLine}
-use Rattle.b3_supported.specs.Supported.{AreSupported}
 use Rattle.elf_obj.specs.declared.object.Object.{Object}
 use Rattle.elf_obj.specs.Elf.{Holds}
 use Rattle.a64_run.specs.CodeOf.{IsCodeOf}
 use Rattle.b3c_core.specs.declared.compiler.Fault.{Fault}
-use Rattle.b3c_core.specs.declared.compiler.Fault.TheVariants.{Syntax, Limit, Invalid, NotBuilt, NoMemory}
+use Rattle.b3c_core.specs.declared.compiler.Fault.TheVariants.{Syntax, Limit, Invalid, NoMemory}
 
 -- the bytes of a file hold an object, which is the code of some procedures: the code and the frame of
 -- each agree with it, so from each machine start that may begin it the machine shows the same as the run
--- of B3. The sites obey the values of the procedures that these were reduced to
+-- of B3. Each site is that of a value of what its procedure was reduced to, and keeps that value's constraints
 pub record IsFileWith (procedures : List Procedure) (object : Object) (file : List ℕ) : Type 0 where
   pub reduced : List Procedure
   pub holds : Holds file object
@@ -37,12 +35,11 @@ pub record IsTextOf (text : List ℕ) (procedures : List Procedure) : Type 0 whe
   pub spells : Spells text procedures
   pub within : KeepsLimits procedures
 
--- a text spells the procedures of a valid module, all of which are supported, and this is the file of their object
+-- a text spells the procedures of a valid module, and this is the file of their object
 pub record IsCompiled (text file : List ℕ) : Type 0 where
   pub procedures : List Procedure
   pub text_of : IsTextOf text procedures
   pub valid : IsValid procedures
-  pub supported : AreSupported procedures
   pub file_of : IsFileOf procedures file
 
 -- a text spells procedures, and this is their canonical text
@@ -73,27 +70,16 @@ pub record IsInvalid (text : List ℕ) (rule line : ℕ) : Type 0 where
   pub on_line : line ≡ breach.line
   pub none : (others : List Procedure) → IsTextOf text others → IsValid others → ⊥
 
--- the bytes are a text of a valid module whose procedures aren't all supported, and this is the line of their first
--- fault
-pub record IsNotBuilt (text : List ℕ) (line : ℕ) : Type 0 where
-  pub procedures : List Procedure
-  pub text_of : IsTextOf text procedures
-  pub valid : IsValid procedures
-  pub fault : IsFaultLine procedures line
-  pub none : (others : List Procedure) → IsTextOf text others → AreSupported others → ⊥
-
 -- why a text was not read: it is none, it passes a limit, or want of memory
 abbrev pub IsTextCause : List ℕ → Fault → Type 0
 IsTextCause text (Syntax line) = IsNoText text line
 IsTextCause text (Limit which line) = IsPastLimit text which line
 IsTextCause text (Invalid rule line) = ⊥
-IsTextCause text (NotBuilt line) = ⊥
 IsTextCause text NoMemory = Unit {0}
 
--- why a text was not compiled: it wasn't read, it breaks a rule, or not all of it is supported
+-- why a text was not compiled: it wasn't read, or it breaks a rule
 abbrev pub IsCause : List ℕ → Fault → Type 0
 IsCause text (Invalid rule line) = IsInvalid text rule line
-IsCause text (NotBuilt line) = IsNotBuilt text line
 IsCause text fault = IsTextCause text fault
 
 -- a source was read to its end and gave these bytes, where it tells its bytes

@@ -12,7 +12,7 @@ use Rattle.b3c_core.specs.declared.command.Command.TheVariants as command
 use Rattle.b3c_core.specs.declared.compiler.Fault.{Fault}
 use Rattle.b3c_core.specs.declared.compiler.Fault.TheVariants as fault
 use Rattle.b3c_core.specs.declared.ending.Ending.{Ending}
-use Rattle.b3c_core.specs.declared.ending.Ending.TheVariants.{Written, Usage, ReadFault, TrialReadFault, WriteFault, TooLong, TrialTooLong, Syntax, Limit, Invalid, BadObject, BadTrial, Misplaced, NotBuilt, NoMemory}
+use Rattle.b3c_core.specs.declared.ending.Ending.TheVariants.{Written, Usage, ReadFault, TrialReadFault, WriteFault, TooLong, TrialTooLong, Syntax, Limit, Invalid, BadObject, BadTrial, Misplaced, NoMemory}
 use Rattle.b3c_core.specs.declared.trying.EvalFault.{EvalFault}
 use Rattle.b3c_core.specs.declared.trying.EvalFault.TheVariants as eval
 use Rattle.b3c_core.specs.declared.trying.RunFault.{RunFault}
@@ -91,7 +91,6 @@ abbrev pub EndsText : (Fault → Type 0) → Ending → Type 0
 EndsText Cause (Syntax line) = Cause (fault.Syntax line)
 EndsText Cause (Limit which line) = Cause (fault.Limit which line)
 EndsText Cause (Invalid rule line) = Cause (fault.Invalid rule line)
-EndsText Cause (NotBuilt line) = Cause (fault.NotBuilt line)
 EndsText Cause NoMemory = Unit {0}
 EndsText Cause _ = ⊥
 
@@ -133,7 +132,6 @@ status_of (BadObject code byte) = 8
 status_of (BadTrial line) = 8
 status_of Misplaced = 8
 status_of NoMemory = 9
-status_of (NotBuilt line) = 10
 
 -- what is limited, in words
 abbrev pub limit_name : LimitName → List ℕ
@@ -170,14 +168,12 @@ line_of (Limit which line) = at_line line (codes "limit " ++ limit_name which)
 line_of (BadObject code byte) = at_place (codes "b3c: byte ") byte (codes "bad object " ++ decimal code)
 line_of (BadTrial line) = at_place (codes "b3c: trial line ") line (codes "syntax")
 line_of Misplaced = codes "b3c: trial: placement\n"
-line_of (NotBuilt line) = at_line line (codes "not built")
 
 -- the ending of a fault
 abbrev pub ending_of : Fault → Ending
 ending_of (fault.Syntax line) = Syntax line
 ending_of (fault.Limit which line) = Limit which line
 ending_of (fault.Invalid rule line) = Invalid rule line
-ending_of (fault.NotBuilt line) = NotBuilt line
 ending_of fault.NoMemory = NoMemory
 
 abbrev pub ending_of_eval : EvalFault → Ending

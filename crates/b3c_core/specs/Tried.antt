@@ -1,10 +1,10 @@
 -- What the commands promise that run a trial: of the procedures of a text, and of an object.
 use Rattle.std.specs.Prelude.{◌≡◌, ◌≢◌, ℕ, ◌*◌, ◌≤◌, List, All, Err, Some, slice_get}
-use Rattle.b3_base.specs.Observed.{Observation}
+use Rattle.b3_base.specs.Observed.{Answer, MachineStart, Observation}
 use Rattle.b3_base.specs.Ranged.{IsRangedAnswer}
 use Rattle.b3_base.specs.declared.observation.Status.TheVariants.{Going, Undefined}
 use Rattle.b3_ir.specs.Procedure.{Procedure}
-use Rattle.b3_meaning.specs.Run.{b3_run}
+use Rattle.b3_meaning.specs.Run.{Lost, Malformed, b3_run, run_of}
 use Rattle.b3_trial.specs.Shown.{shown}
 use Rattle.b3_trial.specs.Trials.{BadLine, Spells, Trial}
 use Rattle.elf_obj.specs.Read.{IsFileOf as IsObjectOf}
@@ -16,7 +16,7 @@ use Rattle.exit_table.specs.declared.tables.FrameRow.{FrameRow}
 use Rattle.a64_run.specs.Agrees.{entry_of, word_count}
 use Rattle.a64_run.specs.Finding.{MayBegin}
 use Rattle.a64_run.specs.Machine.{machine_run}
-use Rattle.a64_run.specs.Placement.{start_of}
+use Rattle.a64_run.specs.Placement.{Places, start_of}
 use Rattle.b3c_core.specs.Compiled.{IsCause, IsCompiled}
 use Rattle.b3c_core.specs.declared.trying.EvalFault.{EvalFault}
 use Rattle.b3c_core.specs.declared.trying.EvalFault.TheVariants as eval
@@ -76,6 +76,19 @@ abbrev pub EvaluatedRunsAgree : Type 0
 EvaluatedRunsAgree = (text trial file output : List ℕ) (e : IsEvaluatedOver text trial file output)
     → (seen_of e).status ≢ Going → (seen_of e).status ≢ Undefined
     → e.tried.blocks * (2 * word_count e.begins.symbol) ≤ e.tried.steps → IsRun file trial output
+
+-- ---- runs that are lost
+
+-- no run of a procedure of a compiled text is lost as malformed, where it begins at the start that agrees with a
+-- machine start that may begin the procedure, and the answers are in range: where such a run is undefined it did
+-- what B3 leaves undefined
+abbrev pub CompiledNeverMalformed : Type 0
+CompiledNeverMalformed = (text file : List ℕ) (c : IsCompiled text file) (k : ℕ) (p : Procedure)
+    (symbol : Symbol) (frame : FrameRow) (m : MachineStart) (answers : List Answer) (n : ℕ)
+    → slice_get c.procedures k ≡ Some p → slice_get c.file_of.object.symbols k ≡ Some symbol
+    → slice_get c.file_of.object.tables.frames k ≡ Some frame
+    → Places c.file_of.object symbol frame m → All IsRangedAnswer answers
+    → run_of p (start_of c.file_of.object frame m) answers n ≢ Lost Malformed
 
 -- ---- refusals
 

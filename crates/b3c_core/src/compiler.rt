@@ -3,15 +3,14 @@
 ghost use Rattle.std.specs.Prelude.{◌≡◌, ◌-◌, ◌^◌, ◌<◌, length, IfOk, IfErr};
 ghost use Rattle.b3_ir.specs.Procedure.{procedures};
 ghost use Rattle.b3_module.specs.Limits.{KeepsLimits};
-ghost use Rattle.b3_supported.specs.Supported.{AreSupported};
 ghost use Rattle.b3_rules.specs.Valid.{IsValid};
+ghost use Rattle.a64_object.specs.Taken.{HaveNames};
 ghost use Rattle.b3c_core.specs.Compiled.{IsCause, IsCompiled, IsFileWith, IsPrinted, IsTextCause, IsTextOf};
 
 use a64_object::module_object;
 use b3_base::{Bytes, NoMemory};
 use b3_ir::Module;
-use b3_module::{LimitName, TextFault};
-use b3_supported::fault_line;
+use b3_module::{LimitName, TextFault, texts_are_named};
 use b3_validate::{Valid, ValidateFault, validate};
 use elf_obj::Object;
 use std::alloc::Global;
@@ -26,9 +25,6 @@ pub enum Fault {
     /// The bytes are a text that breaks a rule; `line` is the first line that breaks one, and `rule` the least
     /// number of a rule that is broken there.
     Invalid { rule: u8, line: u32 },
-    /// The bytes are a text of a valid module that isn't all supported; `line` is the first line of a form that
-    /// isn't.
-    NotBuilt { line: u32 },
     /// Want of memory.
     NoMemory,
 }
@@ -45,13 +41,13 @@ impl From<NoMemory> for Fault {
 }
 
 /// The bytes of the object of the text. It is refused where the bytes are no text within the limits, where the text
-/// breaks a rule, where not all of it is supported, in this order, and for want of memory.
+/// breaks a rule, and for want of memory.
 pub fn compile(alloc: Global, bytes: &[u8]) -> Result<Bytes, Fault>
     requires { length bytes.now < 2 ^ 32 - 1 }
     ensures object { IfOk result (IsCompiled bytes.now) }
     ensures cause { IfErr result (IsCause bytes.now) }
 {
-    let valid = match supported_module(alloc, bytes) {
+    let valid = match valid_module(alloc, bytes) {
         Ok(valid) => valid,
         Err(fault) => return Err(fault),
     };
@@ -59,27 +55,24 @@ pub fn compile(alloc: Global, bytes: &[u8]) -> Result<Bytes, Fault>
     Ok(made.file)
 }
 
-/// The valid and supported module that the bytes spell.
-pub(crate) fn supported_module(alloc: Global, bytes: &[u8]) -> Result<Valid, Fault>
+/// The valid module that the bytes spell.
+pub(crate) fn valid_module(alloc: Global, bytes: &[u8]) -> Result<Valid, Fault>
     requires { length bytes.now < 2 ^ 32 - 1 }
     ensures text { IfOk result (λ made. IsTextOf bytes.now (procedures made)) }
     ensures valid { IfOk result (λ made. IsValid (procedures made)) }
-    ensures supported { IfOk result (λ made. AreSupported (procedures made)) }
+    ensures named { IfOk result (λ made. HaveNames (procedures made)) }
     ensures cause { IfErr result (IsCause bytes.now) }
 {
+    texts_are_named();
     let module = match read(alloc, bytes) {
         Ok(module) => module,
         Err(fault) => return Err(fault),
     };
-    let valid = match validate(alloc, module) {
-        Ok(valid) => valid,
-        Err(ValidateFault::Invalid { rule, line, .. }) => return Err(Fault::Invalid { rule, line }),
-        Err(ValidateFault::NoMemory) => return Err(Fault::NoMemory),
-    };
-    if let Some(line) = fault_line(valid.module()) {
-        return Err(Fault::NotBuilt { line });
+    match validate(alloc, module) {
+        Ok(valid) => Ok(valid),
+        Err(ValidateFault::Invalid { rule, line, .. }) => Err(Fault::Invalid { rule, line }),
+        Err(ValidateFault::NoMemory) => Err(Fault::NoMemory),
     }
-    Ok(valid)
 }
 
 /// The canonical text of the text. It is refused where the bytes are no text within the limits, and for want
@@ -119,7 +112,7 @@ pub(crate) struct Made {
 
 /// The object of a module within the limits, and its file. It is refused for want of memory alone.
 pub(crate) fn module_file(alloc: Global, valid: &Valid) -> Result<Made, NoMemory>
-    requires supported { AreSupported (procedures valid.now) }
+    requires named { HaveNames (procedures valid.now) }
     requires within { KeepsLimits (procedures valid.now) }
     ensures { IfOk result (λ made. IsFileWith (procedures valid.now) made.object made.file) }
 {

@@ -37,8 +37,6 @@ pub enum Ending {
     BadTrial { line: u32 },
     /// The trial may not begin the procedure that it names, or names none.
     Misplaced,
-    /// A form of the text, on this line, is not built yet.
-    NotBuilt { line: u32 },
     /// Want of memory.
     NoMemory,
 }
@@ -69,7 +67,6 @@ impl Ending {
             Ending::TooLong | Ending::TrialTooLong | Ending::Limit { .. } => 7,
             Ending::BadObject { .. } | Ending::BadTrial { .. } | Ending::Misplaced => 8,
             Ending::NoMemory => 9,
-            Ending::NotBuilt { .. } => 10,
         }
     }
 
@@ -106,7 +103,6 @@ impl Ending {
             Ending::BadTrial { line } => {
                 report_place(err, b"b3c: trial line ", u64::from(line), b"syntax", b"")
             }
-            Ending::NotBuilt { line } => report_line(err, line, b"not built", b""),
         }
     }
 }

@@ -2,6 +2,7 @@
 
 mod calls;
 mod commands;
+mod limits;
 mod memory;
 mod objects;
 mod passes;
@@ -35,8 +36,19 @@ fn names_of(alloc: Global, words: &[&str]) -> Result<Seq<Name>, NoMemory> {
 
 /// A call of the tool on an input and a trial in memory.
 fn call(alloc: Global, words: &[&str], input: &[u8], trial: &str) -> Result<Called, NoMemory> {
+    call_with_room(alloc, 4096, words, input, trial)
+}
+
+/// A call of the tool on an input and a trial in memory, whose output has so many bytes at most.
+fn call_with_room(
+    alloc: Global,
+    room: usize,
+    words: &[&str],
+    input: &[u8],
+    trial: &str,
+) -> Result<Called, NoMemory> {
     let names = names_of(alloc, words)?;
-    let mut out = VecSink::with_room(alloc, 4096)?;
+    let mut out = VecSink::with_room(alloc, room)?;
     let mut err = VecSink::with_room(alloc, 100)?;
     let status = run_tool(
         alloc,

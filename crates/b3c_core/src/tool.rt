@@ -5,7 +5,6 @@ ghost use Rattle.std.specs.Prelude.{◌≡◌, ◌≢◌, ℕ, ◌-◌, ◌^◌,
 ghost use Rattle.b3_io.specs.Faults.{Rose};
 ghost use Rattle.b3_io.specs.Taken.{Takes};
 ghost use Rattle.b3_rules.specs.Valid.{IsValid};
-ghost use Rattle.b3_supported.specs.Supported.{AreSupported};
 ghost use Rattle.b3_trial.specs.Trials.{Spells, Trial};
 ghost use Rattle.b3_ir.specs.Procedure.{Procedure};
 ghost use Rattle.elf_obj.specs.Read.{IsFileOf as IsObjectOf};
@@ -39,7 +38,7 @@ pub const OBJECT_LIMIT: usize = 134_217_728;
 /// of the text that is made from a number and of its object. The answer is the exit status: 0 done, 2 the words match
 /// no command, 3 a read failed, 4 a write failed, 5 the input is no text, 6 the text breaks a rule, 7 an input has too
 /// many bytes or the text passes another limit, 8 the input is no object, the trial is none or may not begin its
-/// procedure, 9 want of memory, 10 a form of the text is not built. A status other than 0 puts one line on `err`; a
+/// procedure, 9 want of memory. A status other than 0 puts one line on `err`; a
 /// fault of `err` changes nothing else. `trial` is read by `eval` and `run` alone, after `input`.
 pub fn run_tool<S: Source, T: Source, K: Sink, E: Sink>(
     alloc: Global,
@@ -66,13 +65,13 @@ pub fn run_tool<S: Source, T: Source, K: Sink, E: Sink>(
     // The output.
     ensures nothing_written { result ≢ 0 → result ≢ 4 → out.new ≡ out.old }
 
-    // A text within the limits is printed; it is compiled where it is valid and all of it is supported, and evaluated
-    // where the trial may begin in each of its objects; a good object is run where the trial may begin in it; and the
-    // text that is made from a number is compiled: unless memory is wanted, where nothing failed.
+    // A text within the limits is printed; it is compiled where it is valid, and evaluated where, besides, the trial
+    // may begin in each of its objects; a good object is run where the trial may begin in it; and the text that is made
+    // from a number is compiled: unless memory is wanted, where nothing failed.
     ensures compiles { spec.command_of words.now ≡ Some Command.Compile
         → (Rose (S.faults input.old) (S.faults input.new) → ⊥) → (Rose (K.faults out.old) (K.faults out.new) → ⊥)
         → (procedures : List Procedure) (text : List ℕ) → S.left input.old ≡ Some text → IsTextOf text procedures → IsValid procedures
-        → AreSupported procedures → length text ≤ TEXT_LIMIT → (result ≡ 0) ⊎ (result ≡ 9) }
+        → length text ≤ TEXT_LIMIT → (result ≡ 0) ⊎ (result ≡ 9) }
     ensures prints { spec.command_of words.now ≡ Some Command.Print
         → (Rose (S.faults input.old) (S.faults input.new) → ⊥) → (Rose (K.faults out.old) (K.faults out.new) → ⊥)
         → (procedures : List Procedure) (text : List ℕ) → S.left input.old ≡ Some text → IsTextOf text procedures
@@ -81,7 +80,7 @@ pub fn run_tool<S: Source, T: Source, K: Sink, E: Sink>(
         → (Rose (S.faults input.old) (S.faults input.new) → ⊥) → (Rose (T.faults trial.old) (T.faults trial.new) → ⊥)
         → (Rose (K.faults out.old) (K.faults out.new) → ⊥)
         → (procedures : List Procedure) (text : List ℕ) → S.left input.old ≡ Some text → IsTextOf text procedures → IsValid procedures
-        → AreSupported procedures → length text ≤ TEXT_LIMIT
+        → length text ≤ TEXT_LIMIT
         → (t : Trial) (bytes : List ℕ) → T.left trial.old ≡ Some bytes → Spells bytes t → length bytes ≤ TEXT_LIMIT
         → ((file : List ℕ) (made : IsCompiled text file) → Begins made.file_of.object t) → (result ≡ 0) ⊎ (result ≡ 9) }
     ensures runs { spec.command_of words.now ≡ Some Command.Run
@@ -212,7 +211,6 @@ fn ending_of(fault: Fault) -> Ending
         Fault::Syntax { line } => Ending::Syntax { line },
         Fault::Limit { which, line } => Ending::Limit { which, line },
         Fault::Invalid { rule, line } => Ending::Invalid { rule, line },
-        Fault::NotBuilt { line } => Ending::NotBuilt { line },
         Fault::NoMemory => Ending::NoMemory,
     }
 }

@@ -9,7 +9,7 @@ ghost use Rattle.b3_trial.specs.Trials.{trial_of};
 ghost use Rattle.elf_obj.specs.Good.{IsGood};
 ghost use Rattle.b3c_core.specs.Tried.{IsEvalCause, IsEvaluatedOver, IsRun, IsRunCause, IsRunFaultOf, IsRunOf};
 
-use crate::compiler::{Fault, module_file, supported_module};
+use crate::compiler::{Fault, module_file, valid_module};
 use a64_run::{PlaceFault, place, run};
 use b3_base::{Answer, Bytes, NoMemory};
 use b3_eval::eval;
@@ -83,7 +83,7 @@ pub fn eval_text(alloc: Global, bytes: &[u8], trial: &[u8]) -> Result<Evaluated,
     ensures evaluated { IfOk result (λ made. IsEvaluatedOver bytes.now trial.now made.object made.shown) }
     ensures cause { IfErr result (IsEvalCause bytes.now trial.now) }
 {
-    let valid = supported_module(alloc, bytes)?;
+    let valid = valid_module(alloc, bytes)?;
     let made = module_file(alloc, &valid)?;
     let module = valid.into_module();
     let trial = match read_trial(alloc, trial) {

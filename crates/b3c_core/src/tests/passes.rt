@@ -1,18 +1,21 @@
 //! The passes of a procedure, one by one.
 
+ghost use Rattle.std.specs.Prelude.{◌-◌, ◌^◌, ◌<◌, length};
+
 use super::ADD_ONE;
-use crate::compiler::supported_module;
+use crate::compiler::valid_module;
 use a64_emit::emit;
 use a64_inst::Inst;
 use a64_layout::resolve;
-use a64_object::{placed_procedure, procedure_text};
+use a64_object::{ProcedureText, placed_procedure, procedure_text};
 use a64_word::decode;
 use air_frame::layout;
+use std::alloc::Global;
 use std::test::Fail;
 
 #[test]
 fn a_sum_goes_through_each_pass(rt: HostRuntime) -> Result<(), Fail> {
-    let valid = match supported_module(rt.alloc(), ADD_ONE.as_bytes()) {
+    let valid = match valid_module(rt.alloc(), ADD_ONE.as_bytes()) {
         Ok(valid) => valid,
         Err(_) => return Err("refused".into()),
     };
@@ -73,20 +76,83 @@ fn counts_in(words: &[u32]) -> Counts {
     counts
 }
 
-#[test]
-fn a_comparison_costs_a_word_and_a_branch(rt: HostRuntime) -> Result<(), Fail> {
-    let valid = match supported_module(rt.alloc(), BELOW_FIVE.as_bytes()) {
+/// The code of the one procedure of a text.
+fn compiled(alloc: Global, text: &[u8]) -> Result<ProcedureText, Fail>
+    requires { length text.now < 2 ^ 32 - 1 }
+{
+    let valid = match valid_module(alloc, text) {
         Ok(valid) => valid,
         Err(_) => return Err("refused".into()),
     };
     if valid.module().procs() != 1 {
         return Err("not one procedure".into());
     }
-    let text = procedure_text(rt.alloc(), &valid, 0)?;
+    Ok(procedure_text(alloc, &valid, 0)?)
+}
+
+#[test]
+fn a_comparison_costs_a_word_and_a_branch(rt: HostRuntime) -> Result<(), Fail> {
+    let text = compiled(rt.alloc(), BELOW_FIVE.as_bytes())?;
     let expected = Counts {
         compared: 1,
         branches: 1,
         selects: 0,
+    };
+    assert_eq!(rt; counts_in(text.words.as_slice()), expected);
+    Ok(())
+}
+
+/// The argument, where it is not below 5: a Check on that alone, which reports the argument.
+const CHECKED_BELOW_FIVE: &str =
+    "procedure f\nBB#0:\n    Int64 b@0 = ArgumentReg(%x0)\n    Int64 b@1 = Const64(5)\n    Int32 b@2 = LessThan(b@0, b@1)\n    Void b@3 = Check(b@2, b@0:ColdAny)\n    Void b@4 = Return(b@0)\n";
+
+/// The same by a Check that reports the comparison too.
+const REPORTED_BELOW_FIVE: &str =
+    "procedure f\nBB#0:\n    Int64 b@0 = ArgumentReg(%x0)\n    Int64 b@1 = Const64(5)\n    Int32 b@2 = LessThan(b@0, b@1)\n    Void b@3 = Check(b@2, b@2:ColdAny)\n    Void b@4 = Return(b@0)\n";
+
+/// Whether a word compares with 5, and the next one branches on flags.
+fn has_pair(words: &[u32]) -> bool {
+    let mut compared = false;
+    let mut pair = false;
+    for word in words {
+        let decoded = decode(*word);
+        if compared && matches!(decoded, Some(Inst::BranchIf { .. })) {
+            pair = true;
+        }
+        compared = matches!(
+            decoded,
+            Some(Inst::AddSubImm {
+                sub: true,
+                flags: true,
+                imm12: 5,
+                ..
+            },)
+        );
+    }
+    pair
+}
+
+#[test]
+fn a_check_of_a_comparison_costs_a_word_and_a_branch(rt: HostRuntime) -> Result<(), Fail> {
+    let text = compiled(rt.alloc(), CHECKED_BELOW_FIVE.as_bytes())?;
+    let expected = Counts {
+        compared: 1,
+        branches: 1,
+        selects: 0,
+    };
+    assert_eq!(rt; counts_in(text.words.as_slice()), expected);
+    assert_eq!(rt; has_pair(text.words.as_slice()), true);
+    Ok(())
+}
+
+#[test]
+fn a_comparison_that_a_check_reports_is_made(rt: HostRuntime) -> Result<(), Fail> {
+    let text = compiled(rt.alloc(), REPORTED_BELOW_FIVE.as_bytes())?;
+    // its word is made, and the branch asks whether it is 0
+    let expected = Counts {
+        compared: 1,
+        branches: 0,
+        selects: 1,
     };
     assert_eq!(rt; counts_in(text.words.as_slice()), expected);
     Ok(())

@@ -1,5 +1,6 @@
 //! Streams of which a call fails.
 
+use super::calls::ARRAY;
 use super::{ADD_ONE, names_of};
 use crate::run_tool;
 use b3_io::{AbsentSource, ScriptSink, ScriptSource, SliceSource, VecSink};
@@ -53,14 +54,19 @@ fn a_trial_that_is_absent_is_told(rt: HostRuntime) -> Result<(), Fail> {
 #[test]
 fn each_failing_write_is_told(rt: HostRuntime) -> Result<(), Fail> {
     let words = names_of(rt.alloc(), &["compile"])?;
-    // 744 bytes of object, 300 a call: the front was taken before the failure.
-    for (fails_at, taken) in [(1, 0), (2, 300), (3, 600)] {
-        let mut out = ScriptSink::new(rt.alloc(), &[fails_at], 300, 4096)?;
+    // Objects of 744 bytes, and of more than 1,000: the front was taken before the failure.
+    for (text, most, fails_at, taken) in [
+        (ADD_ONE, 300, 1, 0),
+        (ADD_ONE, 300, 2, 300),
+        (ADD_ONE, 300, 3, 600),
+        (ARRAY, 100, 2, 100),
+    ] {
+        let mut out = ScriptSink::new(rt.alloc(), &[fails_at], most, 4096)?;
         let mut err = VecSink::with_room(rt.alloc(), 100)?;
         let status = run_tool(
             rt.alloc(),
             words.as_slice(),
-            &mut SliceSource::new(ADD_ONE.as_bytes()),
+            &mut SliceSource::new(text.as_bytes()),
             &mut AbsentSource::new(),
             &mut out,
             &mut err,

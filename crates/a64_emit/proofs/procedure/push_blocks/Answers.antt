@@ -1,6 +1,6 @@
 use Rattle.std.proofs.Common.{arith}
 use Rattle.a64_emit.specs.Code.{block_labels, block_marks}
-use Rattle.a64_emit.proofs.BlockPushing.{blocks_done, blocks_next, sum_left}
+use Rattle.a64_emit.proofs.BlockPushing.{blocks_done, blocks_next, sum_done, sum_left}
 use Rattle.a64_emit.proofs.procedure.push_blocks.Goals as goal
 
 pub block_labels-label-requires : goal.block_labels-label-requires
@@ -20,10 +20,13 @@ loop-b-preserved c = record {
       c.push_block.new.code _ c.loop-b.invariant.whole c.get-block.ensures c.in_ok-push.ensures.ok c.in_ok-push_block.ensures);
 }
 
-pub returns : goal.returns
-returns c =
+pub returns-clause-items : goal.returns-clause-items
+returns-clause-items c =
     blocks_done c.args.frame.now c.args.p.now.blocks c.loop-b.b c.loop-b.label c.loop-b.mark c.loop-b.code _ c.loop-b.invariant.whole
     (omega (arith, c.len-count.ensures))
+
+pub returns-clause-marks : goal.returns-clause-marks
+returns-clause-marks c = sum_done block_marks c.args.p.now.blocks c.loop-b.b c.loop-b.mark _ c.loop-b.invariant.marks (omega (arith, c.len-count.ensures))
 
 pub push_block-requires-clause-labels : goal.push_block-requires-clause-labels
 push_block-requires-clause-labels c =

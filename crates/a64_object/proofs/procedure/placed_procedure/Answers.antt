@@ -18,10 +18,10 @@ returns-clause-placed c =
     let selected : AirProc = c.in_ok-selected.selected in
     let placed : AirProc = c.in_ok-placed.placed in
     placed_of (procedure_at c.args.valid.now c.args.proc) c.in_ok-selected.selected c.in_ok-placed.placed c.in_ok-assignment.assignment
-    c.requires.taken.valid c.requires.taken.fit
+    c.keeps_rules.ensures.valid c.keeps_rules.ensures.fit
     c.same_blocks_laws.ensures.onward c.spill_counts.ensures.below c.spill_counts.ensures.named
-    q.same q.light q.few q.kept q.returns_32 q.returns_64 (built_of (procedure_at c.args.valid.now c.args.proc) c.requires.taken.valid c.requires.taken.fit selected placed
-    q.expressed r.comes q.selected)
+    q.same q.light q.few q.kept q.returns_32 q.returns_64 (built_of (procedure_at c.args.valid.now c.args.proc) c.keeps_rules.ensures.valid c.keeps_rules.ensures.fit selected placed
+    q.expressed r.comes)
     q.made_for q.expressed
     r.is r.same r.well r.no_tmps r.kept r.spills r.lighter q.sites r.sites r.comes
 

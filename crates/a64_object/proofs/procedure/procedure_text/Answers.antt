@@ -5,13 +5,13 @@ use Rattle.a64_object.proofs.Making.{room_asked, short_asked, slots_asked}
 use Rattle.a64_object.proofs.procedure.procedure_text.Goals as goal
 
 pub layout-requires-clause-slots : goal.layout-requires-clause-slots
-layout-requires-clause-slots c = slots_asked (procedure_at c.args.valid.now c.args.proc) c.in_ok-placed.placed c.requires.taken c.in_ok-placed.ensures.placed
+layout-requires-clause-slots c = slots_asked (procedure_at c.args.valid.now c.args.proc) c.in_ok-placed.placed c.keeps_rules.ensures.valid c.in_ok-placed.ensures.placed
 
 pub layout-requires-clause-room : goal.layout-requires-clause-room
-layout-requires-clause-room c = room_asked (procedure_at c.args.valid.now c.args.proc) c.in_ok-placed.placed c.requires.taken c.in_ok-placed.ensures.placed
+layout-requires-clause-room c = room_asked (procedure_at c.args.valid.now c.args.proc) c.in_ok-placed.placed c.requires.slots c.in_ok-placed.ensures.placed
 
 pub emit-requires-clause-short : goal.emit-requires-clause-short
-emit-requires-clause-short c = short_asked (procedure_at c.args.valid.now c.args.proc) c.in_ok-placed.placed c.requires.taken c.in_ok-placed.ensures.placed
+emit-requires-clause-short c = short_asked (procedure_at c.args.valid.now c.args.proc) c.in_ok-placed.placed c.requires.limits c.in_ok-placed.ensures.placed
 
 pub returns-clause-made : goal.returns-clause-made
 returns-clause-made c = record {

@@ -5,9 +5,9 @@ use Rattle.b3c_core.proofs.Completeness.{compile_settles, eval_settles, gen_sett
 use Rattle.b3c_core.proofs.tool.run_tool.Goals as goal
 
 pub returns-clause-compiles : goal.returns-clause-compiles
-returns-clause-compiles g c = λ named input output ps text is spelled valid supported small.
+returns-clause-compiles g c = λ named input output ps text is spelled valid small.
     subst (λ status. (status ≡ 0) ⊎ (status ≡ 9)) (sym c.status.ensures)
-    (compile_settles _ c.run_words-ending.result c.run_words-ending.ensures.ended named input output ps text is spelled valid supported small)
+    (compile_settles _ c.run_words-ending.result c.run_words-ending.ensures.ended named input output ps text is spelled valid small)
 
 pub returns-clause-prints : goal.returns-clause-prints
 returns-clause-prints g c = λ named input output ps text is spelled small.
@@ -15,9 +15,9 @@ returns-clause-prints g c = λ named input output ps text is spelled small.
     (print_settles _ c.run_words-ending.result c.run_words-ending.ensures.ended named input output ps text is spelled small)
 
 pub returns-clause-evaluates : goal.returns-clause-evaluates
-returns-clause-evaluates g c = λ named input trial output ps text is spelled valid supported small t bytes has spells short begins.
+returns-clause-evaluates g c = λ named input trial output ps text is spelled valid small t bytes has spells short begins.
     subst (λ status. (status ≡ 0) ⊎ (status ≡ 9)) (sym c.status.ensures)
-    (eval_settles _ c.run_words-ending.result c.run_words-ending.ensures.ended named input trial output ps text is spelled valid supported small t bytes has spells short begins)
+    (eval_settles _ c.run_words-ending.result c.run_words-ending.ensures.ended named input trial output ps text is spelled valid small t bytes has spells short begins)
 
 pub returns-clause-runs : goal.returns-clause-runs
 returns-clause-runs g c = λ named input trial output o file is holds small t bytes has spells short begins.
@@ -29,4 +29,4 @@ returns-clause-generates g c = λ n named output.
     let good = c.generated_texts_are_good.ensures n in
     subst (λ status. (status ≡ 0) ⊎ (status ≡ 9)) (sym c.status.ensures)
     (gen_settles _ c.run_words-ending.result c.run_words-ending.ensures.ended n named output (lined 1 (module_of n))
-    (record { spells = good.spells; within = good.within }) good.valid good.supported)
+    (record { spells = good.spells; within = good.within }) good.valid)

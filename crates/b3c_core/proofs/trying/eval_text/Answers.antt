@@ -21,8 +21,8 @@ pub returns-in-Err-Bad-clause-cause : goal.returns-in-Err-Bad-clause-cause
 returns-in-Err-Bad-clause-cause c =
     let made = c.in_ok-made.made in
     let of = c.in_ok-valid.ensures in
-    let text = known_as c.args.bytes.now made.file c.into_module-module.result c.in_ok-valid.valid made.object c.into_module-module.ensures.same of.text of.valid of.supported c.in_ok-made.ensures in (
-      (made.file, compiled_by c.args.bytes.now made.file (procedures c.into_module-module.result) made.object text.text_of text.valid text.supported text.is_file),
+    let text = known_as c.args.bytes.now made.file c.into_module-module.result c.in_ok-valid.valid made.object c.into_module-module.ensures.same of.text of.valid c.in_ok-made.ensures in (
+      (made.file, compiled_by c.args.bytes.now made.file (procedures c.into_module-module.result) made.object text.text_of text.valid text.is_file),
       subst (IsNoTrial c.args.trial.now) (sym c.in-Err-Bad.line-is)
           (no_trial c.args.trial.now _ (rw c.in-Err-Bad.field-0-is at c.in-Err-Bad.ensures.bad) (rw c.in-Err-Bad.field-0-is at c.in-Err-Bad.ensures.spelled)),
     )
@@ -31,8 +31,8 @@ pub returns-in_default-clause-cause : goal.returns-in_default-clause-cause
 returns-in_default-clause-cause c =
     let made = c.in_ok-made.made in
     let of = c.in_ok-valid.ensures in
-    let text = known_as c.args.bytes.now made.file c.into_module-module.result c.in_ok-valid.valid made.object c.into_module-module.ensures.same of.text of.valid of.supported c.in_ok-made.ensures in
-    misplaced_over c.args.bytes.now made.file c.args.trial.now (procedures c.into_module-module.result) made.object (trial_of c.in-Ok.trial) text.text_of text.valid text.supported text.is_file
+    let text = known_as c.args.bytes.now made.file c.into_module-module.result c.in_ok-valid.valid made.object c.into_module-module.ensures.same of.text of.valid c.in_ok-made.ensures in
+    misplaced_over c.args.bytes.now made.file c.args.trial.now (procedures c.into_module-module.result) made.object (trial_of c.in-Ok.trial) text.text_of text.valid text.is_file
     c.in-Ok.ensures.ok
     (no_procedure_begins (procedures c.into_module-module.result) text.is_file.reduced made.object (trial_of c.in-Ok.trial) text.is_file.code
     (subst (λ name. (k : ℕ) (p : Procedure) → slice_get (procedures c.into_module-module.result) k ≡ Some p → p.name ≢ name) c.as_slice.ensures c.in_default.ensures.none))
@@ -48,8 +48,8 @@ pub returns-in-Err-NoProcedure-clause-cause : goal.returns-in-Err-NoProcedure-cl
 returns-in-Err-NoProcedure-clause-cause c =
     let made = c.in_ok-made.made in
     let of = c.in_ok-valid.ensures in
-    let text = known_as c.args.bytes.now made.file c.into_module-module.result c.in_ok-valid.valid made.object c.into_module-module.ensures.same of.text of.valid of.supported c.in_ok-made.ensures in
-    misplaced_over c.args.bytes.now made.file c.args.trial.now (procedures c.into_module-module.result) made.object (trial_of c.in-Ok.trial) text.text_of text.valid text.supported text.is_file
+    let text = known_as c.args.bytes.now made.file c.into_module-module.result c.in_ok-valid.valid made.object c.into_module-module.ensures.same of.text of.valid c.in_ok-made.ensures in
+    misplaced_over c.args.bytes.now made.file c.args.trial.now (procedures c.into_module-module.result) made.object (trial_of c.in-Ok.trial) text.text_of text.valid text.is_file
     c.in-Ok.ensures.ok
     (no_symbol_begins made.object (trial_of c.in-Ok.trial)
     (subst (λ name. ¬ (Contains (names_of made.object.symbols) name))
@@ -60,8 +60,8 @@ pub returns-in-Err-Placement-clause-cause : goal.returns-in-Err-Placement-clause
 returns-in-Err-Placement-clause-cause c =
     let made = c.in_ok-made.made in
     let of = c.in_ok-valid.ensures in
-    let text = known_as c.args.bytes.now made.file c.into_module-module.result c.in_ok-valid.valid made.object c.into_module-module.ensures.same of.text of.valid of.supported c.in_ok-made.ensures in
-    misplaced_over c.args.bytes.now made.file c.args.trial.now (procedures c.into_module-module.result) made.object (trial_of c.in-Ok.trial) text.text_of text.valid text.supported text.is_file
+    let text = known_as c.args.bytes.now made.file c.into_module-module.result c.in_ok-valid.valid made.object c.into_module-module.ensures.same of.text of.valid c.in_ok-made.ensures in
+    misplaced_over c.args.bytes.now made.file c.args.trial.now (procedures c.into_module-module.result) made.object (trial_of c.in-Ok.trial) text.text_of text.valid text.is_file
     c.in-Ok.ensures.ok
     (misplaced_begins made.object (trial_of c.in-Ok.trial) text.is_file.code.good
     (subst (λ name. IsMisplaced made.object name (machine_start_of c.in-Ok.trial.start))
@@ -72,13 +72,13 @@ pub returns-clause-evaluated : goal.returns-clause-evaluated
 returns-clause-evaluated c =
     let made = c.in_ok-made.made in
     let of = c.in_ok-valid.ensures in
-    let text = known_as c.args.bytes.now made.file c.into_module-module.result c.in_ok-valid.valid made.object c.into_module-module.ensures.same of.text of.valid of.supported c.in_ok-made.ensures in
+    let text = known_as c.args.bytes.now made.file c.into_module-module.result c.in_ok-valid.valid made.object c.into_module-module.ensures.same of.text of.valid c.in_ok-made.ensures in
     let found = c.in-Some.ensures.found in
     let placed = c.in-Ok-place.ensures.ok in
     let p = c.proc-p.result.now.procedure in
     let named = found_name c.into_module-module.result c.in-Some.at c.proc-p.result.now found.0 c.in-Ok.trial.name c.proc-p.ensures found.1 (found.2 ∙ c.as_slice.ensures) in
     evaluated_over c.args.bytes.now made.file c.args.trial.now c.in_ok-shown.shown (procedures c.into_module-module.result) made.object (trial_of c.in-Ok.trial)
-    text.text_of text.valid text.supported text.is_file c.in-Ok.ensures.ok placed.0 placed.1
+    text.text_of text.valid text.is_file c.in-Ok.ensures.ok placed.0 placed.1
     (subst (λ name. MayBegin made.object name (machine_start_of c.in-Ok.trial.start) placed.0 placed.1) (c.name.ensures ∙ named) placed.2)
     c.in-Some.at p (procedure_at c.into_module-module.result c.in-Some.at c.proc-p.result.now c.proc-p.ensures) named
     (subst (λ answers. All IsRangedAnswer (map answer_of answers)) c.as_slice-answers.ensures c.ranged_answers.ensures)

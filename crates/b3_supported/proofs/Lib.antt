@@ -1,3 +1,0 @@
-pub mod Lesser
-pub mod Least
-pub mod Telling

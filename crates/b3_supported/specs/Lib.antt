@@ -1,3 +1,0 @@
-pub mod Supported
-pub mod Faults
-pub mod Lines
