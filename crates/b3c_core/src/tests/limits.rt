@@ -1,7 +1,6 @@
 //! Texts and sites at their limits.
 
 use super::{call, call_with_room};
-use crate::compile;
 use stackmap::Rep;
 use std::alloc::Global;
 use std::test::Fail;
@@ -82,11 +81,9 @@ fn text_of_reports(alloc: Global) -> Result<(String, String), Fail> {
 #[test]
 fn a_check_reports_1000_words(rt: HostRuntime) -> Result<(), Fail> {
     let (text, seen) = text_of_reports(rt.alloc())?;
-    let object = match compile(rt.alloc(), text.as_bytes()) {
-        Ok(object) => object,
-        Err(_) => return Err("refused".into()),
-    };
-    let read = elf_obj::read(rt.alloc(), object.as_slice())?;
+    let object = call_with_room(rt.alloc(), 65536, &["compile"], text.as_bytes(), "")?;
+    assert_eq!(rt; object.status, 0);
+    let read = elf_obj::read(rt.alloc(), object.out.bytes())?;
     assert_eq!(rt; read.tables.sites.len(), 1);
     let reps = &read.tables.sites.get(0).site.reps;
     assert_eq!(rt; reps.len(), 1000);
@@ -99,7 +96,7 @@ fn a_check_reports_1000_words(rt: HostRuntime) -> Result<(), Fail> {
     assert!(rt; in_frame > 900);
     let trial = "procedure f\nx0 0x4000000000000000\n";
     let evaluated = call_with_room(rt.alloc(), 65536, &["eval", "t"], text.as_bytes(), trial)?;
-    let run = call_with_room(rt.alloc(), 65536, &["run", "t"], object.as_slice(), trial)?;
+    let run = call_with_room(rt.alloc(), 65536, &["run", "t"], object.out.bytes(), trial)?;
     assert_eq!(rt; evaluated.out.bytes(), seen.as_bytes());
     assert_eq!(rt; run.out.bytes(), seen.as_bytes());
     Ok(())
