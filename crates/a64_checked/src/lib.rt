@@ -3,7 +3,5 @@
 #![tactic(auto)]
 
 mod checks;
-#[cfg(test)]
-mod tests;
 
 pub use checks::{checks_are_exact, passing, push_comparing, push_making};

@@ -1,8 +1,6 @@
 //! Code of AArch64 below emission: words of the frame, constants, and the instruction of an op on registers.
 #![tactic(auto)]
 
-#[cfg(test)]
-mod access_tests;
 mod accesses;
 mod arithmetic;
 mod constants;

@@ -4,8 +4,6 @@
 mod accesses;
 mod case;
 mod checks;
-#[cfg(test)]
-mod emission_tests;
 mod insts;
 mod procedure;
 mod shuffles;

@@ -4,8 +4,6 @@
 mod branch;
 mod layout;
 mod places;
-#[cfg(test)]
-mod tests;
 mod text;
 
 pub use branch::Test;

@@ -16,8 +16,6 @@ mod outside;
 mod placement;
 mod running;
 mod saved;
-#[cfg(test)]
-mod tests;
 mod text;
 mod touching;
 

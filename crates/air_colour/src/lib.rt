@@ -9,10 +9,6 @@ mod homes;
 mod joining;
 mod moves;
 mod simplify;
-#[cfg(test)]
-mod slow;
-#[cfg(test)]
-mod tests;
 mod waiting;
 mod worklist;
 

@@ -3,8 +3,6 @@
 
 mod flow;
 mod laws;
-#[cfg(test)]
-mod tests;
 mod touches;
 
 pub use flow::AirFlow;

@@ -7,8 +7,6 @@ mod laws;
 mod placing;
 mod registers;
 mod spills;
-#[cfg(test)]
-mod tests;
 
 pub use frame::layout;
 pub use laws::spill_counts;

@@ -10,8 +10,6 @@ mod met;
 mod moves;
 mod near;
 mod pages;
-#[cfg(test)]
-mod tests;
 mod touched;
 mod walk;
 

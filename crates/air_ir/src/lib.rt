@@ -8,8 +8,6 @@ mod laws;
 mod op;
 mod operand;
 mod procedure;
-#[cfg(test)]
-mod tests;
 
 pub use assignment::Assignment;
 pub use frame::Frame;

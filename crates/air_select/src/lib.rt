@@ -9,8 +9,6 @@ mod procedure;
 mod rows;
 mod site;
 mod tables;
-#[cfg(test)]
-mod tests;
 mod values;
 
 pub use procedure::select;

@@ -5,8 +5,6 @@ mod moves;
 mod order;
 mod pending;
 mod sequencing;
-#[cfg(test)]
-mod tests;
 mod writers;
 
 pub use moves::{Move, Moves};

@@ -3,7 +3,5 @@
 
 mod operands;
 mod procedure;
-#[cfg(test)]
-mod tests;
 
 pub use procedure::rewrite;

@@ -7,8 +7,6 @@ mod laws;
 mod moves;
 mod operands;
 mod site;
-#[cfg(test)]
-mod tests;
 
 pub use child::{Child, arg_of};
 pub use laws::site_laws;

@@ -9,8 +9,6 @@ mod effect;
 mod run;
 mod state;
 mod terminals;
-#[cfg(test)]
-mod tests;
 mod types;
 mod words;
 

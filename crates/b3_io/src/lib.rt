@@ -11,8 +11,6 @@ mod sink;
 mod slice_source;
 mod source;
 mod std_streams;
-#[cfg(test)]
-mod tests;
 mod transfer;
 mod vec_sink;
 

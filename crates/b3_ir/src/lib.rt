@@ -7,8 +7,6 @@ mod opcode;
 mod procedure;
 mod reg_set;
 mod table;
-#[cfg(test)]
-mod tests;
 mod types;
 mod value;
 

@@ -5,8 +5,6 @@
 mod laws;
 mod opcodes;
 mod role;
-#[cfg(test)]
-mod tests;
 mod words;
 
 pub use laws::keeping_laws;

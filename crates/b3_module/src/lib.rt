@@ -12,6 +12,3 @@ mod reading;
 pub use fault::{LimitName, TextFault};
 pub use laws::{lines_are_free, rows_spell, texts_are_listed, texts_are_named};
 pub use reading::read;
-
-#[cfg(test)]
-mod tests;

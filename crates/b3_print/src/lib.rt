@@ -6,6 +6,3 @@ mod printing;
 
 pub use laws::texts_are_read_again;
 pub use printing::print;
-
-#[cfg(test)]
-mod tests;

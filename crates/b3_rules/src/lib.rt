@@ -4,8 +4,6 @@
 mod cases;
 mod rule;
 mod sites;
-#[cfg(test)]
-mod tests;
 
 pub use cases::cases_keep;
 pub use rule::Rule;

@@ -9,8 +9,6 @@ mod numbers;
 mod reading;
 mod showing;
 mod so_far;
-#[cfg(test)]
-mod tests;
 mod words;
 
 pub use fault::TrialFault;

@@ -6,8 +6,6 @@ mod gather;
 mod lists;
 mod names;
 mod origins;
-#[cfg(test)]
-mod tests;
 mod uncovered;
 
 pub use uncovered::uncovered_use;

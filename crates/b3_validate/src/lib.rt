@@ -7,8 +7,6 @@ mod index;
 mod judge;
 mod procedure;
 mod spot;
-#[cfg(test)]
-mod tests;
 mod valid;
 mod values;
 

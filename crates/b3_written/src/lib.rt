@@ -5,8 +5,6 @@ mod items;
 mod laws;
 mod lines;
 mod numbers;
-#[cfg(test)]
-mod tests;
 
 pub use laws::{lines_are_cut, rows_are_read, words_fit};
 pub use lines::{

@@ -6,8 +6,6 @@ mod compiler;
 mod ending;
 mod generating;
 mod laws;
-#[cfg(test)]
-mod tests;
 mod tool;
 mod trying;
 

@@ -134,6 +134,3 @@ impl Rows {
         listing::list_words(alloc, &self.words, row * self.stride, self.stride)
     }
 }
-
-#[cfg(test)]
-mod tests;

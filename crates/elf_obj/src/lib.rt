@@ -16,6 +16,3 @@ pub use fault::ObjectFault;
 pub use file::write;
 pub use object::{Object, Symbol, Symbols};
 pub use reader::read;
-
-#[cfg(test)]
-mod tests;

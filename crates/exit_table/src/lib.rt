@@ -18,6 +18,3 @@ pub use frames::write_frames;
 pub use laws::{first_fault_stays, no_fault_before};
 pub use reader::read;
 pub use tables::{FrameRow, FrameRows, SiteRow, SiteRows, Tables};
-
-#[cfg(test)]
-mod tests;

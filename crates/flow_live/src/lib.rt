@@ -132,6 +132,3 @@ impl LiveSets {
         self.live_out(block, name)
     }
 }
-
-#[cfg(test)]
-mod tests;

@@ -8,8 +8,6 @@ mod links;
 mod node;
 mod nodes;
 mod raw;
-#[cfg(test)]
-mod tests;
 
 pub use chains::Chains;
 pub use node::{ChainId, NodeId};

@@ -7,8 +7,6 @@ mod obeying;
 mod placing;
 pub mod set;
 mod site;
-#[cfg(test)]
-mod tests;
 
 pub use constraint::{fixed_by, has_result, is_late};
 pub use obeying::obeys;

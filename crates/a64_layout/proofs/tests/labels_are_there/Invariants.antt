@@ -1,6 +1,0 @@
-use Rattle.a64_layout.proofs.Checking.{AreThereBefore}
-use Rattle.a64_layout.proofs.Putting.{label_at}
-use Rattle.a64_layout.proofs.tests.labels_are_there.Given as goal
-
-abbrev pub invariant-loop-label : goal.invariant-loop-label
-invariant-loop-label l = AreThereBefore l.code label_at l.labels l.label

@@ -1,6 +1,0 @@
-use Rattle.a64_layout.proofs.Checking.{AreThereBefore}
-use Rattle.a64_layout.proofs.Putting.{mark_at}
-use Rattle.a64_layout.proofs.tests.marks_are_there.Given as goal
-
-abbrev pub invariant-loop-mark : goal.invariant-loop-mark
-invariant-loop-mark l = AreThereBefore l.code mark_at l.marks l.mark

@@ -1,9 +1,0 @@
-use Rattle.std.proofs.Common.{◌≡◌}
-use Rattle.air_colour.proofs.tests.connect_from.Given as goal
-
-abbrev pub invariant-loop-j : goal.invariant-loop-j
-invariant-loop-j l = record {
-  names : l.graph.edges.names ≡ l.initial.graph.edges.names;
-  moves : l.graph.moves ≡ l.initial.graph.moves;
-  tmps : l.graph.tmps ≡ l.initial.graph.tmps;
-}

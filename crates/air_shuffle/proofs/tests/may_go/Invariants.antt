@@ -1,9 +1,0 @@
-use Rattle.std.proofs.Common.{◌≡◌, length}
-use Rattle.air_shuffle.specs.Tested.{may_go}
-use Rattle.air_shuffle.proofs.tests.may_go.Given as goal
-
-abbrev pub invariant-loop-first : goal.invariant-loop-first
-invariant-loop-first l = may_go l.scratch l.moves ≡ may_go l.scratch l.rest
-
-abbrev pub decreases-loop-first : goal.decreases-loop-first
-decreases-loop-first l = length l.rest

@@ -1,8 +1,0 @@
-use Rattle.std.proofs.Common.{◌≡◌, length}
-use Rattle.bit_rows.proofs.tests.put_multiples.Given as goal
-
-abbrev pub invariant-loop-bit : goal.invariant-loop-bit
-invariant-loop-bit l = record {
-  bits : l.rows.bits ≡ l.initial.rows.bits;
-  rows : length l.rows.sets ≡ length l.initial.rows.sets;
-}
