@@ -12,3 +12,4 @@ pub mod Canonically
 pub mod TextLemmas
 pub mod LinedLemmas
 pub mod LimitSums
+pub mod LimitCounts

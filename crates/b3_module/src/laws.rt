@@ -1,12 +1,12 @@
 //! Laws of texts.
 
-ghost use Rattle.std.specs.Prelude.{◌≡◌, ◌≤◌, ℕ, List, All, length};
+ghost use Rattle.std.specs.Prelude.{◌≡◌, ◌≤◌, ℕ, List, All, length, sum_by};
 ghost use Rattle.std.specs.List.{AllByRecursion};
 ghost use Rattle.b3_ir.specs.Names.{IsName};
-ghost use Rattle.b3_ir.specs.Procedure.{Procedure};
+ghost use Rattle.b3_ir.specs.Procedure.{Block, Procedure, total};
 ghost use Rattle.b3_rows.specs.Ranges.{IsGoodRow};
 ghost use Rattle.b3_module.specs.Canonical.{AreRowed, RowsSpell, canonical_rows, lined};
-ghost use Rattle.b3_module.specs.Limits.{KeepsLimits};
+ghost use Rattle.b3_module.specs.Limits.{KeepsLimits, operands};
 ghost use Rattle.b3_module.specs.TextModules.{IsTextModule};
 ghost use Rattle.b3_module.specs.Texts.{Spells};
 
@@ -40,4 +40,14 @@ pub fn texts_are_named()
 pub fn lines_are_free()
     ensures rows { (line : ℕ) (m : List Procedure) → canonical_rows (lined line m) ≡ canonical_rows m }
     ensures limits { (line : ℕ) (m : List Procedure) → KeepsLimits m → KeepsLimits (lined line m) }
+{}
+
+/// Tells what the limits say of whole modules: at most 65,536 values in all procedures together, 262,144 children and
+/// cases, and in each procedure 4,096 slots and 4,096 blocks. It takes no memory.
+pub fn limits_are_counted()
+    ensures values { (m : List Procedure) → KeepsLimits m → sum_by total m ≤ 65536 }
+    ensures operands { (m : List Procedure) → KeepsLimits m
+        → sum_by (λ (p : Procedure). sum_by (λ (b : Block). sum_by operands b.values) p.blocks) m ≤ 262144 }
+    ensures slots { (m : List Procedure) → KeepsLimits m → All (λ (p : Procedure). length p.slots ≤ 4096) m }
+    ensures blocks { (m : List Procedure) → KeepsLimits m → All (λ (p : Procedure). length p.blocks ≤ 4096) m }
 {}

@@ -14,3 +14,4 @@ pub mod BodyAgain
 pub mod ValueAgain
 pub mod CutLemmas
 pub mod AgainLemmas
+pub mod LengthLemmas

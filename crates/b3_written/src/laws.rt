@@ -1,6 +1,6 @@
 //! Laws of the lines that are written.
 
-ghost use Rattle.std.specs.Prelude.{◌≡◌, ◌∷◌, ◌++◌, ℕ, List};
+ghost use Rattle.std.specs.Prelude.{◌≡◌, ◌≤◌, ◌∷◌, ◌++◌, ℕ, List, length};
 ghost use Rattle.b3_ir.specs.Fits.{Fits};
 ghost use Rattle.b3_ir.specs.Table.{row_of};
 ghost use Rattle.b3_ir.specs.declared.value.Value.{Value};
@@ -10,6 +10,7 @@ ghost use Rattle.b3_rows.specs.Rows.{row_of_line};
 ghost use Rattle.b3_rows.specs.declared.row.Row.{Row};
 ghost use Rattle.b3_rows.specs.declared.row.Row.TheVariants.{ValueRow};
 ghost use Rattle.b3_rows.specs.Written.{line_of_row};
+ghost use Rattle.b3_written.specs.Lengths.{most_bytes};
 ghost use Rattle.b3_written.specs.Listed.{FitsWord};
 
 use b3_rows::lines_fit;
@@ -33,4 +34,9 @@ pub fn rows_are_read()
 pub fn lines_are_cut()
     ensures { (row : Row) → IsGoodRow row → (rest : List ℕ)
         → lines_of (line_of_row row ++ (10 ∷ rest)) ≡ line_of_row row ∷ lines_of rest }
+{}
+
+/// Tells how many bytes a canonical line may have. It takes no memory.
+pub fn lines_are_short()
+    ensures { (row : Row) → IsGoodRow row → length (line_of_row row) ≤ most_bytes row }
 {}
