@@ -81,6 +81,7 @@ module _ (p : AirProc) (frame : Frame) (well : IsWellFormed p) (no_tmps : p.tmps
       let few : most_words (emitted p frame) ≤ weight p = light p frame well built serves in
       let count = labels_counted p frame in
       record {
+        items = refl;
         labelled = well_labelled p frame well serves.good.limit serves.good.saved (procedure_sites p frame) (code_marked p frame well built) (omega arith);
         labels = omega arith;
         rising = positions_rise p frame;

@@ -34,6 +34,7 @@ use Rattle.a64_layout.specs.Run as run
 use Rattle.a64_layout.specs.Text.{IsWellLabelled, label_count, mark_count, mark_position_of}
 use Rattle.a64_run.specs.Machine.{flags_from, returned_word, touched}
 use Rattle.a64_run.specs.Placement.{entry_memory, in_frame, in_slot, visible}
+use Rattle.a64_emit.specs.Code.{emitted}
 use Rattle.a64_emit.specs.Setting.{Setting, IsSet, address_of, meaning_of, row, site_before}
 use Rattle.a64_emit.specs.Related.{HasFrame, IsRelated}
 use Rattle.a64_emit.specs.Sites.{IsSiteIn, SuitsItems}
@@ -246,12 +247,13 @@ abbrev pub IsSettingOf : AirProc → Frame → List Item → List Site → Setti
 IsSettingOf p frame code sites z =
     (z.procedure ≡ p) × (z.frame ≡ frame) × (z.code ≡ code) × (z.sites ≡ sites) × IsSet z
 
--- code is that of a procedure with a frame. Its labels are right and those below the number of blocks are the blocks', in
--- order, and words stand behind each. Mark k is that of site k: the marks stand in order, each where the code is what its
--- site asks for; each site is that of an instruction of the procedure, and no two are of one value. It is no longer than the
--- procedure weighs; and from the first item on it does what the entry does, and from each other block's label on what that
--- block does
+-- code is that of a procedure with a frame: its items are the emitted ones. Its labels are right and those below the number
+-- of blocks are the blocks', in order, and words stand behind each. Mark k is that of site k: the marks stand in order, each
+-- where the code is what its site asks for; each site is that of an instruction of the procedure, and no two are of one
+-- value. It is no longer than the procedure weighs; and from the first item on it does what the entry does, and from each
+-- other block's label on what that block does
 pub record IsCodeOfAir (p : AirProc) (frame : Frame) (code : List Item) (sites : List Site) : Type 0 where
+  pub items : code ≡ emitted p frame
   pub labelled : IsWellLabelled code
   pub labels : length p.blocks ≤ label_count code
   pub rising : (b c : ℕ) → b < c → c < length p.blocks → position_of code b < position_of code c

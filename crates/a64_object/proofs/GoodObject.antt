@@ -234,7 +234,7 @@ small_by ps parts named limits taken are =
 
 pub object_small : (ps : List Procedure) (o : Object) → HaveNames ps → AreWithinLimits ps → All IsTaken ps → IsJoinedOf ps o → size_bound o ≤ 134_217_728
 object_small ps o named limits taken joined =
-    subst (λ (x : Object). size_bound x ≤ 134_217_728) (sym joined.2) (small_by ps joined.0 named limits taken joined.1)
+    subst (λ (x : Object). size_bound x ≤ 134_217_728) (sym joined.is) (small_by ps joined.parts named limits taken joined.each)
 
 -- ---- each of them
 no_more : (n : ℕ) → 0 + n ≡ n
@@ -355,5 +355,5 @@ code_by ps parts valid named limits taken are narrow = record {
 pub object_is_code : (ps : List Procedure) (o : Object) → IsValid ps → HaveNames ps → AreWithinLimits ps → All IsTaken ps → IsJoinedOf ps o
     → All (λ w. w < 2 ^ 32) o.text → IsCodeOf ps ps o
 object_is_code ps o valid named limits taken joined narrow =
-    subst (IsCodeOf ps ps) (sym joined.2)
-    (code_by ps joined.0 valid named limits taken joined.1 (subst (λ (x : Object). All (λ w. w < 2 ^ 32) x.text) joined.2 narrow))
+    subst (IsCodeOf ps ps) (sym joined.is)
+    (code_by ps joined.parts valid named limits taken joined.each (subst (λ (x : Object). All (λ w. w < 2 ^ 32) x.text) joined.is narrow))

@@ -163,21 +163,21 @@ object_more parts x =
     same_object a b c d = cc
 
 pub joined_none : (ps : List Procedure) → IsJoinedOf (take 0 ps) (object_of [])
-joined_none ps = ([], parts_none, refl)
+joined_none ps = record { parts = []; each = parts_none; is = refl }
 
 -- a procedure more is joined
 pub joined_more : (ps : List Procedure) (at : ℕ) (p : Procedure) (o next : Object) (x : Part) → slice_get ps at ≡ Some p → IsJoinedOf (take at ps) o
     → IsPartOf p x → next ≡ with_part o x
     → IsJoinedOf (take (at + 1) ps) next
-joined_more ps at p o next x there joined is more = (
-  joined.0 ++ x ∷ [],
-  subst (λ qs. ArePartsOf qs (joined.0 ++ x ∷ [])) (sym (take_item ps at p there)) (parts_more (take at ps) joined.0 p x joined.1 is),
-  more ∙ ap (λ y. with_part y x) joined.2 ∙ object_more joined.0 x,
-)
+joined_more ps at p o next x there joined is more = record {
+  parts = joined.parts ++ x ∷ [];
+  each = subst (λ qs. ArePartsOf qs (joined.parts ++ x ∷ [])) (sym (take_item ps at p there)) (parts_more (take at ps) joined.parts p x joined.each is);
+  is = more ∙ ap (λ y. with_part y x) joined.is ∙ object_more joined.parts x;
+}
 
 pub joined_short : (ps : List Procedure) (at : ℕ) (o : Object) → IsJoinedOf (take at ps) o → length o.text ≤ sum_by words_bound ps
-joined_short ps at o joined = let text : length o.text ≡ length (flat_map words_in joined.0) = ap (λ (x : Object). length x.text) joined.2 in
-    let far = text_so_far ps at joined.0 joined.1 in omega arith
+joined_short ps at o joined = let text : length o.text ≡ length (flat_map words_in joined.parts) = ap (λ (x : Object). length x.text) joined.is in
+    let far = text_so_far ps at joined.parts joined.each in omega arith
 
 -- what is pushed is a part
 pub pushed : (o : Object) (p : Procedure) (words : List ℕ) (row : FrameRow) (rows : List SiteRow) (text : List ℕ) (symbols : List Symbol)

@@ -1,4 +1,4 @@
--- The object of the codes of procedures, one after the other. No public clause cites this module.
+-- The object of a module: what the passes make of each procedure, one part behind the other.
 use Rattle.std.specs.Prelude.{◌≡◌, ℕ, ◌+◌, ◌*◌, List, [], ◌∷◌, ◌++◌, length, map}
 use Rattle.std.specs.List.{flat_map}
 use Rattle.b3_ir.specs.Procedure.{Procedure}
@@ -8,7 +8,8 @@ use Rattle.elf_obj.specs.declared.object.Object.{Object}
 use Rattle.elf_obj.specs.declared.object.Symbol.{Symbol}
 use Rattle.a64_object.specs.Made.{IsMadeOf}
 
--- the name of a procedure, the words of its code, the row of its frame, and those of its sites, from its first byte on
+-- a part of an object: the name of a procedure, the words of its code, the row of its frame, and those of its sites, in
+-- bytes from the first word on
 pub record Part : Type 0 where
   pub name : List ℕ
   pub words : List ℕ
@@ -40,7 +41,8 @@ abbrev pub sites_from : ℕ → List Part → List SiteRow
 sites_from offset [] = []
 sites_from offset (part ∷ parts) = sites_at offset part ++ sites_from (offset + 4 * length part.words) parts
 
--- the object of parts: their words one after the other, with their sites
+-- the object of parts, one behind the other: the words of each, with a symbol where they begin; the row of each frame; and
+-- the sites of each, from where its words begin
 abbrev pub object_of : List Part → Object
 object_of parts = record {
   text = flat_map words_in parts;
@@ -59,16 +61,20 @@ with_part o part = record {
   };
 }
 
--- a part is that of a procedure; and parts are those of procedures, in order
+-- a part is that of a procedure: it has its name, and is what the passes make of it
 pub record IsPartOf (p : Procedure) (part : Part) : Type 0 where
   pub name : part.name ≡ p.name
   pub made : IsMadeOf p part.words part.row part.sites
 
+-- parts are those of procedures, in order
 unfoldable pub ArePartsOf : List Procedure → List Part → Type 0
 ArePartsOf [] [] = Unit {0}
 ArePartsOf (p ∷ ps) (part ∷ parts) = IsPartOf p part × ArePartsOf ps parts
 ArePartsOf _ _ = ⊥
 
--- an object is that of parts of procedures
-abbrev pub IsJoinedOf : List Procedure → Object → Type 0
-IsJoinedOf ps o = (parts : List Part) × ArePartsOf ps parts × (o ≡ object_of parts)
+-- an object is what the passes make of procedures: of each, in order, a part that is selected, coloured by its interference
+-- graph, rewritten, laid out in a frame, emitted, and the shortest text of that; and nothing else
+pub record IsJoinedOf (ps : List Procedure) (o : Object) : Type 0 where
+  pub parts : List Part
+  pub each : ArePartsOf ps parts
+  pub is : o ≡ object_of parts

@@ -18,12 +18,13 @@ use exit_table::{FrameRows, SiteRow, SiteRows, Tables};
 use stackmap::{Site, Sites};
 use std::alloc::Global;
 
-/// The object of a valid module's procedures with their code, one after the other; its file has at most 134,217,728
-/// bytes. It is refused for want of memory alone.
+/// The object of a valid module's procedures with their code, one after the other: of each what the passes make of it.
+/// Its file has at most 134,217,728 bytes. It is refused for want of memory alone.
 pub fn module_object(alloc: Global, valid: &Valid) -> Result<Object, NoMemory>
     requires named { HaveNames (procedures valid.now) }
     requires limits { AreWithinLimits (procedures valid.now) }
     ensures code { IfOk result (IsCodeOf (procedures valid.now) (procedures valid.now)) }
+    ensures joined { IfOk result (IsJoinedOf (procedures valid.now)) }
     ensures small { IfOk result (λ o. size_bound o ≤ 134217728) }
 {
     all_fit(valid.module());
@@ -39,7 +40,7 @@ fn all_fit(module_: &Module)
     }
 }
 
-/// The same, as the codes of the procedures that are joined.
+/// The same, with words of 32 bits.
 fn joined_object(alloc: Global, valid: &Valid) -> Result<Object, NoMemory>
     requires named { HaveNames (procedures valid.now) }
     requires limits { AreWithinLimits (procedures valid.now) }

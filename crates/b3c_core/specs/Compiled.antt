@@ -13,17 +13,22 @@ use Rattle.b3_rules.specs.Valid.{IsValid}
 use Rattle.elf_obj.specs.declared.object.Object.{Object}
 use Rattle.elf_obj.specs.Elf.{Holds}
 use Rattle.a64_run.specs.CodeOf.{IsCodeOf}
+use Rattle.a64_object.specs.Joined.{IsJoinedOf}
 use Rattle.b3c_core.specs.declared.compiler.Fault.{Fault}
 use Rattle.b3c_core.specs.declared.compiler.Fault.TheVariants.{Syntax, Limit, Invalid, NoMemory}
 
 -- the bytes of a file hold an object, which is the code of some procedures: the code and the frame of
 -- each agree with it, so from each machine start that may begin it the machine shows the same as the run
--- of B3. Each site is that of a value of what its procedure was reduced to, and keeps that value's constraints
+-- of B3. Each site is that of a value of what its procedure was reduced to, and keeps that value's constraints.
+-- The object is what the passes make of what the procedures were reduced to. Nothing is reduced yet, so that is the
+-- procedures themselves
 pub record IsFileWith (procedures : List Procedure) (object : Object) (file : List ℕ) : Type 0 where
   pub reduced : List Procedure
   pub holds : Holds file object
   pub small : length file ≤ 134_217_728
   pub code : IsCodeOf procedures reduced object
+  pub joined : IsJoinedOf reduced object
+  pub nothing_reduced : reduced ≡ procedures
 
 -- it holds one such object
 pub record IsFileOf (procedures : List Procedure) (file : List ℕ) : Type 0 where

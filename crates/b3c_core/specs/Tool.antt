@@ -1,5 +1,5 @@
 -- The command line, the statuses and their lines, and the causes of each.
-use Rattle.std.specs.Prelude.{◌≡◌, ℕ, ◌^◌, ◌<◌, ◌≤◌, Bool, true, false, if◌then◌else◌, List, [], ◌∷◌, ◌++◌, length, take, codes, bytes_eq, Option, Some, None, option_map}
+use Rattle.std.specs.Prelude.{◌≡◌, ◌⊎◌, ℕ, ◌^◌, ◌<◌, ◌≤◌, Bool, true, false, if◌then◌else◌, List, [], ◌∷◌, ◌++◌, length, take, codes, bytes_eq, Option, Some, None, option_map}
 use Rattle.std.specs.Fmt.{decimal}
 use Rattle.std.specs.Io.KnownBytes.{Appends}
 use Rattle.b3_io.specs.Faults.{Rose}
@@ -235,14 +235,19 @@ HasAnswered Output Cause call TooLong = ⊥
 HasAnswered Output Cause call TrialTooLong = ⊥
 HasAnswered Output Cause call ending = Cause ending
 
--- an input was read to its end, and has no more bytes than it may; a command that reads none has none
+-- an input was read to its end, none of its reads failed, and it has no more bytes than it may; a command that reads none
+-- has none
 abbrev pub HasReadInput : Bool → ℕ → Call → List ℕ → Type 0
-HasReadInput true limit call input = ReadsWhole call.left call.left' input × (length input ≤ limit)
+HasReadInput true limit call input =
+    ReadsWhole call.left call.left' input × (length input ≤ limit) × (call.input_faults' ≡ call.input_faults)
 HasReadInput false limit call input = input ≡ []
 
--- a trial was read to its end, and has no more bytes than it may; a command without one has none
+-- a trial was read to its end, none of its reads failed, and it has no more bytes than it may; a command without one has
+-- none
 abbrev pub HasReadTrial : Bool → Call → List ℕ → Type 0
-HasReadTrial true call trial = ReadsWhole call.trial_left call.trial_left' trial × (length trial ≤ text_limit)
+HasReadTrial true call trial =
+    ReadsWhole call.trial_left call.trial_left' trial × (length trial ≤ text_limit)
+    × (call.trial_faults' ≡ call.trial_faults)
 HasReadTrial false call trial = trial ≡ []
 
 -- the words name a command, whose input and whose trial were read
@@ -255,7 +260,8 @@ pub record HasRead (call : Call) (ending : Ending) : Type 0 where
   pub tried : HasReadTrial (takes_trial command) call trial
   pub answered : HasAnswered (output_of command input trial) (cause_of command input trial) call ending
 
--- more bytes came than may, from the input of a command that reads one, or from the trial of one that takes one
+-- more bytes came than may, from the input of a command that reads one, or from the trial of one that takes one, once its
+-- input was read
 pub record PassesInput (call : Call) : Type 0 where
   pub command : Command
   pub named : command_of call.words ≡ Some command
@@ -266,9 +272,11 @@ pub record PassesTrial (call : Call) : Type 0 where
   pub command : Command
   pub named : command_of call.words ≡ Some command
   pub takes : takes_trial command ≡ true
+  pub input : List ℕ
+  pub read : HasReadInput (reads_input command) (limit_of command) call input
   pub long : Takes (λ n. text_limit < n) call.trial_left call.trial_left'
 
--- a read failed, of the input of a command that reads one, or of the trial of one that takes one
+-- a read failed, of the input of a command that reads one, or of the trial of one that takes one, once its input was read
 pub record FailsInput (call : Call) : Type 0 where
   pub command : Command
   pub named : command_of call.words ≡ Some command
@@ -279,6 +287,8 @@ pub record FailsTrial (call : Call) : Type 0 where
   pub command : Command
   pub named : command_of call.words ≡ Some command
   pub takes : takes_trial command ≡ true
+  pub input : List ℕ
+  pub read : HasReadInput (reads_input command) (limit_of command) call input
   pub rose : Rose call.trial_faults call.trial_faults'
 
 -- what has come about at each ending
@@ -290,6 +300,23 @@ HasEnded call TooLong = PassesInput call
 HasEnded call TrialTooLong = PassesTrial call
 HasEnded call NoMemory = Unit {0}
 HasEnded call ending = HasRead call ending
+
+-- the words name a command, whose input was read
+pub record HasReadItsInput (call : Call) : Type 0 where
+  pub command : Command
+  pub named : command_of call.words ≡ Some command
+  pub input : List ℕ
+  pub read : HasReadInput (reads_input command) (limit_of command) call input
+
+-- the order of reading, where the first fact says that the trial is as it was: so it is at each ending that comes before
+-- it is read. Want of memory comes before that too, or once the input was read; and each other ending says itself that
+-- the input was read
+abbrev pub LeavesTrial : Type 0 → Call → Ending → Type 0
+LeavesTrial Unread call Usage = Unread
+LeavesTrial Unread call ReadFault = Unread
+LeavesTrial Unread call TooLong = Unread
+LeavesTrial Unread call NoMemory = Unread ⊎ HasReadItsInput call
+LeavesTrial Unread call _ = Unit {0}
 
 -- a sink took this line, or its count of faults rose and it took a prefix of it
 pub record TakesLine (line : List ℕ) (held held' : Option (List ℕ)) (faults faults' : ℕ) : Type 0 where

@@ -12,7 +12,7 @@ ghost use Rattle.elf_obj.specs.declared.object.Object.{Object};
 ghost use Rattle.b3c_core.specs.Compiled.{IsCompiled, IsTextOf};
 ghost use Rattle.b3c_core.specs.Tried.{Begins};
 ghost use Rattle.b3c_core.specs.Tool as spec;
-ghost use Rattle.b3c_core.specs.Tool.{Call, HasAnswered, HasEnded, IsAfterReading, IsRefusal, TakesLine, cause_of, line_of, output_of, reads_input, status_of, takes_trial};
+ghost use Rattle.b3c_core.specs.Tool.{Call, HasAnswered, HasEnded, IsAfterReading, IsRefusal, LeavesTrial, TakesLine, cause_of, line_of, output_of, reads_input, status_of, takes_trial};
 ghost use Rattle.b3c_core.specs.declared.command.Command.{Command};
 ghost use Rattle.b3c_core.specs.declared.ending.Ending.{Ending};
 
@@ -39,7 +39,7 @@ pub const OBJECT_LIMIT: usize = 134_217_728;
 /// no command, 3 a read failed, 4 a write failed, 5 the input is no text, 6 the text breaks a rule, 7 an input has too
 /// many bytes or the text passes another limit, 8 the input is no object, the trial is none or may not begin its
 /// procedure, 9 want of memory. A status other than 0 puts one line on `err`; a
-/// fault of `err` changes nothing else. `trial` is read by `eval` and `run` alone, after `input`.
+/// fault of `err` changes nothing else. `trial` is read by `eval` and `run` alone, once `input` was read to its end.
 pub fn run_tool<S: Source, T: Source, K: Sink, E: Sink>(
     alloc: Global,
     words: &[Name],
@@ -92,10 +92,19 @@ pub fn run_tool<S: Source, T: Source, K: Sink, E: Sink>(
     ensures generates { (n : ℕ) → spec.command_of words.now ≡ Some (Command.Gen n)
         → (Rose (K.faults out.old) (K.faults out.new) → ⊥) → (result ≡ 0) ⊎ (result ≡ 9) }
 
-    // What has come about, and the line on the error stream.
-    ensures ended { (ending : Ending) × (result ≡ status_of ending)
-        × HasEnded (record { words = words.now; left = S.left input.old; left' = S.left input.new; input_faults = S.faults input.old; input_faults' = S.faults input.new; trial_left = T.left trial.old; trial_left' = T.left trial.new; trial_faults = T.faults trial.old; trial_faults' = T.faults trial.new; held = K.held out.old; held' = K.held out.new; output_faults = K.faults out.old; output_faults' = K.faults out.new }) ending
-        × TakesLine (line_of ending) (E.held err.old) (E.held err.new) (E.faults err.old) (E.faults err.new) }
+    // What has come about, the line on the error stream, and the order of reading.
+    ensures ended {
+        let call : Call = record {
+            words = words.now; left = S.left input.old; left' = S.left input.new;
+            input_faults = S.faults input.old; input_faults' = S.faults input.new;
+            trial_left = T.left trial.old; trial_left' = T.left trial.new;
+            trial_faults = T.faults trial.old; trial_faults' = T.faults trial.new;
+            held = K.held out.old; held' = K.held out.new;
+            output_faults = K.faults out.old; output_faults' = K.faults out.new;
+        } in
+        (ending : Ending) × (result ≡ status_of ending) × HasEnded call ending
+        × TakesLine (line_of ending) (E.held err.old) (E.held err.new) (E.faults err.old) (E.faults err.new)
+        × LeavesTrial (trial.new ≡ trial.old) call ending }
 {
     generated_texts_are_good();
     let ending = run_words(alloc, words, input, trial, out);
@@ -121,7 +130,26 @@ fn run_words<S: Source, T: Source, K: Sink>(
     ensures within { (command : Command) → spec.command_of words.now ≡ Some command → result ≢ Ending.TooLong → Takes (λ n. n ≤ spec.limit_of command) (S.left input.old) (S.left input.new) }
     ensures trial_within { result ≢ Ending.TrialTooLong → Takes (λ n. n ≤ TEXT_LIMIT) (T.left trial.old) (T.left trial.new) }
     ensures nothing_written { result ≢ Ending.Written → result ≢ Ending.WriteFault → out.new ≡ out.old }
-    ensures ended { HasEnded (record { words = words.now; left = S.left input.old; left' = S.left input.new; input_faults = S.faults input.old; input_faults' = S.faults input.new; trial_left = T.left trial.old; trial_left' = T.left trial.new; trial_faults = T.faults trial.old; trial_faults' = T.faults trial.new; held = K.held out.old; held' = K.held out.new; output_faults = K.faults out.old; output_faults' = K.faults out.new }) result }
+    ensures ended {
+        let call : Call = record {
+            words = words.now; left = S.left input.old; left' = S.left input.new;
+            input_faults = S.faults input.old; input_faults' = S.faults input.new;
+            trial_left = T.left trial.old; trial_left' = T.left trial.new;
+            trial_faults = T.faults trial.old; trial_faults' = T.faults trial.new;
+            held = K.held out.old; held' = K.held out.new;
+            output_faults = K.faults out.old; output_faults' = K.faults out.new;
+        } in
+        HasEnded call result }
+    ensures order {
+        let call : Call = record {
+            words = words.now; left = S.left input.old; left' = S.left input.new;
+            input_faults = S.faults input.old; input_faults' = S.faults input.new;
+            trial_left = T.left trial.old; trial_left' = T.left trial.new;
+            trial_faults = T.faults trial.old; trial_faults' = T.faults trial.new;
+            held = K.held out.old; held' = K.held out.new;
+            output_faults = K.faults out.old; output_faults' = K.faults out.new;
+        } in
+        LeavesTrial (trial.new ≡ trial.old) call result }
 {
     let command = match command_of(words) {
         Some(command) => command,
