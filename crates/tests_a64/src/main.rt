@@ -1,0 +1,18 @@
+//! Asks the rows of data/ of the words of instructions, of what they leave, and of objects.
+#![tactic(auto)]
+
+mod steps;
+mod words;
+
+use std::test::Fail;
+use steps::Machine;
+use tests_rows::ask_file;
+use words::Words;
+
+fn main(rt: HostRuntime) -> Result<(), Fail> {
+    ask_file(&rt, "words.txt", &mut Words)?;
+    ask_file(&rt, "other_words.txt", &mut Words)?;
+    ask_file(&rt, "steps.txt", &mut Machine::new(rt.alloc()))?;
+    ask_file(&rt, "memory_and_branches.txt", &mut Machine::new(rt.alloc()))?;
+    Ok(())
+}
