@@ -22,7 +22,7 @@ impl Teller for Flows {
             if block > 0 {
                 text.push_str(" / ")?;
             }
-            push_block(&mut text, &flow, &sets, block)?;
+            push_block(alloc, &mut text, &flow, &sets, block)?;
         }
         Ok(text)
     }
@@ -168,11 +168,18 @@ fn touch_of(word: &str) -> Result<u8, Fail> {
 }
 
 /// The names that are live into a block, before its last place and out of it.
-fn push_block(text: &mut String, flow: &SmallFlow, sets: &LiveSets, block: usize) -> Result<(), Fail>
+fn push_block(
+    alloc: Global,
+    text: &mut String,
+    flow: &SmallFlow,
+    sets: &LiveSets,
+    block: usize,
+) -> Result<(), Fail>
     requires liveness { IsLivenessOf (⟦<SmallFlow as Flow>⟧.shape flow.now) sets.now }
     requires block { block < 4 }
 {
     let last = flow.places(block).saturating_sub(1);
+    let listed = sets.names_out(alloc, block)?;
     let mut before = [false; 4];
     let mut out = [false; 4];
     let mut into = [false; 4];
@@ -180,6 +187,9 @@ fn push_block(text: &mut String, flow: &SmallFlow, sets: &LiveSets, block: usize
         into[name] = sets.live_in(block, name);
         before[name] = sets.live_before(flow, block, last, name);
         out[name] = sets.live_out(block, name);
+        if out[name] != listed.as_slice().contains(&name) {
+            return Err(Fail::from("the names out of a block differ"));
+        }
     }
     push_names(text, &into)?;
     text.push(' ')?;

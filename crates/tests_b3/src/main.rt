@@ -6,12 +6,14 @@ mod chains;
 mod flows;
 mod opcodes;
 mod sets;
+mod sites;
 
 use arithmetic::Arithmetic;
 use chains::LongChain;
 use flows::Flows;
 use opcodes::Folding;
 use sets::Sets;
+use sites::{Cases, Obeying, Placing};
 use std::test::Fail;
 use tests_rows::ask_file;
 
@@ -21,5 +23,8 @@ fn main(rt: HostRuntime) -> Result<(), Fail> {
     ask_file(&rt, "sets.txt", &mut Sets)?;
     ask_file(&rt, "flows.txt", &mut Flows)?;
     ask_file(&rt, "chains.txt", &mut LongChain)?;
+    ask_file(&rt, "placing.txt", &mut Placing)?;
+    ask_file(&rt, "sites.txt", &mut Obeying)?;
+    ask_file(&rt, "cases.txt", &mut Cases)?;
     Ok(())
 }
