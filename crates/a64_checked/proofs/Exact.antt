@@ -1,7 +1,8 @@
 -- Checked arithmetic is exact.
-use Rattle.std.proofs.Common.{◌≡◌, ◌≢◌, ℕ, ℤ, ◌+◌, ◌-◌, ◌*◌, ◌%◌, ◌^◌, ◌<◌, ◌≤◌, true, false, [], ◌∷◌, refl, sym, ap, ◌∙◌, arith, nat_eq}
+use Rattle.std.proofs.Common.{◌≡◌, ◌≢◌, ℕ, ℤ, ◌+◌, ◌-◌, ◌*◌, ◌%◌, ◌^◌, ◌<◌, true, false, [], ◌∷◌, refl, sym, ap, ◌∙◌, arith, nat_eq}
 use Rattle.std.specs.Prelude.{not}
 use Rattle.std.specs.Int.{cast_unsigned, w64}
+use Rattle.b3_base.proofs.Widths.{in_width-lt}
 use Rattle.b3_base.specs.Arithmetic.{low, mul_high as high_product}
 use Rattle.b3_base.specs.Signed.{is_signed, unsigned, complement}
 use Rattle.b3_base.specs.Word.{bits}
@@ -14,7 +15,7 @@ use Rattle.a64_inst.specs.declared.inst.Inst.{Inst}
 use Rattle.a64_inst.specs.declared.inst.Inst.TheVariants.{AddSubReg, BitField, LogicReg, MulAdd, MulHigh, MulLong}
 use Rattle.a64_inst.specs.declared.inst.LogicOp.TheVariants.{Orr}
 use Rattle.a64_inst.specs.declared.state.Flags.{Flags}
-use Rattle.a64_inst.proofs.RangedValues.{in_width-lt, mul_high-small}
+use Rattle.a64_inst.proofs.RangedValues.{mul_high-small}
 use Rattle.a64_checked.specs.Checks.{comparing, making}
 use Rattle.a64_checked.specs.Exact.{Checks, ChecksAreExact, RunTo, StepsTo, exact, with_pc}
 use Rattle.a64_checked.proofs.Numbers.{difference_exact, difference_left, long-lt, low-lt, narrow_low, narrow_made, narrow_most, narrow_says, product_left, sum_exact, sum_left, unsigned-lt, unsigned_left, wide_says}

@@ -4,6 +4,7 @@ use Rattle.std.specs.Prelude.{if◌then◌else◌}
 use Rattle.std.specs.Int.{cast_signed, cast_unsigned, w32, w64}
 use Rattle.std.specs.Int.Bits.{or_zero_l}
 use Rattle.std.proofs.lemmas.Bool.{ne_eqb}
+use Rattle.b3_base.proofs.Widths.{in_width-lt}
 use Rattle.b3_base.specs.Arithmetic.{low, mul_high as high_product, sign_extended}
 use Rattle.b3_base.specs.Word.{bits}
 use Rattle.b3_base.specs.declared.word.Width.{Width}
@@ -15,7 +16,6 @@ use Rattle.a64_inst.specs.declared.inst.Inst.{Inst}
 use Rattle.a64_inst.specs.declared.inst.Inst.TheVariants.{AddSubReg, BitField, LogicReg, MulAdd, MulHigh, MulLong}
 use Rattle.a64_inst.specs.declared.inst.LogicOp.TheVariants.{Orr}
 use Rattle.a64_inst.specs.declared.state.Flags.{Flags}
-use Rattle.a64_inst.proofs.RangedValues.{in_width-lt}
 use Rattle.a64_checked.specs.Exact.{StepsTo, with_pc}
 
 -- registers with other flags

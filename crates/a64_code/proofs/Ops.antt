@@ -12,6 +12,7 @@ use Rattle.b3_base.specs.Word.{bits}
 use Rattle.b3_base.specs.declared.word.Width.{Width}
 use Rattle.b3_base.specs.declared.word.Width.TheVariants.{W32, W64}
 use Rattle.b3_base.proofs.MaskSearch.{found_turned}
+use Rattle.b3_base.proofs.Widths.{in_width-lt}
 use Rattle.a64_inst.specs.Step.{Bytes, Registers, step_of, goes_on, put, read, write, low_bits, operand, shifted, sum_of, add_sub_imm, add_sub_reg, logic_imm, logic_reg, bit_field, divide, shift_reg, count_zeros, mul_add, mul_high}
 use Rattle.a64_inst.specs.StepData.{read_low, shift_of, quotient}
 use Rattle.a64_inst.specs.Values.{logic, sets_flags}
@@ -21,7 +22,6 @@ use Rattle.a64_inst.specs.declared.inst.LogicOp.{LogicOp}
 use Rattle.a64_inst.specs.declared.inst.LogicOp.TheVariants.{And, Orr, Eor, Ands}
 use Rattle.a64_inst.specs.declared.inst.ShiftKind.{ShiftKind}
 use Rattle.a64_inst.specs.declared.inst.ShiftKind.TheVariants.{Lslv, Lsrv, Asrv, Rorv}
-use Rattle.a64_inst.proofs.RangedValues.{in_width-lt}
 use Rattle.b3_meaning.specs.Opcodes.{amount, difference, product, sum}
 use Rattle.air_ir.specs.Forms.{OfLogic, OfSum, is_short, IsImmediate}
 use Rattle.air_ir.specs.Words.{computed}

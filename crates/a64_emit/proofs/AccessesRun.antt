@@ -4,12 +4,13 @@ use Rattle.std.specs.Prelude.{is_some, nat_lt, if◌then◌else◌}
 use Rattle.std.proofs.lemmas.Bool.{ne_eqb}
 use Rattle.b3_base.specs.Arithmetic.{low}
 use Rattle.b3_base.specs.Memory.{is_mapped, read_word, write_word}
-use Rattle.b3_base.specs.Observed.{Memory, Start}
+use Rattle.b3_base.specs.Observed.{Memory}
 use Rattle.b3_base.specs.declared.word.Width.{Width}
 use Rattle.b3_base.specs.declared.word.Width.TheVariants.{W32, W64}
 use Rattle.b3_base.specs.declared.observation.Status.TheVariants.{Trapped}
-use Rattle.b3_base.proofs.MemoryLaws.{is_some-read_word, none_of}
+use Rattle.b3_base.proofs.MemoryLaws.{is_some-read_word}
 use Rattle.b3_base.proofs.WordLaws.{write_word_low}
+use Rattle.b3_base.proofs.Options.{none_of}
 use Rattle.b3_meaning.specs.Access.{Done, Refused, Trap, access, touches_private}
 use Rattle.b3_meaning.specs.Opcodes.{Undefined}
 use Rattle.b3_meaning.specs.Run.{extended}
@@ -34,13 +35,12 @@ use Rattle.air_ir.specs.declared.operand.Home.TheVariants.{Reg, Spill, Tmp}
 use Rattle.air_ir.specs.declared.operand.Operand.{Operand}
 use Rattle.air_ir.specs.declared.operand.Role.TheVariants.{Use}
 use Rattle.air_ir.specs.declared.procedure.AirInst.{AirInst}
-use Rattle.air_frame.specs.Frames.{IsFrameOf}
 use Rattle.a64_layout.specs.Machine.{Machine, moved_to}
 use Rattle.a64_code.specs.Accesses.{access_kind}
 use Rattle.a64_emit.specs.Code.{access_inst, arg_at, fetch, fetch_address, fetch_stored, inst_code, load_code, load_inst, put_result, result_reg, source_of, store_code, store_inst}
 use Rattle.a64_code.specs.Computing.{reg_of}
 use Rattle.a64_emit.specs.Related.{IsRelated}
-use Rattle.a64_emit.specs.Setting.{IsSet, Setting, row}
+use Rattle.a64_emit.specs.Setting.{Setting, row}
 use Rattle.a64_code.specs.declared.source.Source.{Source}
 use Rattle.a64_code.specs.declared.source.Source.TheVariants.{InReg, Constant}
 use Rattle.a64_emit.proofs.AccessesDone.{Fails, Touches, Traps, comes_to, does_there, gap_there, stored_mapped, stored_related}

@@ -1,6 +1,6 @@
 -- The instruction of a site is expressed for its value.
 use Rattle.std.proofs.Common.{◌≡◌, ◌≢◌, ◌↔◌, ◌⊎◌, ◌∙◌, ℕ, ◌+◌, ◌^◌, ◌<◌, Bool, true, false, List, [], Option, Some, None, length, slice_get, inl, inr, refl, sym, ap, subst, arith, cond, All, Contains}
-use Rattle.std.proofs.lemmas.Bool.{cases_lt}
+use Rattle.std.proofs.lemmas.Bool.{cases_lt, or_cases, or_left, or_right}
 use Rattle.std.proofs.lemmas.List.Elements.{All-append, Contains-append_cases, Contains-append_left, Contains-append_right}
 use Rattle.std.proofs.lemmas.Nat.Bits.{bit_at_above}
 use Rattle.b3_base.specs.Word.{bits}
@@ -23,7 +23,6 @@ use Rattle.b3_ir.specs.declared.value.Value.{Value}
 use Rattle.stackmap.specs.Placing.{register_for, result_in as placed_in, result_register}
 use Rattle.stackmap.specs.Registers.{constraints_of, constraints_in, has, has_result, is_late, is_patchpoint, stackmap_in}
 use Rattle.stackmap.specs.Rules.{HasRegisters, IsAllocatable, IsPlaceable, MayResult}
-use Rattle.stackmap.proofs.Children.{or_cases, or_left, or_right}
 use Rattle.stackmap.proofs.Placed.{result_is_some}
 use Rattle.stackmap.proofs.PlacedApart.{places_obey}
 use Rattle.air_ir.specs.Expressed.{ClobbersIt, IsChild, IsExpressed, IsOpOf, IsTemporary, StandsAnywhere, StandsBy, result_in, result_role}

@@ -1,16 +1,14 @@
 -- The instructions of a site are good ones.
 use Rattle.std.proofs.Common.{◌≡◌, ◌≢◌, ◌∙◌, ℕ, ◌+◌, ◌<◌, ◌≤◌, Bool, true, false, List, [], ◌∷◌, ◌++◌, Option, Some, None, suc, inl, inr, refl, sym, subst, arith, cond, All}
-use Rattle.std.proofs.lemmas.Bool.{false≢true}
+use Rattle.std.proofs.lemmas.Bool.{false≢true, or_cases}
 use Rattle.std.proofs.lemmas.List.Elements.{All-append, All-cons, All-nil}
 use Rattle.b3_ir.specs.declared.value.Constraint.{Constraint}
 use Rattle.b3_ir.specs.declared.value.Constraint.TheVariants.{SomeEarlyRegister}
 use Rattle.b3_ir.specs.declared.value.Reg.{Reg as Register}
 use Rattle.b3_ir.specs.declared.value.Stackmap.{Stackmap}
-use Rattle.b3_ir.specs.declared.value.Value.{Value}
 use Rattle.stackmap.specs.Placing.{register_for, result_register}
-use Rattle.stackmap.specs.Registers.{constraints_of, has, has_result, is_late, stackmap_in}
-use Rattle.stackmap.specs.Rules.{IsAllocatable, IsPlaceable, NamesRegisters}
-use Rattle.stackmap.proofs.Children.{or_cases}
+use Rattle.stackmap.specs.Registers.{constraints_of, has, has_result, is_late}
+use Rattle.stackmap.specs.Rules.{IsAllocatable, NamesRegisters}
 use Rattle.stackmap.proofs.PlacedApart.{places_obey}
 use Rattle.air_ir.specs.Expressed.{IsOpOf, result_in, result_role}
 use Rattle.air_ir.specs.Forms.{AllFit, HasOperands}

@@ -1,6 +1,6 @@
 -- The operands that report children, and those of the registers that are changed, one by one.
 use Rattle.std.proofs.Common.{◌≡◌, ◌≢◌, ◌∙◌, ℕ, ◌+◌, ◌<◌, ◌≤◌, Bool, ◌&&◌, true, false, List, [], ◌∷◌, ◌++◌, Option, Some, None, zero, suc, length, slice_get, length-append, inl, inr, refl, sym, ap, subst, arith, cond, All, Contains}
-use Rattle.std.proofs.lemmas.Bool.{cases_lt, eqb-true, eq-eqb}
+use Rattle.std.proofs.lemmas.Bool.{cases_lt, eqb-true, eq-eqb, or_cases, or_left, or_right}
 use Rattle.std.proofs.lemmas.List.Elements.{All-append, All-cons, All-nil, Contains-append_cases, Contains-append_left, Contains-append_right}
 use Rattle.b3_base.specs.declared.word.Width.TheVariants.{W64}
 use Rattle.b3_ir.specs.declared.value.Constraint.{Constraint}
@@ -9,7 +9,6 @@ use Rattle.b3_ir.specs.declared.value.Reg.{Reg as Register}
 use Rattle.b3_ir.specs.declared.value.Value.{Value}
 use Rattle.stackmap.specs.Placing.{register_for}
 use Rattle.stackmap.specs.Registers.{is_register}
-use Rattle.stackmap.proofs.Children.{or_cases, or_left, or_right}
 use Rattle.air_ir.specs.Forms.{operand_in}
 use Rattle.air_ir.specs.declared.operand.Arg.{Arg}
 use Rattle.air_ir.specs.declared.operand.Arg.TheVariants.{At}

@@ -4,6 +4,7 @@ use Rattle.std.proofs.Common.{◌^◌, ◌≡◌, ℕ, zero, suc, ◌<◌, take,
 use Rattle.std.proofs.lemmas.List.{length-map, length-set, get_or-set_same, get_or-set_other, map-append, map-set}
 use Rattle.std.proofs.lemmas.List.Sums.{sum_by-set}
 use Rattle.std.proofs.lemmas.Option.{slice_get_within}
+use Rattle.b3_base.proofs.Lists.{index_map}
 use Rattle.ir_arena.specs.Chains.{list_at, item_in, Has, IdsDiffer, in_use, without, with_item, inserted, before_in, last_id}
 use Rattle.b3_ir.specs.declared.value.Value.{Value}
 use Rattle.b3_ir.specs.declared.procedure.Heading.{Heading}
@@ -15,7 +16,6 @@ use Rattle.b3_ir.specs.Layout.{block_of, ids_of, IsKept, IsHeld, IsSound}
 use Rattle.b3_ir.proofs.Fitting.{fit_put}
 use Rattle.ir_arena.proofs.ListLemmas.{without-absent, with_item-absent}
 use Rattle.b3_ir.proofs.Entries.{ids, items, known, without_at, with_at, pushed_at, inserted_at}
-use Rattle.b3_ir.proofs.Spots.{mapped_at}
 
 -- a map that differs from another at one place
 pub map_changed : {A B : Type 0} (f g : A → B) (xs : List A) (i : ℕ) (x : A) → slice_get xs i ≡ Some x → ((j : ℕ) (y : A) → slice_get xs j ≡ Some y → (j ≡ i → ⊥) → g y ≡ f y) → map g xs ≡ set (map f xs) i (g x)
@@ -85,7 +85,7 @@ module _ (lists : List (List (ℕ × Value))) (blocks : List Heading) (kept : Is
 
   pub blocks_changed : (sections : List Block) (values : List Value) → map (block_of lists) blocks ≡ sections → items es ≡ values → map (block_of (set lists b.chain es)) blocks ≡ set sections block (record (slice_index_or sections block no_block) { values = values })
   blocks_changed sections values e is =
-      rw (← e, ← is, mapped_at (block_of lists) blocks block b no_block there)
+      rw (← e, ← is, index_map (block_of lists) blocks block b no_block there)
       (
       map_changed (block_of lists) (block_of (set lists b.chain es)) blocks block b there (λ j y at ne. rw (others j y at ne))
       ∙ ap (λ (l : List (ℕ × Value)). set (map (block_of lists) blocks) block (record { number = b.number; line = b.line; values = items l })) own
@@ -101,7 +101,7 @@ module _ (lists : List (List (ℕ × Value))) (blocks : List Heading) (kept : Is
 
   counted_changed : in_use (set lists b.chain es) ≡ sum_by (λ (s : Block). length s.values) (map (block_of (set lists b.chain es)) blocks)
   counted_changed =
-      let here : slice_index_or (map (block_of lists) blocks) block no_block ≡ block_of lists b = mapped_at (block_of lists) blocks block b no_block there in
+      let here : slice_index_or (map (block_of lists) blocks) block no_block ≡ block_of lists b = index_map (block_of lists) blocks block b no_block there in
       let inside : block < length (map (block_of lists) blocks) = rw length-map (slice_get_within blocks block b there) in
       let below = kept.within block b there in
       let chains = sum_by-set length lists b.chain es [] below in
@@ -170,10 +170,10 @@ module _ (lists : List (List (ℕ × Value))) (all : List Heading) (live : ℕ) 
         )
 
     values_are : items (list_at lists b.chain) ≡ values_of old.procedure block
-    values_are = sym (ap (λ (s : Block). s.values) (mapped_at (block_of lists) (take live all) block b no_block there)) ∙ ap (λ (ss : List Block). (slice_index_or ss block no_block).values) sections
+    values_are = sym (ap (λ (s : Block). s.values) (index_map (block_of lists) (take live all) block b no_block there)) ∙ ap (λ (ss : List Block). (slice_index_or ss block no_block).values) sections
 
     ids_are : ids (list_at lists b.chain) ≡ nodes_of old block
-    ids_are = sym (mapped_at (ids_of lists) (take live all) block b [] there) ∙ ap (λ (ns : List (List ℕ)). slice_index_or ns block []) nodes
+    ids_are = sym (index_map (ids_of lists) (take live all) block b [] there) ∙ ap (λ (ns : List (List ℕ)). slice_index_or ns block []) nodes
 
     pub push_done : (new : List (List (ℕ × Value))) (id : ℕ) (v : Value) (last : Option ℕ) → last ≡ last_id None (list_at lists b.chain) → new ≡ set lists b.chain (inserted (list_at lists b.chain) last (id, v)) → Done new all live old block (values_of old.procedure block ++ v ∷ []) (nodes_of old block ++ id ∷ [])
     push_done new id v last is made =

@@ -3,22 +3,10 @@ use Rattle.std.proofs.Common.{◌≡◌, ◌⊎◌, ℕ, zero, suc, ◌<◌, ◌
 use Rattle.std.proofs.lemmas.Bool.Decides.{nat_tests}
 use Rattle.std.proofs.lemmas.Option.{slice_get_cases}
 use Rattle.std.proofs.lemmas.List.{length-map, drop_all}
+use Rattle.std.proofs.lemmas.Bool.{eq-eqb}
 use Rattle.b3_ir.specs.Procedure.{place_among, place_of}
 use Rattle.ir_arena.specs.Chains.{item_in, inserted, without, with_item, first_id, last_id, next_in, before_in, Differ}
 use Rattle.ir_arena.proofs.ListLemmas.{test_id, without-absent, with_item-absent}
-
-same_id : (a b : ℕ) → a ≡ b → (a == b) ≡ true
-same_id a b e = grind (arith, nat_tests)
-
-pub place_or_past : (k n : ℕ) → (k < n) ⊎ (n ≤ k)
-place_or_past zero zero = inr (omega arith)
-place_or_past zero (suc n) = inl (omega arith)
-place_or_past (suc k) zero = inr (omega arith)
-place_or_past (suc k) (suc n) =
-    elim (place_or_past k n) [
-      | inl h ↦ inl (omega arith)
-      | inr h ↦ inr (omega arith)
-    ]
 
 module _ {T : Type 0} where
   abbrev pub ids : List (ℕ × T) → List ℕ
@@ -30,7 +18,7 @@ module _ {T : Type 0} where
   -- an id with a place has an item
   pub known : (es : List (ℕ × T)) (k id : ℕ) → slice_get (ids es) k ≡ Some id → (v : T) × (item_in es id ≡ Some v)
   known [] k id h = absurd (cc)
-  known (e ∷ es) zero id h = let t : (e.0 == id) ≡ true = same_id e.0 id (cc) in (e.1, rw t)
+  known (e ∷ es) zero id h = let t : (e.0 == id) ≡ true = eq-eqb e.0 id (cc) in (e.1, rw t)
   known (e ∷ es) (suc k) id h =
       elim (test_id e.0 id) [
         | inl t ↦ (e.1, rw t.1)
@@ -47,20 +35,20 @@ module _ {T : Type 0} where
 
   pub item_at : (es : List (ℕ × T)) (k id : ℕ) → Differ es → slice_get (ids es) k ≡ Some id → item_in es id ≡ slice_get (items es) k
   item_at [] k id d h = absurd (cc)
-  item_at (e ∷ es) zero id d h = let t : (e.0 == id) ≡ true = same_id e.0 id (cc) in rw t
+  item_at (e ∷ es) zero id d h = let t : (e.0 == id) ≡ true = eq-eqb e.0 id (cc) in rw t
   item_at (e ∷ es) (suc k) id d h = rw (other e es k id d.0 h) (item_at es k id d.1 h)
 
   -- an id has one place
   pub one_place : (es : List (ℕ × T)) (j k id : ℕ) → Differ es → slice_get (ids es) j ≡ Some id → slice_get (ids es) k ≡ Some id → j ≡ k
   one_place [] j k id d g h = absurd (cc)
   one_place (e ∷ es) zero zero id d g h = refl
-  one_place (e ∷ es) zero (suc k) id d g h = let t : (e.0 == id) ≡ true = same_id e.0 id (cc) in let n = other e es k id d.0 h in absurd (cc)
-  one_place (e ∷ es) (suc j) zero id d g h = let t : (e.0 == id) ≡ true = same_id e.0 id (cc) in let n = other e es j id d.0 g in absurd (cc)
+  one_place (e ∷ es) zero (suc k) id d g h = let t : (e.0 == id) ≡ true = eq-eqb e.0 id (cc) in let n = other e es k id d.0 h in absurd (cc)
+  one_place (e ∷ es) (suc j) zero id d g h = let t : (e.0 == id) ≡ true = eq-eqb e.0 id (cc) in let n = other e es j id d.0 g in absurd (cc)
   one_place (e ∷ es) (suc j) (suc k) id d g h = ap suc (one_place es j k id d.1 g h)
 
   place_found : (es : List (ℕ × T)) (k id : ℕ) → Differ es → slice_get (ids es) k ≡ Some id → place_among (ids es) id ≡ k
   place_found [] k id d h = absurd (cc)
-  place_found (e ∷ es) zero id d h = let t : (e.0 == id) ≡ true = same_id e.0 id (cc) in rw t
+  place_found (e ∷ es) zero id d h = let t : (e.0 == id) ≡ true = eq-eqb e.0 id (cc) in rw t
   place_found (e ∷ es) (suc k) id d h = rw (other e es k id d.0 h) (ap suc (place_found es k id d.1 h))
 
   -- what stands at a place has that place
@@ -101,14 +89,14 @@ module _ {T : Type 0} where
 
   pub next_at : (es : List (ℕ × T)) (k id : ℕ) → Differ es → slice_get (ids es) k ≡ Some id → next_in es id ≡ slice_get (ids es) (suc k)
   next_at [] k id d h = absurd (cc)
-  next_at (e ∷ es) zero id d h = let t : (e.0 == id) ≡ true = same_id e.0 id (cc) in rw t (first_at es)
+  next_at (e ∷ es) zero id d h = let t : (e.0 == id) ≡ true = eq-eqb e.0 id (cc) in rw t (first_at es)
   next_at (e ∷ es) (suc k) id d h = rw (other e es k id d.0 h) (next_at es k id d.1 h)
 
   pub without_at : (es : List (ℕ × T)) (k id : ℕ) → Differ es → slice_get (ids es) k ≡ Some id → without id es ≡ remove es k
   without_at [] k id d h = absurd (cc)
   without_at (e ∷ es) zero id d h =
       let is : e.0 ≡ id = cc in
-      let t : (e.0 == id) ≡ true = same_id e.0 id is in
+      let t : (e.0 == id) ≡ true = eq-eqb e.0 id is in
       let none : item_in es id ≡ None = rw (← is) d.0 in
       rw t (without-absent id es none)
   without_at (e ∷ es) (suc k) id d h = rw (other e es k id d.0 h) (ap (λ (l : List (ℕ × T)). e ∷ l) (without_at es k id d.1 h))
@@ -117,7 +105,7 @@ module _ {T : Type 0} where
   with_at [] k id v d h = absurd (cc)
   with_at (e ∷ es) zero id v d h =
       let is : e.0 ≡ id = cc in
-      let t : (e.0 == id) ≡ true = same_id e.0 id is in
+      let t : (e.0 == id) ≡ true = eq-eqb e.0 id is in
       let none : item_in es id ≡ None = rw (← is) d.0 in
       rw t (ap (λ (l : List (ℕ × T)). (id, v) ∷ l) (with_item-absent id v es none))
   with_at (e ∷ es) (suc k) id v d h = rw (other e es k id d.0 h) (ap (λ (l : List (ℕ × T)). e ∷ l) (with_at es k id v d.1 h))
@@ -126,8 +114,8 @@ module _ {T : Type 0} where
   before_known : (e : ℕ × T) (es : List (ℕ × T)) (k id : ℕ) → Differ es → slice_get (ids es) k ≡ Some id → (b : ℕ) × (v : T) × (before_in (Some e.0) es id ≡ Some b) × (item_in (e ∷ es) b ≡ Some v)
   before_known e [] k id d h = absurd (cc)
   before_known e (f ∷ es) zero id d h =
-      let t : (f.0 == id) ≡ true = same_id f.0 id (cc) in
-      let own : (e.0 == e.0) ≡ true = same_id e.0 e.0 refl in (e.0, e.1, rw t, rw own)
+      let t : (f.0 == id) ≡ true = eq-eqb f.0 id (cc) in
+      let own : (e.0 == e.0) ≡ true = eq-eqb e.0 e.0 refl in (e.0, e.1, rw t, rw own)
   before_known e (f ∷ es) (suc k) id d h =
       let r = before_known f es k id d.1 h in
       elim (test_id e.0 r.0) [
@@ -136,7 +124,7 @@ module _ {T : Type 0} where
       ]
 
   last_known : (e : ℕ × T) (es : List (ℕ × T)) → (b : ℕ) × (v : T) × (last_id (Some e.0) es ≡ Some b) × (item_in (e ∷ es) b ≡ Some v)
-  last_known e [] = let own : (e.0 == e.0) ≡ true = same_id e.0 e.0 refl in (e.0, e.1, refl, rw own)
+  last_known e [] = let own : (e.0 == e.0) ≡ true = eq-eqb e.0 e.0 refl in (e.0, e.1, refl, rw own)
   last_known e (f ∷ es) =
       let r = last_known f es in
       elim (test_id e.0 r.0) [
@@ -154,8 +142,8 @@ module _ {T : Type 0} where
   later_at : (e : ℕ × T) (es : List (ℕ × T)) (k id : ℕ) (entry : ℕ × T) → Differ (e ∷ es) → slice_get (ids es) k ≡ Some id → inserted (e ∷ es) (before_in (Some e.0) es id) entry ≡ e ∷ insert es k entry
   later_at e [] k id entry d h = absurd (cc)
   later_at e (f ∷ es) zero id entry d h =
-      let t : (f.0 == id) ≡ true = same_id f.0 id (cc) in
-      let own : (e.0 == e.0) ≡ true = same_id e.0 e.0 refl in rw (t, own) refl
+      let t : (f.0 == id) ≡ true = eq-eqb f.0 id (cc) in
+      let own : (e.0 == e.0) ≡ true = eq-eqb e.0 e.0 refl in rw (t, own) refl
   later_at e (f ∷ es) (suc k) id entry d h =
       let r = before_known f es k id d.1.1 h in
       let before : before_in (Some e.0) (f ∷ es) id ≡ Some r.0 = rw (other f es k id d.1.0 h) r.2 in
@@ -165,11 +153,11 @@ module _ {T : Type 0} where
 
   pub inserted_at : (es : List (ℕ × T)) (k id : ℕ) (entry : ℕ × T) → Differ es → slice_get (ids es) k ≡ Some id → inserted es (before_in None es id) entry ≡ insert es k entry
   inserted_at [] k id entry d h = absurd (cc)
-  inserted_at (e ∷ es) zero id entry d h = let t : (e.0 == id) ≡ true = same_id e.0 id (cc) in rw t
+  inserted_at (e ∷ es) zero id entry d h = let t : (e.0 == id) ≡ true = eq-eqb e.0 id (cc) in rw t
   inserted_at (e ∷ es) (suc k) id entry d h = rw (other e es k id d.0 h) (later_at e es k id entry d h)
 
   last_at : (e : ℕ × T) (es : List (ℕ × T)) (entry : ℕ × T) → Differ (e ∷ es) → inserted (e ∷ es) (last_id (Some e.0) es) entry ≡ (e ∷ es) ++ entry ∷ []
-  last_at e [] entry d = let own : (e.0 == e.0) ≡ true = same_id e.0 e.0 refl in rw own
+  last_at e [] entry d = let own : (e.0 == e.0) ≡ true = eq-eqb e.0 e.0 refl in rw own
   last_at e (f ∷ es) entry d =
       let r = last_known f es in
       let off : (e.0 == r.0) ≡ false = apart_from e (f ∷ es) r.0 r.1 d.0 r.3 in

@@ -5,10 +5,10 @@ use Rattle.std.specs.List.{AllByRecursion}
 use Rattle.std.proofs.lemmas.List.{get_or_past}
 use Rattle.std.proofs.lemmas.List.Elements.{All-append, All-cons, All-get_or, All-nil, All-set, All-from_recursion, recursion_from_All}
 use Rattle.std.proofs.lemmas.Option.{slice_get_within, get_or_from_slice_get}
+use Rattle.std.proofs.lemmas.Bool.{cases_lt}
 use Rattle.b3_ir.specs.declared.value.Value.{Value}
 use Rattle.b3_ir.specs.Fits.{Fits}
 use Rattle.b3_ir.specs.Procedure.{AllFit, Block, no_block}
-use Rattle.b3_ir.proofs.Entries.{place_or_past}
 
 -- every item, one item more or less
 all_inserted : {X : Type 0} (P : X → Type 0) (xs : List X) (i : ℕ) (x : X) → P x → AllByRecursion P xs → AllByRecursion P (insert xs i x)
@@ -36,7 +36,7 @@ All-push P xs x p h = All-append P xs (x ∷ []) h (All-cons P x [] p (All-nil P
 -- the values of a block fit
 pub fit_of : (bs : List Block) (block : ℕ) → AllFit bs → All Fits (slice_index_or bs block no_block).values
 fit_of bs block h =
-    elim (place_or_past block (length bs)) [
+    elim (cases_lt block (length bs)) [
       | inl lt ↦ All-get_or (λ (b : Block). All Fits b.values) bs block no_block lt h
       | inr past ↦ rw (get_or_past bs block no_block past) (All-nil Fits)
     ]

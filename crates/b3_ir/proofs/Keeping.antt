@@ -1,9 +1,8 @@
 -- Blocks that are kept, packed to the front.
 use Rattle.std.proofs.Common.{◌≡◌, ℕ, zero, suc, ◌+◌, ◌<◌, ◌≤◌, Bool, true, false, List, [], ◌∷◌, ◌++◌, length, sum_by, take, drop, slice_index_or, set, refl, sym, ap, ◌∙◌, inl, inr, arith, add-one}
-use Rattle.std.proofs.lemmas.Bool.{cases_eq}
+use Rattle.std.proofs.lemmas.Bool.{cases_eq, cases_lt}
 use Rattle.std.proofs.lemmas.List.{length-set, get_or-set_same, get_or-set_other, get_or_past, length-take-le}
 use Rattle.std.proofs.lemmas.List.Sums.{sum_by-set, sum_by-cons}
-use Rattle.b3_ir.proofs.Entries.{place_or_past}
 use Rattle.b3_ir.proofs.Idle.{take_put}
 use Rattle.b3_ir.proofs.Spots.{rest_of}
 use Rattle.b3_ir.specs.Procedure.{Block, no_block, Kept, Procedure, values_of, nodes_of, with_values, total, marked, numbered}
@@ -187,7 +186,7 @@ total_taken (b ∷ bs) (suc n) h = let rest = total_taken bs n (λ k le. h (suc 
 
 pub empty_past : (old now : Kept) (keep : List Bool) (from live : ℕ) → IsPacked old now keep from live → length old.procedure.blocks ≤ from → (k : ℕ) → live ≤ k → values_of now.procedure k ≡ []
 empty_past old now keep from live p past k le =
-    elim (place_or_past k from) [
+    elim (cases_lt k from) [
       | inl h ↦ p.gap k le h
       | inr h ↦ let b = p.blocks in ap (λ (s : Block). s.values) (get_or_past now.procedure.blocks k no_block (omega arith))
     ]

@@ -7,7 +7,6 @@ pub mod Emptying
 pub mod Idle
 pub mod Keeping
 pub mod Moves
-pub mod Numbering
 pub mod Typing
 pub mod TableExamples
 pub mod NameLemmas

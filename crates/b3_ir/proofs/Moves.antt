@@ -1,16 +1,15 @@
 -- Blocks that change places, and that are let go.
 use Rattle.std.proofs.Common.{◌≡◌, ◌⊎◌, ℕ, zero, suc, ◌<◌, ◌≤◌, List, [], ◌∷◌, length, map, sum_by, take, Some, slice_get, slice_index_or, set, refl, sym, ap, ◌∙◌, inl, inr, arith}
-use Rattle.std.proofs.lemmas.Bool.{cases_eq}
+use Rattle.std.proofs.lemmas.Bool.{cases_eq, cases_lt}
 use Rattle.std.proofs.lemmas.List.{length-map, length-set, map-set, get_or-set_same, get_or-set_other, length-take-le}
 use Rattle.std.proofs.lemmas.List.Sums.{sum_by-set}
 use Rattle.std.proofs.lemmas.Option.{slice_get_read}
+use Rattle.b3_base.proofs.Lists.{index_map}
 use Rattle.ir_arena.specs.Chains.{list_at, in_use}
 use Rattle.b3_ir.specs.declared.value.Value.{Value}
 use Rattle.b3_ir.specs.declared.procedure.Heading.{Heading}
 use Rattle.b3_ir.specs.Procedure.{Block, no_block, Kept, nodes_of}
 use Rattle.b3_ir.specs.Layout.{block_of, ids_of, IsHeld}
-use Rattle.b3_ir.proofs.Entries.{place_or_past}
-use Rattle.b3_ir.proofs.Spots.{mapped_at}
 use Rattle.b3_ir.proofs.Changes.{taken, taken_back}
 use Rattle.b3_ir.proofs.Keeping.{total_taken}
 
@@ -57,9 +56,9 @@ module _ (lists : List (List (ℕ × Value))) (all : List Heading) (live : ℕ) 
     as_many = held.as_many;
     within = held.within;
     apart = held.apart;
-    idle = λ i b past h. elim (place_or_past i live) [
+    idle = λ i b past h. elim (cases_lt i live) [
       | inl lt ↦
-          let there = mapped_at (block_of lists) (take live all) i b no_block (taken_back all live i b h lt) in
+          let there = index_map (block_of lists) (take live all) i b no_block (taken_back all live i b h lt) in
           empty_map (list_at lists b.chain) (sym (ap (λ (s : Block). s.values) there) ∙ empty i past)
       | inr after ↦ held.idle i b after h
     ];
@@ -119,14 +118,14 @@ module _ (lists : List (List (ℕ × Value))) (all : List Heading) (live : ℕ) 
 
     pub blocks_moved : (ss : List Block) → map (block_of lists) (take live all) ≡ ss → map (block_of lists) (take live (set (set all from bt) to c)) ≡ set (set ss from (slice_index_or ss to no_block)) to (record (slice_index_or ss from no_block) { number = c.number; line = c.line })
     blocks_moved ss e =
-        let was_from = mapped_at (block_of lists) (take live all) from bf no_block (taken_back all live from bf at_from lt) in
-        let was_to = mapped_at (block_of lists) (take live all) to bt no_block (taken_back all live to bt at_to (omega arith)) in
+        let was_from = index_map (block_of lists) (take live all) from bf no_block (taken_back all live from bf at_from lt) in
+        let was_to = index_map (block_of lists) (take live all) to bt no_block (taken_back all live to bt at_to (omega arith)) in
         rw (← e, live_are, map-set, map-set, was_from, was_to, same) refl
 
     pub nodes_moved : (ns : List (List ℕ)) → map (ids_of lists) (take live all) ≡ ns → map (ids_of lists) (take live (set (set all from bt) to c)) ≡ set (set ns from (slice_index_or ns to [])) to (slice_index_or ns from [])
     nodes_moved ns e =
-        let was_from = mapped_at (ids_of lists) (take live all) from bf [] (taken_back all live from bf at_from lt) in
-        let was_to = mapped_at (ids_of lists) (take live all) to bt [] (taken_back all live to bt at_to (omega arith)) in
+        let was_from = index_map (ids_of lists) (take live all) from bf [] (taken_back all live from bf at_from lt) in
+        let was_to = index_map (ids_of lists) (take live all) to bt [] (taken_back all live to bt at_to (omega arith)) in
         rw (← e, live_are, map-set, map-set, was_from, was_to, same) refl
 
     counted_moved : in_use lists ≡ sum_by (λ (s : Block). length s.values) (map (block_of lists) (take live (set (set all from bt) to c)))
@@ -181,7 +180,7 @@ moved lists all live held old from to number bf bt e f read_from read_to le lt i
     let at_from = slice_get_read all (length all) from bf refl (omega arith) read_from in
     let at_to = slice_get_read all (length all) to bt refl (omega arith) read_to in
     let c : Heading = record { number = number; line = bf.line; chain = bf.chain } in
-    let was = mapped_at (block_of lists) (take live all) from bf no_block (taken_back all live from bf at_from lt) in
+    let was = index_map (block_of lists) (take live all) from bf no_block (taken_back all live from bf at_from lt) in
     let line : (slice_index_or old.procedure.blocks from no_block).line ≡ bf.line = ap (λ (l : List Block). (slice_index_or l from no_block).line) (sym e) ∙ ap (λ (s : Block). s.line) was in
     record {
       held = held_moved lists all live held from to bf bt c at_from at_to refl le lt;

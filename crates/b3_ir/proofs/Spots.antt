@@ -3,18 +3,15 @@ use Rattle.std.proofs.Common.{◌≡◌, ℕ, zero, suc, ◌+◌, ◌<◌, ◌�
 use Rattle.std.proofs.lemmas.List.{get_or_past, length-map}
 use Rattle.std.proofs.lemmas.Option.{slice_get_within, get_or_from_slice_get}
 use Rattle.std.proofs.lemmas.List.Sums.{get_or-le-sum_by}
+use Rattle.std.proofs.lemmas.Bool.{cases_lt}
+use Rattle.std.proofs.Math.ListN.{get_or-eq_default}
+use Rattle.b3_base.proofs.Lists.{index_map}
 use Rattle.ir_arena.specs.Chains.{list_at, Has, IdsDiffer, IsItemOf, next_in, first_id, in_use}
 use Rattle.b3_ir.specs.declared.value.Value.{Value}
 use Rattle.b3_ir.specs.declared.procedure.Heading.{Heading}
-use Rattle.b3_ir.specs.Procedure.{AllFit, Block, no_block, Kept, Procedure, IsAt, IsWhole, total, place_of, values_from, nodes_of, values_of}
+use Rattle.b3_ir.specs.Procedure.{AllFit, Block, no_block, Kept, Procedure, IsAt, IsWhole, total, place_of, values_from, nodes_of, values_of, StandsAt}
 use Rattle.b3_ir.specs.Layout.{block_of, ids_of, IsKept}
-use Rattle.b3_ir.proofs.Entries.{ids, items, known, item_at, next_at, one_place, place_or_past, place_is, items_from, from_is, first_at}
-
--- what a list has at a place after a map
-pub mapped_at : {A B : Type 0} (f : A → B) (xs : List A) (i : ℕ) (x : A) (d : B) → slice_get xs i ≡ Some x → slice_index_or (map f xs) i d ≡ f x
-mapped_at f [] i x d h = absurd (cc)
-mapped_at f (y ∷ xs) zero x d h = let e : y ≡ x = cc in ap f e
-mapped_at f (y ∷ xs) (suc i) x d h = mapped_at f xs i x d h
+use Rattle.b3_ir.proofs.Entries.{ids, items, known, item_at, next_at, one_place, place_is, items_from, from_is, first_at}
 
 pub mapped_past : {A B : Type 0} (f : A → B) (xs : List A) (i : ℕ) (d : B) → slice_get xs i ≡ None → slice_index_or (map f xs) i d ≡ d
 mapped_past f [] i d h = refl
@@ -56,14 +53,14 @@ module _ (lists : List (List (ℕ × Value))) (blocks : List Heading) where
       by_case (Some b) is = record {
         b = b;
         there = is;
-        here = rw (mapped_at (ids_of lists) blocks block b [] is) at seen;
+        here = rw (index_map (ids_of lists) blocks block b [] is) at seen;
       }
 
   -- what stands from a place on
   from_block : (block : ℕ) (b : Heading) → slice_get blocks block ≡ Some b → (nodes : List (List ℕ)) (sections : List Block) → map (ids_of lists) blocks ≡ nodes → map (block_of lists) blocks ≡ sections → IdsDiffer lists → (k : ℕ) → items_from (slice_index_or nodes block []) (slice_index_or sections block no_block).values (slice_get (slice_index_or nodes block []) k) ≡ drop k (slice_index_or sections block no_block).values
   from_block block b there nodes sections e f differ k =
-      let ns : slice_index_or nodes block [] ≡ ids (list_at lists b.chain) = rw (← e) (mapped_at (ids_of lists) blocks block b [] there) in
-      let vs : (slice_index_or sections block no_block).values ≡ items (list_at lists b.chain) = sym (ap (λ (ss : List Block). (slice_index_or ss block no_block).values) f) ∙ ap (λ (t : Block). t.values) (mapped_at (block_of lists) blocks block b no_block there) in
+      let ns : slice_index_or nodes block [] ≡ ids (list_at lists b.chain) = rw (← e) (index_map (ids_of lists) blocks block b [] there) in
+      let vs : (slice_index_or sections block no_block).values ≡ items (list_at lists b.chain) = sym (ap (λ (ss : List Block). (slice_index_or ss block no_block).values) f) ∙ ap (λ (t : Block). t.values) (index_map (block_of lists) blocks block b no_block there) in
       ap (λ (l : List ℕ). items_from l (slice_index_or sections block no_block).values (slice_get l k)) ns
       ∙ ap (λ (l : List Value). items_from (ids (list_at lists b.chain)) l (slice_get (ids (list_at lists b.chain)) k)) vs
       ∙ from_is (list_at lists b.chain) k (differ.within b.chain)
@@ -76,7 +73,7 @@ module _ (lists : List (List (ℕ × Value))) (blocks : List Heading) where
   -- the first of a block
   pub first_block : (block : ℕ) (b : Heading) → slice_get blocks block ≡ Some b → (p : Kept) (first : Option ℕ) → map (ids_of lists) blocks ≡ p.nodes → map (block_of lists) blocks ≡ p.procedure.blocks → IdsDiffer lists → first ≡ first_id (list_at lists b.chain) → (first ≡ slice_get (nodes_of p block) 0) × (values_from p block first ≡ values_of p.procedure block)
   first_block block b there p first e f differ is =
-      let ns : slice_index_or p.nodes block [] ≡ ids (list_at lists b.chain) = rw (← e) (mapped_at (ids_of lists) blocks block b [] there) in
+      let ns : slice_index_or p.nodes block [] ≡ ids (list_at lists b.chain) = rw (← e) (index_map (ids_of lists) blocks block b [] there) in
       let at : first ≡ slice_get (nodes_of p block) 0 = is ∙ first_at (list_at lists b.chain) ∙ ap (λ (l : List ℕ). slice_get l 0) (sym ns) in
       (at, ends p block first ∙ ap (λ (o : Option ℕ). items_from (nodes_of p block) (values_of p.procedure block) o) at ∙ from_block block b there p.nodes p.procedure.blocks e f differ 0)
 
@@ -92,18 +89,18 @@ module _ (lists : List (List (ℕ × Value))) (blocks : List Heading) where
         let same = ap length e in
         let inner = slice_get_within (ids (list_at lists s.b.chain)) place id s.here in
         let values : length (values_of p block) ≡ length (items (list_at lists s.b.chain)) =
-        rw (← e) (ap (λ (t : Block). length t.values) (mapped_at (block_of lists) blocks block s.b no_block s.there)) in
+        rw (← e) (ap (λ (t : Block). length t.values) (index_map (block_of lists) blocks block s.b no_block s.there)) in
         let chain = length-map (list_at lists s.b.chain) (λ (e : ℕ × Value). e.0) in
         let chain' = length-map (list_at lists s.b.chain) (λ (e : ℕ × Value). e.1) in
         (omega (arith, outer, size, same), omega (arith, inner, values, chain, chain'))
 
     pub next_spot : (nodes : List (List ℕ)) → map (ids_of lists) blocks ≡ nodes → IdsDiffer lists → next_in (list_at lists s.b.chain) id ≡ slice_get (slice_index_or nodes block []) (place + 1)
     next_spot nodes e differ =
-        rw (← e, mapped_at (ids_of lists) blocks block s.b [] s.there, add-one) (next_at (list_at lists s.b.chain) place id (differ.within s.b.chain) s.here)
+        rw (← e, index_map (ids_of lists) blocks block s.b [] s.there, add-one) (next_at (list_at lists s.b.chain) place id (differ.within s.b.chain) s.here)
 
     pub place_spot : (nodes : List (List ℕ)) (at : Option ℕ) → map (ids_of lists) blocks ≡ nodes → IdsDiffer lists → at ≡ slice_get (slice_index_or nodes block []) (place + 1) → place_of (slice_index_or nodes block []) at ≡ place + 1
     place_spot nodes at e differ is =
-        let whole : slice_index_or nodes block [] ≡ ids (list_at lists s.b.chain) = rw (← e) (mapped_at (ids_of lists) blocks block s.b [] s.there) in
+        let whole : slice_index_or nodes block [] ≡ ids (list_at lists s.b.chain) = rw (← e) (index_map (ids_of lists) blocks block s.b [] s.there) in
         let within = slice_get_within (ids (list_at lists s.b.chain)) place id s.here in
         rw (is, whole) (place_is (list_at lists s.b.chain) (place + 1) (differ.within s.b.chain) (omega (arith, within)))
 
@@ -121,7 +118,7 @@ module _ (lists : List (List (ℕ × Value))) (blocks : List Heading) where
 
     pub value_spot : (sections : List Block) (v : Value) → map (block_of lists) blocks ≡ sections → IdsDiffer lists → IsItemOf lists id v → slice_get (slice_index_or sections block no_block).values place ≡ Some v
     value_spot sections v e differ is =
-        rw (← e, mapped_at (block_of lists) blocks block s.b no_block s.there) (sym (item_at (list_at lists s.b.chain) place id (differ.within s.b.chain) s.here) ∙ is s.b.chain has_spot)
+        rw (← e, index_map (block_of lists) blocks block s.b no_block s.there) (sym (item_at (list_at lists s.b.chain) place id (differ.within s.b.chain) s.here) ∙ is s.b.chain has_spot)
 
 -- what an index reads is what stands there
 pub read : {A : Type 0} (xs : List A) (i : ℕ) (x y : A) → slice_get xs i ≡ Some x → y ≡ slice_index_or xs i y → y ≡ x
@@ -138,8 +135,8 @@ module _ (lists : List (List (ℕ × Value))) (blocks : List Heading) (kept : Is
           let v : slice_index_or p.procedure.blocks block no_block ≡ no_block = rw (← sections) (mapped_past (block_of lists) blocks block no_block is) in
           ap length n ∙ sym (ap (λ (s : Block). length s.values) v)
       by_case (Some b) is =
-          let n : nodes_of p block ≡ ids_of lists b = rw (← nodes) (mapped_at (ids_of lists) blocks block b [] is) in
-          let v : slice_index_or p.procedure.blocks block no_block ≡ block_of lists b = rw (← sections) (mapped_at (block_of lists) blocks block b no_block is) in
+          let n : nodes_of p block ≡ ids_of lists b = rw (← nodes) (index_map (ids_of lists) blocks block b [] is) in
+          let v : slice_index_or p.procedure.blocks block no_block ≡ block_of lists b = rw (← sections) (index_map (block_of lists) blocks block b no_block is) in
           ap length n ∙ length-map (list_at lists b.chain) (λ (e : ℕ × Value). e.0) ∙ sym (length-map (list_at lists b.chain) (λ (e : ℕ × Value). e.1)) ∙ sym (ap (λ (s : Block). length s.values) v)
 
   apart : (b c j k node : ℕ) → IsAt p node b j → IsAt p node c k → (b ≡ c) × (j ≡ k)
@@ -159,13 +156,13 @@ module _ (lists : List (List (ℕ × Value))) (blocks : List Heading) (kept : Is
           let none : k ≡ 0 = let size = ap length n in omega arith in
           rw (n, none) refl
       by_case (Some b) is =
-          let n : nodes_of p block ≡ ids (list_at lists b.chain) = rw (← nodes) (mapped_at (ids_of lists) blocks block b [] is) in
+          let n : nodes_of p block ≡ ids (list_at lists b.chain) = rw (← nodes) (index_map (ids_of lists) blocks block b [] is) in
           let le' : k ≤ length (ids (list_at lists b.chain)) = rw n at le in
           rw n (place_is (list_at lists b.chain) k (differ.within b.chain) le')
 
   few_in : (block : ℕ) → length (values_of p.procedure block) ≤ 2 ^ 32
   few_in block =
-      elim (place_or_past block (length p.procedure.blocks)) [
+      elim (cases_lt block (length p.procedure.blocks)) [
         | inl h ↦
             let least = get_or-le-sum_by (λ (s : Block). length s.values) p.procedure.blocks block no_block h in
             let all : in_use lists ≡ sum_by (λ (s : Block). length s.values) p.procedure.blocks = rw (← sections) kept.counted in
@@ -184,3 +181,13 @@ module _ (lists : List (List (ℕ × Value))) (blocks : List Heading) (kept : Is
 
   pub whole : IsWhole p
   whole = record { as_many = ap length (sym nodes) ∙ length-map blocks (ids_of lists) ∙ sym (length-map blocks (block_of lists)) ∙ ap length sections; even = even; differ = apart; places = places; few = few_in; counted = counted; few_blocks = few_blocks; few_slots = few_slots; fit = subst AllFit sections fit }
+
+-- a value's block is one of the procedure
+pub in_blocks : (p : Procedure) (b j : ℕ) (v : Value) → StandsAt p b j v → b < length p.blocks
+in_blocks p b j v there =
+    elim (cases_lt b (length p.blocks)) [
+      | inl less ↦ less
+      | inr past ↦
+          let none : values_of p b ≡ [] = ap (λ (x : Block). x.values) (get_or-eq_default p.blocks no_block past) in
+          absurd (let e : slice_get [] j ≡ Some v = subst (λ (vs : List Value). slice_get vs j ≡ Some v) none there in cc)
+    ]

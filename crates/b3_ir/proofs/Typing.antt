@@ -2,6 +2,7 @@
 use Rattle.std.proofs.Common.{◌≡◌, ◌≢◌, ◌⊎◌, inl, inr, Bool, true, false, ◌&&◌, ◌||◌, List, [], ◌∷◌, All, refl, sym, ◌∙◌}
 use Rattle.std.specs.List.{list_all}
 use Rattle.std.proofs.lemmas.List.Elements.{All-cons, All-nil}
+use Rattle.std.proofs.lemmas.Bool.{and_parts, or_cases}
 use Rattle.b3_ir.specs.Table.{row_of}
 use Rattle.b3_ir.specs.Types.{IsTaken, AreMore, AreTaken, IsGiven, AllowsTypes, same_type, has_word, takes_type, may_follow, takes_types, gives_type, allows_alike, allows_types}
 use Rattle.b3_ir.specs.declared.opcode.Opcode.{Opcode}
@@ -13,10 +14,6 @@ use Rattle.b3_ir.specs.declared.table.More.{More}
 use Rattle.b3_ir.specs.declared.table.More.TheVariants.{NoMore, One, Arguments, Reported}
 use Rattle.b3_ir.specs.declared.table.Takes.{Takes}
 use Rattle.b3_ir.specs.declared.table.Takes.TheVariants.{Alike, Any, This}
-
-both : (a b : Bool) → (a && b) ≡ true → (a ≡ true) × (b ≡ true)
-both true b e = (refl, e)
-both false b e = (e, absurd (cc))
 
 same : (ty other : Ty) → same_type ty other ≡ true → ty ≡ other
 same Void Void e = refl
@@ -36,7 +33,7 @@ worded Int64 e is = cc
 
 all_worded : (types : List Ty) → list_all has_word types ≡ true → All (λ ty. ty ≢ Void) types
 all_worded [] e = All-nil (λ ty. ty ≢ Void)
-all_worded (ty ∷ types) e = let parts = both (has_word ty) (list_all has_word types) e in All-cons (λ t. t ≢ Void) ty types (worded ty parts.0) (all_worded
+all_worded (ty ∷ types) e = let parts = and_parts (has_word ty) (list_all has_word types) e in All-cons (λ t. t ≢ Void) ty types (worded ty parts.0) (all_worded
     types parts.1)
 
 taken : (t : Ty) (takes : Takes) (ty : Ty) → takes_type t takes ty ≡ true → IsTaken t takes ty
@@ -57,7 +54,7 @@ all_taken : (t : Ty) (takes : List Takes) (more : More) (types : List Ty) → ta
 all_taken t [] more types e = followed more types e
 all_taken t (takes ∷ rest) more [] e = absurd (cc)
 all_taken t (takes ∷ rest) more (ty ∷ types) e =
-    let parts = both (takes_type t takes ty) (takes_types t rest more types) e in
+    let parts = and_parts (takes_type t takes ty) (takes_types t rest more types) e in
     (taken t takes ty parts.0, all_taken t rest more types parts.1)
 
 given : (t : Ty) (what : Gives) (ty : Ty) → gives_type t what ty ≡ true → IsGiven t what ty
@@ -67,17 +64,13 @@ given t (gives.This wanted) ty e = same ty wanted e
 
 alike_allowed : (t : Ty) (opcode : Opcode) (ty : Ty) (types : List Ty) → t ≢ Void → allows_alike t opcode ty types ≡ true → AllowsTypes opcode ty types
 alike_allowed t opcode ty types typed e =
-    let parts = both (takes_types t (row_of opcode).takes (row_of opcode).more types) (gives_type t (row_of opcode).gives ty) e in
+    let parts = and_parts (takes_types t (row_of opcode).takes (row_of opcode).more types) (gives_type t (row_of opcode).gives ty) e in
     record { alike = t; typed = typed; children = all_taken t _ _ types parts.0; gives = given t _ ty parts.1 }
-
-either : (a b : Bool) → (a || b) ≡ true → (a ≡ true) ⊎ (b ≡ true)
-either true b e = inl refl
-either false b e = inr e
 
 -- what passes the test is allowed
 pub allowed : (opcode : Opcode) (ty : Ty) (types : List Ty) → allows_types opcode ty types ≡ true → AllowsTypes opcode ty types
 allowed opcode ty types e =
-    elim (either (allows_alike Int32 opcode ty types) (allows_alike Int64 opcode ty types) e) as (λ _. AllowsTypes opcode ty types) [
+    elim (or_cases (allows_alike Int32 opcode ty types) (allows_alike Int64 opcode ty types) e) as (λ _. AllowsTypes opcode ty types) [
       | inl narrow ↦ alike_allowed Int32 opcode ty types (λ is. cc) narrow
       | inr wide ↦ alike_allowed Int64 opcode ty types (λ is. cc) wide
     ]
@@ -87,7 +80,3 @@ allowed opcode ty types e =
 pub too_few : (t : Ty) (more : More) (takes rest : List Takes) (types : List Ty) (wanted : Takes) → takes ≡ wanted ∷ rest → types ≡ [] →
     takes_types t takes more types ≡ false
 too_few t more takes rest types wanted e none = rw (e, none) refl
-
-pub unlike : (t : Ty) (more : More) (takes rest : List Takes) (types others : List Ty) (wanted : Takes) (ty : Ty) → takes ≡ wanted ∷ rest →
-    types ≡ ty ∷ others → takes_type t wanted ty ≡ false → takes_types t takes more types ≡ false
-unlike t more takes rest types others wanted ty e f not = rw (e, f, not) refl

@@ -6,4 +6,3 @@ pub mod Naming
 pub mod Layout
 pub mod Lending
 pub mod Names
-pub mod Shape

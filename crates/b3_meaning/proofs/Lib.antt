@@ -1,4 +1,3 @@
 pub mod Examples
 pub mod Foldables
 pub mod Keeping
-pub mod Outcomes

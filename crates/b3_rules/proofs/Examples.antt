@@ -2,6 +2,7 @@
 use Rattle.std.proofs.Common.{◌≡◌, ◌∙◌, ℕ, ◌-◌, ◌^◌, ◌<◌, ◌⊎◌, false, List, [], ◌∷◌, Some, zero, suc, slice_get, refl, sym, ap, subst, arith, inl, inr, lit<, lit≤, Contains, codes}
 use Rattle.std.proofs.lemmas.List.Elements.{All-cons, All-nil}
 use Rattle.std.proofs.lemmas.List.Kept.{AllPairs-cons}
+use Rattle.b3_base.proofs.Lists.{Contains-none, Contains-cases, Contains-first}
 use Rattle.b3_ir.specs.Procedure.{Block, Procedure, empty_procedure, values_of}
 use Rattle.b3_ir.specs.declared.opcode.Opcode.{Opcode}
 use Rattle.b3_ir.specs.declared.opcode.Opcode.TheVariants as op
@@ -166,16 +167,6 @@ first_of_all = record {
 
 -- ---- uses
 
-nil_has : {X : Type 0} (x : X) → ¬ (Contains [] x)
-nil_has x h = absurd (let less = h.1 in omega (arith, less))
-
-one_of : {X : Type 0} (x : X) (xs : List X) (y : X) → Contains (x ∷ xs) y → (x ≡ y) ⊎ Contains xs y
-one_of x xs y (zero, less, e) = inl e
-one_of x xs y (suc k, less, e) = inr (k, omega (arith, less), e)
-
-first_of : {X : Type 0} (x : X) (xs : List X) → Contains (x ∷ xs) x
-first_of x xs = (0, omega arith, refl)
-
 -- in block 1 a constant, which block 2 returns
 abbrev constant : Value
 constant = value 2 Int64 op.Const64 [] (Constant 5) 7
@@ -202,20 +193,20 @@ not_covered : ¬ (CoversUses branching 2 0 return)
 not_covered covers = none (covers 0 0 (lit< tt) (0 ∷ []) short_path)
   where
     in_block : (v : Value) → v.id ≡ 2 → Contains (values_of branching 0) v → ⊥
-    in_block v id h = elim (one_of argument (branch ∷ []) v h) [
+    in_block v id h = elim (Contains-cases argument (branch ∷ []) v h) [
       | inl e ↦ (let same : 0 ≡ v.id = ap (λ (w : Value). w.id) e in omega (arith, id, same))
-      | inr rest ↦ elim (one_of branch [] v rest) [
+      | inr rest ↦ elim (Contains-cases branch [] v rest) [
         | inl e ↦ (let same : 1 ≡ v.id = ap (λ (w : Value). w.id) e in omega (arith, id, same))
-        | inr last ↦ nil_has v last
+        | inr last ↦ Contains-none v last
       ]
     ]
 
     none : (v : Value) × (v.id ≡ 2) × (Contains [] v ⊎ ((b : ℕ) × Contains (0 ∷ []) b × Contains (values_of branching b) v)) → ⊥
     none (v, id, run) = elim run [
-      | inl before ↦ nil_has v before
-      | inr passed ↦ elim (one_of 0 [] passed.0 passed.1) [
+      | inl before ↦ Contains-none v before
+      | inr passed ↦ elim (Contains-cases 0 [] passed.0 passed.1) [
         | inl e ↦ in_block v id (subst (λ (b : ℕ). Contains (values_of branching b) v) (sym e) passed.2)
-        | inr rest ↦ nil_has passed.0 rest
+        | inr rest ↦ Contains-none passed.0 rest
       ]
     ]
 
@@ -232,42 +223,42 @@ jumping = procedure_of (block 0 2 (argument ∷ start ∷ []) ∷ block 1 6 (con
 
 -- the successors of the blocks
 from_start : (next : ℕ) → IsSuccessor jumping 0 next → 1 ≡ next
-from_start next (v, there, names) = elim (one_of argument (start ∷ []) v there) [
-  | inl e ↦ absurd (nil_has next (subst (λ (w : Value). Contains (successors_in w.body) next) (sym e) names))
-  | inr rest ↦ elim (one_of start [] v rest) [
-    | inl e ↦ elim (one_of 1 [] next (subst (λ (w : Value). Contains (successors_in w.body) next) (sym e) names)) [
+from_start next (v, there, names) = elim (Contains-cases argument (start ∷ []) v there) [
+  | inl e ↦ absurd (Contains-none next (subst (λ (w : Value). Contains (successors_in w.body) next) (sym e) names))
+  | inr rest ↦ elim (Contains-cases start [] v rest) [
+    | inl e ↦ elim (Contains-cases 1 [] next (subst (λ (w : Value). Contains (successors_in w.body) next) (sym e) names)) [
       | inl same ↦ same
-      | inr none ↦ absurd (nil_has next none)
+      | inr none ↦ absurd (Contains-none next none)
     ]
-    | inr none ↦ absurd (nil_has v none)
+    | inr none ↦ absurd (Contains-none v none)
   ]
 ]
 
 from_middle : (next : ℕ) → IsSuccessor jumping 1 next → 2 ≡ next
-from_middle next (v, there, names) = elim (one_of constant (jump ∷ []) v there) [
-  | inl e ↦ absurd (nil_has next (subst (λ (w : Value). Contains (successors_in w.body) next) (sym e) names))
-  | inr rest ↦ elim (one_of jump [] v rest) [
-    | inl e ↦ elim (one_of 2 [] next (subst (λ (w : Value). Contains (successors_in w.body) next) (sym e) names)) [
+from_middle next (v, there, names) = elim (Contains-cases constant (jump ∷ []) v there) [
+  | inl e ↦ absurd (Contains-none next (subst (λ (w : Value). Contains (successors_in w.body) next) (sym e) names))
+  | inr rest ↦ elim (Contains-cases jump [] v rest) [
+    | inl e ↦ elim (Contains-cases 2 [] next (subst (λ (w : Value). Contains (successors_in w.body) next) (sym e) names)) [
       | inl same ↦ same
-      | inr none ↦ absurd (nil_has next none)
+      | inr none ↦ absurd (Contains-none next none)
     ]
-    | inr none ↦ absurd (nil_has v none)
+    | inr none ↦ absurd (Contains-none v none)
   ]
 ]
 
 from_last : (next : ℕ) → IsSuccessor jumping 2 next → ⊥
-from_last next (v, there, names) = elim (one_of return [] v there) [
-  | inl e ↦ nil_has next (subst (λ (w : Value). Contains (successors_in w.body) next) (sym e) names)
-  | inr none ↦ nil_has v none
+from_last next (v, there, names) = elim (Contains-cases return [] v there) [
+  | inl e ↦ Contains-none next (subst (λ (w : Value). Contains (successors_in w.body) next) (sym e) names)
+  | inr none ↦ Contains-none v none
 ]
 
 from_stray : (next : ℕ) → IsSuccessor jumping 3 next → 2 ≡ next
-from_stray next (v, there, names) = elim (one_of stray [] v there) [
-  | inl e ↦ elim (one_of 2 [] next (subst (λ (w : Value). Contains (successors_in w.body) next) (sym e) names)) [
+from_stray next (v, there, names) = elim (Contains-cases stray [] v there) [
+  | inl e ↦ elim (Contains-cases 2 [] next (subst (λ (w : Value). Contains (successors_in w.body) next) (sym e) names)) [
     | inl same ↦ same
-    | inr none ↦ absurd (nil_has next none)
+    | inr none ↦ absurd (Contains-none next none)
   ]
-  | inr none ↦ absurd (nil_has v none)
+  | inr none ↦ absurd (Contains-none v none)
 ]
 
 -- no path comes to block 3
@@ -277,7 +268,7 @@ never_stray (zero ∷ passed) path = let e = from_start 3 path.0 in omega (arith
 never_stray (suc zero ∷ passed) path = let e = from_middle 3 path.0 in omega (arith, e)
 never_stray (suc (suc zero) ∷ passed) path = from_last 3 path.0
 never_stray (suc (suc (suc zero)) ∷ passed) path = let e = from_stray 3 path.0 in omega (arith, e)
-never_stray (suc (suc (suc (suc b))) ∷ passed) path = nil_has path.0.0 path.0.1
+never_stray (suc (suc (suc (suc b))) ∷ passed) path = Contains-none path.0.0 path.0.1
 
 covered : CoversUses jumping 2 0 return
 covered = All-cons (IsCoveredAt jumping 2 0) 2 [] by (All-nil (IsCoveredAt jumping 2 0))
@@ -285,7 +276,7 @@ covered = All-cons (IsCoveredAt jumping 2 0) 2 [] by (All-nil (IsCoveredAt jumpi
     by : IsCoveredAt jumping 2 0 2
     by [] e = absurd (omega (arith, e))
     by (zero ∷ passed) path = absurd (let e = from_start 2 path.0 in omega (arith, e))
-    by (suc zero ∷ passed) path = (constant, refl, inr (1, first_of 1 passed, first_of constant (jump ∷ [])))
+    by (suc zero ∷ passed) path = (constant, refl, inr (1, Contains-first 1 passed, Contains-first constant (jump ∷ [])))
     by (suc (suc zero) ∷ passed) path = absurd (from_last 2 path.0)
     by (suc (suc (suc zero)) ∷ passed) path = absurd (never_stray passed path.1)
-    by (suc (suc (suc (suc b))) ∷ passed) path = absurd (nil_has path.0.0 path.0.1)
+    by (suc (suc (suc (suc b))) ∷ passed) path = absurd (Contains-none path.0.0 path.0.1)

@@ -5,11 +5,14 @@ use Rattle.std.proofs.lemmas.List.{get_or-take, get_or_default, length-take-le, 
 use Rattle.std.proofs.lemmas.List.Folds.{Any-from_list_any, list_any_at, list_any-append}
 use Rattle.std.proofs.lemmas.List.Quantifiers.{all_pairs_push}
 use Rattle.std.proofs.lemmas.Nat.Bits.{bit_at-zero}
+use Rattle.std.proofs.lemmas.Bool.{false_from_ne_true}
+use mathlib.Core.Bool.{or-false}
 use Rattle.b3_ir.specs.declared.value.Constraint.{Constraint}
 use Rattle.b3_ir.specs.declared.value.Reg.{Reg}
 use Rattle.stackmap.specs.Registers.{fixed_by, fixes, has, is_register}
 use Rattle.stackmap.specs.Rules.{FixApart}
 use Rattle.stackmap.proofs.Children.{same_register}
+use Rattle.stackmap.proofs.PlacedApart.{fixes_own}
 use Rattle.b3_rules.specs.Sites.{FixesOutside}
 
 -- a set has the registers that some constraints fix, and no two of them fix one
@@ -17,18 +20,8 @@ pub record AreFixedIn (set : ℕ) (cs : List Constraint) : Type 0 where
   pub apart : AllPairs FixApart cs
   pub known : (r : ℕ) → has set r ≡ list_any (fixes r) cs
 
-or_false : (b : Bool) → (b || false) ≡ b
-or_false true = refl
-or_false false = refl
-
 pub no_pairs : {X : Type 0} (R : X → X → Type 0) → AllPairs R []
 no_pairs R i j d less within = absurd (let h : j < 0 = within in omega (arith, h))
-
-pub none_fixed : AreFixedIn 0 []
-none_fixed = record { apart = no_pairs FixApart; known = λ r. rw (bit_at-zero r) refl }
-
-fixes_own : (c : Constraint) (reg : Reg) → fixed_by c ≡ Some reg → fixes reg.0 c ≡ true
-fixes_own c reg e = rw e (eq-eqb reg.0 reg.0 refl)
 
 fixed_is : (c : Constraint) (reg : Reg) → fixes reg.0 c ≡ true → fixed_by c ≡ Some reg
 fixed_is c reg e = from (fixed_by c) refl e
@@ -44,7 +37,7 @@ fixed_more set next cs c fixed outside adds = record {
       let hit : list_any (fixes reg.0) cs ≡ true = list_any_at (fixes reg.0) cs k d within (fixes_own _ reg first) in
       let no : has set reg.0 ≡ false = outside reg second in
       let same = fixed.known reg.0 in cc);
-  known = λ r. adds r ∙ rw (fixed.known r) (sym (list_any-append (fixes r) cs (c ∷ []) ∙ ap (λ (b : Bool). list_any (fixes r) cs || b) (or_false (fixes r c))));
+  known = λ r. adds r ∙ rw (fixed.known r) (sym (list_any-append (fixes r) cs (c ∷ []) ∙ ap (λ (b : Bool). list_any (fixes r) cs || b) (or-false (fixes r c))));
 }
 
 pub fixed_step : (set next : ℕ) (cs : List Constraint) (i : ℕ) (d : Constraint) → i < length cs → AreFixedIn set (take i cs) → FixesOutside set (get_or cs i d)
@@ -55,14 +48,10 @@ fixed_step set next cs i d within fixed outside adds =
 -- where no two of all constraints fix one register, none that is fixed before is fixed again
 pub outside_from_pairs : (set : ℕ) (cs : List Constraint) (i : ℕ) (d : Constraint) → i < length cs → AreFixedIn set (take i cs) → AllPairs FixApart cs
     → FixesOutside set (get_or cs i d)
-outside_from_pairs set cs i d within fixed pairs reg e = not_true (has set reg.0) (λ hit.
+outside_from_pairs set cs i d within fixed pairs reg e = false_from_ne_true (has set reg.0) (λ hit.
     let some = Any-from_list_any (fixes reg.0) (take i cs) (sym (fixed.known reg.0) ∙ hit) in
     let x = some.1 in
     let less : some.0 < i = (let h = some.2 in let len = length-take-le i cs (omega arith) in omega (arith, h, len)) in
     let there : get_or cs some.0 x ≡ x = sym (get_or-take i cs some.0 x less) ∙ some.3 in
     let apart : FixApart x (get_or cs i x) = subst (λ (y : Constraint). FixApart y (get_or cs i x)) there (pairs some.0 i x less within) in
     apart reg (fixed_is x reg some.4) (ap fixed_by (get_or_default cs i x d within) ∙ e))
-  where
-    not_true : (b : Bool) → (b ≡ true → ⊥) → b ≡ false
-    not_true true never = absurd (never refl)
-    not_true false never = refl

@@ -25,46 +25,12 @@ of_stackmaps P a b c d rule.RegisterDemand within = d
 of_stackmaps P a b c d _ within = absurd (let low = within.0 in let high = within.1 in omega (arith, low, high))
 
 module _ (keeps : Rule → Type 0) where
-  pub constraints_broken : ¬ (keeps rule.Constraints) → IsLeastBroken 15 18 keeps (Some rule.Constraints)
-  constraints_broken broken = ((lit≤ tt, lit≤ tt), broken, λ r within less. absurd (let low = within.0 in omega (arith, low, less)))
-
-  pub registers_broken : keeps rule.Constraints → ¬ (keeps rule.Registers) → IsLeastBroken 15 18 keeps (Some rule.Registers)
-  registers_broken a broken = (
-    (lit≤ tt, lit≤ tt),
-    broken,
-    of_stackmaps (λ r. number_of r < 16 → keeps r)
-        (λ _. a) (λ h. absurd (omega (arith, h))) (λ h. absurd (omega (arith, h))) (λ h. absurd (omega (arith, h))),
-  )
-
-  pub fixed_broken : keeps rule.Constraints → keeps rule.Registers → ¬ (keeps rule.FixedRegisters) → IsLeastBroken 15 18 keeps (Some rule.FixedRegisters)
-  fixed_broken a b broken = (
-    (lit≤ tt, lit≤ tt),
-    broken,
-    of_stackmaps (λ r. number_of r < 17 → keeps r)
-        (λ _. a) (λ _. b) (λ h. absurd (omega (arith, h))) (λ h. absurd (omega (arith, h))),
-  )
-
-  pub demand_broken : keeps rule.Constraints → keeps rule.Registers → keeps rule.FixedRegisters → ¬ (keeps rule.RegisterDemand)
-      → IsLeastBroken 15 18 keeps (Some rule.RegisterDemand)
-  demand_broken a b c broken = (
-    (lit≤ tt, lit≤ tt),
-    broken,
-    of_stackmaps (λ r. number_of r < 18 → keeps r)
-        (λ _. a) (λ _. b) (λ _. c) (λ h. absurd (omega (arith, h))),
-  )
 
   -- with the rule on sizes, the last
   pub still_least : (r : Rule) → IsLeastBroken 15 18 keeps (Some r) → IsLeastBroken 15 19 keeps (Some r)
   still_least r least =
       let high = least.0.1 in
       ((least.0.0, omega (arith, high)), least.1, λ q within less. least.2 q (within.0, omega (arith, high, less)) less)
-
-  pub sizes_broken : IsLeastBroken 15 18 keeps None → ¬ (keeps rule.Sizes) → IsLeastBroken 15 19 keeps (Some rule.Sizes)
-  sizes_broken others broken = ((lit≤ tt, lit≤ tt), broken, λ q within less. others q (within.0, omega (arith, less)))
-
-  pub sizes_kept : IsLeastBroken 15 18 keeps None → keeps rule.Sizes → IsLeastBroken 15 19 keeps None
-  sizes_kept others sizes rule.Sizes within = sizes
-  sizes_kept others sizes r within = others r (within.0, (let high = within.1 in omega (arith, high)))
 
 -- two ways to keep the same rules
 pub least_alike : (low high : ℕ) (keeps holds : Rule → Type 0) → ((r : Rule) → IsWithin low high r → (keeps r → holds r) × (holds r → keeps r))
@@ -87,8 +53,3 @@ least_of_map v map o is least p b j =
     least_alike 15 18 (λ r. MapKeeps r (has_result v) map) (λ r. ValueKeeps r p b j v)
     (of_stackmaps (λ r. (MapKeeps r (has_result v) map → ValueKeeps r p b j v) × (ValueKeeps r p b j v → MapKeeps r (has_result v) map))
     (of_map NamesConstraints v map is) (of_map NamesRegisters v map is) (of_map FixesApart v map is) (of_map HasRegisters v map is)) o least
-
--- and where it has none
-pub none_without_map : (v : Value) → stackmap_in v.body ≡ None → (p : Procedure) (b j : ℕ) → IsLeastBroken 15 18 (λ r. ValueKeeps r p b j v) None
-none_without_map v none p b j =
-    of_stackmaps (λ r. ValueKeeps r p b j v) (λ map e. absurd (cc)) (λ map e. absurd (cc)) (λ map e. absurd (cc)) (λ map e. absurd (cc))

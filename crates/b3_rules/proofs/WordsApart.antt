@@ -9,6 +9,7 @@ use Rattle.std.proofs.lemmas.Cmp.{nat_cmp_total, ranked, tied_itself}
 use Rattle.std.proofs.lemmas.List.{get_or-take, get_or_default, length-take-le, take_more}
 use Rattle.std.proofs.lemmas.List.Folds.{Any-from_list_any, list_any_at, list_any-append}
 use Rattle.std.proofs.lemmas.List.Quantifiers.{all_pairs_push}
+use mathlib.Core.Bool.{or-false}
 use Rattle.b3_base.specs.Arithmetic.{low}
 use Rattle.b3_base.specs.declared.word.Width.{Width}
 use Rattle.b3_rules.proofs.FixedApart.{no_pairs}
@@ -20,10 +21,6 @@ DifferIn width a b = low width a ≢ low width b
 pub record AreSeenIn (width : Width) (seen : BTreeSet ℕ) (words : List ℕ) : Type 0 where
   pub apart : AllPairs (DifferIn width) words
   pub known : (k : ℕ) → contains nat_cmp seen k ≡ list_any (λ w. is_eq (nat_cmp (low width w) k)) words
-
-or_false : (b : Bool) → (b || false) ≡ b
-or_false true = refl
-or_false false = refl
 
 cond_or : (a b : Bool) → cond a true b ≡ (b || a)
 cond_or true true = refl
@@ -42,9 +39,6 @@ tied_is a b e = from (nat_cmp a b) refl e
 tied_from : (a b : ℕ) → a ≡ b → is_eq (nat_cmp a b) ≡ true
 tied_from a b e = ap is_eq (ap (nat_cmp a) (sym e) ∙ tied_itself nat_cmp_total a)
 
-pub none_seen : (width : Width) (seen : BTreeSet ℕ) → seen.keys ≡ [] → AreSeenIn width seen []
-none_seen width seen empty = record { apart = no_pairs (DifferIn width); known = λ k. rw empty refl }
-
 pub seen_more : (width : Width) (seen next : BTreeSet ℕ) (words : List ℕ) (word : ℕ) → AreSeenIn width seen words
     → contains nat_cmp seen (low width word) ≡ false
     → ((q : ℕ) → contains nat_cmp next q ≡ cond (is_eq (nat_cmp (low width word) q)) true (contains nat_cmp seen q))
@@ -57,7 +51,7 @@ seen_more width seen next words word known new adds = record {
   known = λ k.
       let test : ℕ → Bool = λ w. is_eq (nat_cmp (low width w) k) in
       adds k ∙ cond_or (test word) (contains nat_cmp seen k) ∙ ap (λ (b : Bool). b || test word) (known.known k)
-      ∙ sym (list_any-append test words (word ∷ []) ∙ ap (λ (b : Bool). list_any test words || b) (or_false (test word)));
+      ∙ sym (list_any-append test words (word ∷ []) ∙ ap (λ (b : Bool). list_any test words || b) (or-false (test word)));
 }
 
 pub seen_step : (width : Width) (seen next : BTreeSet ℕ) (words : List ℕ) (i d : ℕ) → i < length words → AreSeenIn width seen (take i words)

@@ -7,7 +7,7 @@ use Rattle.b3_ir.specs.Naming.{type_of, type_or_void, value_named}
 use Rattle.b3_ir.specs.Procedure.{IsAt, IsWhole, Kept, Procedure, StandsAt, values_of}
 use Rattle.b3_ir.specs.declared.opcode.Ty.TheVariants.{Void}
 use Rattle.b3_ir.specs.declared.value.Value.{Value}
-use Rattle.b3_ir.proofs.Numbering.{in_blocks}
+use Rattle.b3_ir.proofs.Spots.{in_blocks}
 use Rattle.b3_rules.specs.Rules.{HasNewId, IsEarlier, IsId}
 use Rattle.b3_validate.specs.declared.index.Named.{Named}
 use Rattle.b3_validate.specs.Index.{IsNamed, IsNamedAt, IsNamedBefore, NoneBefore, NonePasses, has_id}

@@ -6,7 +6,7 @@ use Rattle.std.proofs.lemmas.Option.{slice_get_within}
 use Rattle.b3_ir.specs.Procedure.{Block, Procedure, StandsAt, values_of}
 use Rattle.b3_ir.specs.declared.procedure.SlotLine.{SlotLine}
 use Rattle.b3_ir.specs.declared.value.Value.{Value}
-use Rattle.b3_ir.proofs.Numbering.{in_blocks}
+use Rattle.b3_ir.proofs.Spots.{in_blocks}
 use Rattle.b3_rules.specs.Least.{IsLeastBroken, IsWithin}
 use Rattle.b3_rules.specs.Numbers.{number_of}
 use Rattle.b3_rules.specs.Valid.{IsPartOf, Keeps, Part, Header, SlotAt, HeadingAt, ValueAt, line_of}

@@ -118,9 +118,6 @@ left_last words at j left list e l =
 abbrev pub without_lowest : ℕ → ℕ
 without_lowest left = bit_and left (bit_not w64 (1 * 2 ^ trailing_zeros w64 left % 2 ^ 64))
 
-pub lowest_within : (left : ℕ) → 0 < left → left < 2 ^ 64 → trailing_zeros w64 left < 64
-lowest_within left some fits = (bit_at-trailing_zeros w64 left some fits).0
-
 pub less_left : (left : ℕ) → 0 < left → left < 2 ^ 64 → without_lowest left < left
 less_left left some fits =
     let low = bit_at-trailing_zeros w64 left some fits in

@@ -1,5 +1,5 @@
 -- A run of words that is changed by another, block by block.
-use Rattle.std.proofs.Common.{◌≡◌, ◌≢◌, ℕ, zero, suc, add-zero, ◌+◌, ◌-◌, ◌<◌, ◌≤◌, inl, inr, length, slice_index, List, [], ◌∷◌, bit_or, arith, sym, ◌∙◌, ap, refl, set, get_or-set_other, ◌↔◌}
+use Rattle.std.proofs.Common.{◌≡◌, ◌≢◌, ℕ, zero, suc, add-zero, ◌+◌, ◌-◌, ◌<◌, ◌≤◌, inl, inr, length, slice_index, List, [], ◌∷◌, bit_or, arith, sym, ◌∙◌, ap, set, get_or-set_other, ◌↔◌}
 use Rattle.std.proofs.lemmas.Bool.{cases_lt}
 use Rattle.std.proofs.lemmas.Nat.{le_or_l, le_or_r}
 use Rattle.std.proofs.lemmas.Grind.{get_or-set_at}
@@ -44,9 +44,6 @@ merged_word f words a b to =
       above = λ i h. let ne : i ≢ a = omega arith in get_or-set_other words a i (f (slice_index words a) (slice_index words b)) 0 ne;
     }
 
-pub Merges-none : (f : ℕ → ℕ → ℕ) (words : List ℕ) (a b : ℕ) → Merges f words words a b 0
-Merges-none f words a b = record { inside = λ j h. absurd (omega arith); below = λ i h. refl; above = λ i h. refl }
-
 -- the words from b + k on are still the old ones once k words from a on have changed
 pub from_kept : (f : ℕ → ℕ → ℕ) (old mid : List ℕ) (a b k n j : ℕ) → Apart a b n → Merges f old mid a b k → k ≤ j → j < n → k ≤ n
     → slice_index mid (b + j) ≡ slice_index old (b + j)
@@ -73,11 +70,6 @@ Merges-join f old mid new a b k m t n apart first next e le =
       above = λ i h. next.above i (omega arith) ∙ first.above i (omega arith);
     }
 
--- the runs from k on are apart too
-pub Apart-later : (a b k m n : ℕ) → Apart a b n → k + m ≤ n → Apart (a + k) (b + k) m
-Apart-later a b k m n apart h =
-    record { runs = elim apart.runs [ inl e ↦ inl (omega arith) | inr away ↦ elim away [ inl e ↦ inr (inl (omega arith)) | inr e ↦ inr (inr (omega arith)) ] ] }
-
 -- one lane of f at a run and at what g makes of the same run and another
 pub lane_of_both : (f g : ℕ → ℕ → ℕ) (words : List ℕ) (a b m j : ℕ) → a + m ≤ length words → b + m ≤ length words → j < m
     → slice_index (zip2 f (chunk a m words) (zip2 g (chunk a m words) (chunk b m words))) j ≡ f (slice_index words (a + j)) (g (slice_index words (a + j)) (slice_index words (b + j)))
@@ -95,9 +87,6 @@ length-lanes_of_both f g words a b m to from =
 -- an or is 0 exactly where both sides are
 pub or_zero : (x y : ℕ) → (bit_or x y ≡ 0) ↔ ((x ≡ 0) × (y ≡ 0))
 or_zero x y = (λ e. (omega (arith, le_or_l x y), omega (arith, le_or_r x y)), λ p. ap2 bit_or p.0 p.1)
-
-pub Nothing-none : (f : ℕ → ℕ → ℕ) (words : List ℕ) (a b : ℕ) → Nothing f words a b 0
-Nothing-none f words a b j h = absurd (omega arith)
 
 -- nothing on k + m words is nothing on the first k and nothing on the m after them
 pub Nothing-front : (f : ℕ → ℕ → ℕ) (words : List ℕ) (a b k t : ℕ) → k ≤ t → Nothing f words a b t → Nothing f words a b k

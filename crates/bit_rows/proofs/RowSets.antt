@@ -13,6 +13,8 @@ use Rattle.std.proofs.lemmas.Grind.{get_or-set_at}
 use Rattle.std.proofs.lemmas.List.{set-get_or}
 use Rattle.std.proofs.lemmas.Simd.{length-replicate, get_or-replicate}
 use Rattle.std.specs.Prelude.{replicate}
+use mathlib.Core.Bool.{and-false}
+use Rattle.b3_base.proofs.Bits.{one_max}
 use Rattle.bit_rows.specs.Words.{FillsWords, KeepsOthers, is_one, kept, sets_of, ones_from, without, added, Merges, Apart, Nothing}
 use Rattle.bit_rows.proofs.Sets.{ap2, contains-passing, passing-same, len-passing, count_below, count_below-same, count_below-join, count_word, contains-insert_nat, contains-remove_nat}
 
@@ -104,14 +106,6 @@ one_at words at j i h =
     let d : (64 * j + i) / 64 ≡ j = omega arith in
     let m : (64 * j + i) % 64 ≡ i = omega arith in
     ap2 (λ x y. nat_eq (bit_at (slice_index words (at + x)) y) 1) d m
-
-one_max : (x y : ℕ) → x < 2 → y < 2 → nat_eq (max x y) 1 ≡ (nat_eq x 1 || nat_eq y 1)
-one_max zero zero hx hy = refl
-one_max zero (suc zero) hx hy = refl
-one_max (suc zero) zero hx hy = refl
-one_max (suc zero) (suc zero) hx hy = refl
-one_max (suc (suc x)) y hx hy = absurd (omega arith)
-one_max x (suc (suc y)) hx hy = absurd (omega arith)
 
 one_less : (x y : ℕ) → x < 2 → y < 2 → nat_eq ((x + min x y) % 2) 1 ≡ (nat_eq x 1 && not (nat_eq y 1))
 one_less zero zero hx hy = refl
@@ -385,8 +379,4 @@ sets-zeros n stride rows =
     ∙ sym (kept_is (none_of n) (r * stride) stride set.empty (λ q.
     ap (λ w. ltb q (64 * stride) && nat_eq (bit_at w (q % 64)) 1) (zeros n (r * stride + q / 64))
     ∙ ap (λ d. ltb q (64 * stride) && nat_eq d 1) (bit_at-zero (q % 64))
-    ∙ never (ltb q (64 * stride)) ∙ sym (set.contains-empty nat_cmp q)))))
-  where
-    never : (b : Bool) → (b && false) ≡ false
-    never true = refl
-    never false = refl
+    ∙ and-false (ltb q (64 * stride)) ∙ sym (set.contains-empty nat_cmp q)))))

@@ -39,49 +39,6 @@ put_def m n defined name touch h e is q =
 
 -- ---- one place
 
-pub touch_more : (g : Graph) (is : Touch → Type 0) (block place k : ℕ) → HasTouchBelow g is block place (k + 1) ↔ (HasTouchBelow g is block place k ⊎ is (g.touch block place k))
-touch_more g is block place k = (
-  λ t. elim (cases_lt t.0 k) [
-    | inl lt ↦ inl (t.0, lt, t.2)
-    | inr ge ↦ let same : t.0 ≡ k = omega arith in inr (subst (λ (j : ℕ). is (g.touch block place j)) same t.2)
-  ],
-  λ t. elim t [ inl a ↦ (a.0, omega arith, a.2) | inr b ↦ (k, omega arith, b) ],
-)
-
--- one more touch among the uses
-pub uses_more : (g : Graph) (first mid new : BitRows) (block defined place k name : ℕ)
-    → ((has mid block name ≡ true) ↔ ((has first block name ≡ true) ⊎ (HasTouchBelow g (λ t. IsUseOf t name) block place k × (has first defined name ≡ false))))
-    → ((has new block name ≡ true) ↔ ((has mid block name ≡ true) ⊎ (IsUseOf (g.touch block place k) name × (has mid defined name ≡ false))))
-    → has mid defined name ≡ has first defined name
-    → (has new block name ≡ true) ↔ ((has first block name ≡ true) ⊎ (HasTouchBelow g (λ t. IsUseOf t name) block place (k + 1) × (has first defined name ≡ false)))
-uses_more g first mid new block defined place k name inv ens same =
-    let more = touch_more g (λ t. IsUseOf t name) block place k in (
-      λ t. elim (ens.0 t) [
-        | inl a ↦ elim (inv.0 a) [ inl x ↦ inl x | inr y ↦ inr (more.1 (inl y.0), y.1) ]
-        | inr u ↦ inr (more.1 (inr u.0), sym same ∙ u.1)
-      ],
-      λ t. ens.1 (elim t [
-        | inl x ↦ inl (inv.1 (inl x))
-        | inr y ↦ elim (more.0 y.0) [ inl b ↦ inl (inv.1 (inr (b, y.1))) | inr u ↦ inr (u, same ∙ y.1) ]
-      ]),
-    )
-
-pub defs_more : (g : Graph) (first mid new : BitRows) (block defined place k name : ℕ)
-    → ((has mid defined name ≡ true) ↔ ((has first defined name ≡ true) ⊎ HasTouchBelow g (λ t. IsDefOf t name) block place k))
-    → ((has new defined name ≡ true) ↔ ((has mid defined name ≡ true) ⊎ IsDefOf (g.touch block place k) name))
-    → (has new defined name ≡ true) ↔ ((has first defined name ≡ true) ⊎ HasTouchBelow g (λ t. IsDefOf t name) block place (k + 1))
-defs_more g first mid new block defined place k name inv ens =
-    let more = touch_more g (λ t. IsDefOf t name) block place k in (
-      λ t. elim (ens.0 t) [
-        | inl a ↦ elim (inv.0 a) [ inl x ↦ inl x | inr y ↦ inr (more.1 (inl y)) ]
-        | inr u ↦ inr (more.1 (inr u))
-      ],
-      λ t. ens.1 (elim t [
-        | inl x ↦ inl (inv.1 (inl x))
-        | inr y ↦ elim (more.0 y) [ inl b ↦ inl (inv.1 (inr b)) | inr u ↦ inr u ]
-      ]),
-    )
-
 -- ---- one block
 
 exposed_more : (g : Graph) (name block place : ℕ)
@@ -108,13 +65,6 @@ defined_more g name block place = (
   ],
   λ t. elim t [ inl a ↦ (a.0, omega arith, a.2) | inr b ↦ (place, omega arith, b) ],
 )
-
-pub IsGathered-none : (g : Graph) (block : ℕ) (m : BitRows) → IsBlank g block m → IsGatheredBelow g block 0 m
-IsGathered-none g block m blank =
-    record {
-      used = λ name. (λ t. absurd (false≢true (sym (blank.used name) ∙ t)), λ t. absurd (omega (arith, t.1)));
-      defined = λ name. (λ t. absurd (false≢true (sym (blank.defined name) ∙ t)), λ t. absurd (omega (arith, t.1)));
-    }
 
 pub IsGathered-more : (g : Graph) (block place : ℕ) (old mid new : BitRows) → block < g.blocks
     → IsGatheredBelow g block place old

@@ -1,6 +1,6 @@
 -- How each change of the nodes keeps the lists that they hold.
 use Rattle.std.proofs.Common.{◌≡◌, ◌⊎◌, ℕ, zero, suc, ◌+◌, ◌<◌, ◌≤◌, ◌^◌, List, [], ◌∷◌, ◌++◌, length, map, get_or, set, Option, Some, None, IsSome, option_map, slice_get, refl, sym, ap, subst, ◌∙◌, inl, inr, arith, length-set, length-append}
-use Rattle.std.proofs.lemmas.Bool.{cases_eq}
+use Rattle.std.proofs.lemmas.Bool.{cases_eq, cases_lt}
 use Rattle.std.proofs.lemmas.List.{length-map, get_or-map, get_or_default, get_or-set_same, get_or-set_other, get_or_past, same_lists, set-get_or, get_or_push, get_or_append_left}
 use Rattle.std.proofs.lemmas.List.Sums.{sum_by-set, sum_by_push, get_or-le-sum_by}
 use Rattle.std.proofs.lemmas.Option.{slice_get_within, slice_get-get_or, get_or_from_slice_get, same_Some}
@@ -9,7 +9,7 @@ use Rattle.ir_arena.specs.declared.links.Ends.{Ends}
 use Rattle.ir_arena.specs.Chains.{list_at, item_in, Has, inserted, without, with_item, next_in, before_in, Differ, IdsDiffer}
 use Rattle.ir_arena.specs.Layout.{NodeAt, used, vacant, IsSegment, IsFree, walk, node_in, lists_of, IsLaidOut, relinked, relinked_ends, IsAfter, free_head, free_nodes}
 use Rattle.ir_arena.proofs.ChunkLemmas.{slice_get-append_left, slice_get-set_same, slice_get-set_other, slice_get-push, slice_get-more}
-use Rattle.ir_arena.proofs.ListLemmas.{found, split_at, IsSplit, gap_at, has_item, length-insert, absent_left, absent_right, in_more, without-absent, with_item-absent, place_or_past}
+use Rattle.ir_arena.proofs.ListLemmas.{found, split_at, IsSplit, gap_at, has_item, length-insert, absent_left, absent_right, in_more, without-absent, with_item-absent}
 use Rattle.ir_arena.proofs.Segments
 use Rattle.ir_arena.proofs.Free.{same_count, free_frame, free_more, length-free_nodes}
 
@@ -341,7 +341,7 @@ module _ {T : Type 0} where
   pub ids_differ : (ns : List (Node T)) (ends : List Ends) (free : Option ℕ) (spare : ℕ) (lists : List (List (ℕ × T))) → IsLaidOut ns ends free spare lists → IdsDiffer lists
   ids_differ ns ends free spare lists laid = record {
     across = λ j k id one two. let v = has_item (list_at lists j) id one in let w = has_item (list_at lists k) id two in only_in ns ends free spare lists j k id v.0 w.0 laid v.1 w.1;
-    within = λ k. elim (place_or_past k (length lists)) [
+    within = λ k. elim (cases_lt k (length lists)) [
       | inl h ↦ let c = ends_at ns ends free spare lists k laid h in Segments.differ (node_in ns) k c.0.first None (list_at lists k) c.0.last c.2
       | inr past ↦ let none : list_at lists k ≡ [] = get_or_past lists k [] past in rw none tt
     ];

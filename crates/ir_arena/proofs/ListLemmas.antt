@@ -19,17 +19,6 @@ other_id a b n =
       | inr t ↦ t.1
     ]
 
--- a place is below a number or past it
-pub place_or_past : (k n : ℕ) → (k < n) ⊎ (n ≤ k)
-place_or_past zero zero = inr (omega arith)
-place_or_past zero (suc n) = inl (omega arith)
-place_or_past (suc k) zero = inr (omega arith)
-place_or_past (suc k) (suc n) =
-    elim (place_or_past k n) [
-      | inl h ↦ inl (omega arith)
-      | inr h ↦ inr (omega arith)
-    ]
-
 module _ {T : Type 0} where
   pub item_in-hit : (e : ℕ × T) (es : List (ℕ × T)) (id : ℕ) → e.0 ≡ id → item_in (e ∷ es) id ≡ Some e.1
   item_in-hit e es id h =

@@ -5,9 +5,9 @@ use Rattle.ir_arena.specs.declared.node.Node.{Node}
 use Rattle.ir_arena.specs.declared.links.Ends.{Ends}
 use Rattle.ir_arena.specs.Chains.{KeepsOthers, inserted, without, Chains, list_at, item_in, Has, IsInUse, IsItemOf, with_item, first_id, last_id, next_in, before_in}
 use Rattle.ir_arena.specs.Layout.{node_in, lists_of, IsLaidOut}
-use Rattle.std.proofs.lemmas.Bool.{cases_eq}
+use Rattle.std.proofs.lemmas.Bool.{cases_eq, cases_lt}
 use Rattle.std.proofs.lemmas.List.{length-map, get_or-map, get_or_past, get_or-set_same, get_or-set_other}
-use Rattle.ir_arena.proofs.ListLemmas.{has_item, place_or_past, item_in-without, item_in-inserted}
+use Rattle.ir_arena.proofs.ListLemmas.{has_item, item_in-without, item_in-inserted}
 use Rattle.ir_arena.proofs.Segments
 use Rattle.ir_arena.proofs.Layouts.{ends_at, list_within, in_list, item_laid}
 
@@ -71,7 +71,7 @@ module _ {T : Type 0} where
   -- other ids keep their items in every chain
   pub keeps_at_removal : (lists : List (List (ℕ × T))) (id : ℕ) → KeepsOthers lists (map (without id) lists) id
   keeps_at_removal lists id k other ne =
-      elim (place_or_past k (length lists)) [
+      elim (cases_lt k (length lists)) [
         | inl h ↦
             let is : list_at (map (without id) lists) k ≡ without id (list_at lists k) = get_or-map (without id) lists k [] [] h in
             rw is (item_in-without id (list_at lists k) other ne)

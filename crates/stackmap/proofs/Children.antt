@@ -1,6 +1,6 @@
 -- The first children of a site, one more at a time.
 use Rattle.std.proofs.Common.{◌≡◌, ◌↔◌, ◌∙◌, ◌⊎◌, ◌||◌, ◌&&◌, ℕ, ◌+◌, ◌<◌, Bool, true, false, slice_get, Some, inl, inr, refl, sym, ap, subst, arith, eq-eqb, eqb-true}
-use Rattle.std.proofs.lemmas.Bool.{cases_eq}
+use Rattle.std.proofs.lemmas.Bool.{cases_eq, or_cases, or_left, or_right, and_parts, and_from}
 use Rattle.std.proofs.lemmas.Option.{slice_get_within}
 use Rattle.b3_ir.specs.declared.value.Constraint.{Constraint}
 use Rattle.b3_ir.specs.declared.value.Reg.{Reg}
@@ -63,27 +63,6 @@ stands_there reg (Constant word) e = absurd (cc)
 pub there_stands : (reg : Reg) (where_ : Rep) → where_ ≡ Register reg → stands_at reg.0 where_ ≡ true
 there_stands reg where_ e = rw e (eq-eqb reg.0 reg.0 refl)
 
--- a disjunction, and a conjunction, of tests
-pub or_cases : (a b : Bool) → (a || b) ≡ true → (a ≡ true) ⊎ (b ≡ true)
-or_cases true b e = inl refl
-or_cases false b e = inr e
-
-pub or_left : (a b : Bool) → a ≡ true → (a || b) ≡ true
-or_left true b e = refl
-or_left false b e = absurd (cc)
-
-pub or_right : (a b : Bool) → b ≡ true → (a || b) ≡ true
-or_right true b e = refl
-or_right false b e = e
-
-and_both : (a b : Bool) → (a && b) ≡ true → (a ≡ true) × (b ≡ true)
-and_both true b e = (refl, e)
-and_both false b e = absurd (cc)
-
-both_and : (a b : Bool) → a ≡ true → b ≡ true → (a && b) ≡ true
-both_and true b ea eb = eb
-both_and false b ea eb = absurd (cc)
-
 pub stands_more : (group : Group) (map : Stackmap) (site : Site) (i : ℕ) (c : Constraint) (place : Place) (set next : ℕ)
     → slice_get map.constraints i ≡ Some c → slice_get site.reps i ≡ Some place
     → ((r : ℕ) → has next r ≡ (has set r || (counts group c && stands_at r place.rep)))
@@ -100,7 +79,7 @@ stands_more group map site i c place set next asks reported adds known reg = (to
         below = omega (arith, s.below);
         counted = s.counted;
       }
-      | inr new ↦ let both = and_both _ _ new in record {
+      | inr new ↦ let both = and_parts _ _ new in record {
         child = i;
         constraint = c;
         is = record { place = place; asks = asks; reported = reported; stands = stands_there reg place.rep both.1 };
@@ -115,7 +94,7 @@ stands_more group map site i c place set next asks reported adds known reg = (to
           let here : IsChild map site i s.constraint (Register reg) = subst (λ (j : ℕ). IsChild map site j s.constraint (Register reg)) e s.is in
           let same : s.constraint ≡ c = child_asks map site i c s.constraint (Register reg) asks here in
           let counted : counts group c ≡ true = subst (λ (x : Constraint). counts group x ≡ true) same s.counted in
-          or_right (has set reg.0) _ (both_and _ _ counted (there_stands reg place.rep (sym (child_stands map site i s.constraint place _ reported here))))
+          or_right (has set reg.0) _ (and_from _ _ counted (there_stands reg place.rep (sym (child_stands map site i s.constraint place _ reported here))))
       | inr ne ↦ or_left _ _ ((known reg).1 (record {
         child = s.child;
         constraint = s.constraint;
@@ -147,7 +126,7 @@ twice_more map site i c place once twice next stood asks reported stands adds kn
         below = (let h = t.below in omega (arith, h));
       }
       | inr new ↦
-          let both = and_both _ _ new in
+          let both = and_parts _ _ new in
           let s = (known_once reg).0 (sym (stands reg.0 both.1) ∙ both.0) in
           record {
             first = s.child;
@@ -175,7 +154,7 @@ twice_more map site i c place once twice next stood asks reported stands adds kn
             below = (let h = t.ordered in omega (arith, h));
             counted = refl;
           }) in
-          or_right (has twice reg.0) _ (both_and _ _ (stands reg.0 at ∙ first_stands) at)
+          or_right (has twice reg.0) _ (and_from _ _ (stands reg.0 at ∙ first_stands) at)
       | inr ne ↦ or_left _ _ ((known reg).1 (record {
         first = t.first;
         second = t.second;

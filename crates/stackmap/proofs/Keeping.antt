@@ -1,6 +1,8 @@
 -- A site keeps its constraints exactly where the sets of its children's registers do.
 use Rattle.std.proofs.Common.{◌≡◌, ◌≢◌, ◌↔◌, ◌∙◌, ◌||◌, ℕ, ◌≤◌, Bool, true, false, Option, Some, None, IfSome, inl, inr, refl, sym, ap, subst, arith}
-use Rattle.std.proofs.lemmas.Bool.{cases_eq, cases_lt}
+use Rattle.std.proofs.lemmas.Bool.{cases_eq, cases_lt, or_cases, or_left, or_right, false_from_ne_true, or_parts, or_from}
+use Rattle.std.proofs.lemmas.Option.{IfSome_then}
+use Rattle.b3_base.proofs.Booleans.{same_tests}
 use Rattle.b3_base.specs.declared.word.Width.{Width}
 use Rattle.b3_ir.specs.declared.value.Constraint.{Constraint}
 use Rattle.b3_ir.specs.declared.value.Constraint.TheVariants.{WarmAny, ColdAny, LateColdAny, SomeRegister, SomeRegisterWithClobber, SomeEarlyRegister, SomeLateRegister, Fixed, LateFixed}
@@ -13,27 +15,7 @@ use Rattle.stackmap.specs.declared.obeying.Group.{Group}
 use Rattle.stackmap.specs.declared.obeying.Group.TheVariants.{Every, Late, Clobbered}
 use Rattle.stackmap.specs.declared.site.Rep.TheVariants.{Register}
 use Rattle.stackmap.specs.declared.site.Site.{Site}
-use Rattle.stackmap.proofs.Children.{child_below, or_cases, or_left, or_right}
-
-not_true : (b : Bool) → (b ≡ true → ⊥) → b ≡ false
-not_true true never = absurd (never refl)
-not_true false never = refl
-
-both_false : (a b : Bool) → (a || b) ≡ false → (a ≡ false) × (b ≡ false)
-both_false true b e = absurd (cc)
-both_false false b e = (refl, e)
-
-false_both : (a b : Bool) → a ≡ false → b ≡ false → (a || b) ≡ false
-false_both a b ea eb = rw (ea, eb)
-
-same_test : (a b : Bool) → (a ≡ true → b ≡ true) → (b ≡ true → a ≡ true) → a ≡ b
-same_test true b to from = sym (to refl)
-same_test false true to from = from refl
-same_test false false to from = refl
-
-if_some : {A : Type 0} (P Q : A → Type 0) (o : Option A) → IfSome o P → ((x : A) → P x → Q x) → IfSome o Q
-if_some P Q None h f = tt
-if_some P Q (Some x) h f = f x h
+use Rattle.stackmap.proofs.Children.{child_below}
 
 clobbered_is : (c : Constraint) → is_clobbered c ≡ true → c ≡ SomeRegisterWithClobber
 clobbered_is WarmAny e = absurd (cc)
@@ -118,24 +100,22 @@ keeps_from_sets patchpoint map site every late clobbered twice sets keep = recor
   early = λ k c reg child. keep.outside_early reg.0 (every_has map site every k c reg sets.all child);
   late = λ k c reg child is_late.
       let here = late_has map site late k c reg sets.read_late child is_late in
-      let outside = both_false _ _ (keep.outside_late reg.0 here) in (
+      let outside = or_parts _ _ (keep.outside_late reg.0 here) in (
         outside.0,
         λ clobbers. (let there = clobbered_has map site clobbered clobbers.child reg sets.changed clobbers.is in let no = outside.1 in cc),
-        if_some (λ (r : Width × Reg). ResultKeeps map every late r.1) (λ (r : Width × Reg). r.1 ≢ reg) site.result keep.result
+        IfSome_then site.result {P = (λ (r : Width × Reg). ResultKeeps map every late r.1)} {Q = (λ (r : Width × Reg). r.1 ≢ reg)} keep.result
             (λ r result e.
             (let no : has late r.1.0 ≡ false = result.apart in
             let same : has late r.1.0 ≡ has late reg.0 = ap (λ (q : Reg). has late q.0) e in cc)),
       );
-  result = if_some (λ (r : Width × Reg). ResultKeeps map every late r.1)
-      (λ (r : Width × Reg). (r.1.0 ≤ 30) × (has map.late r.1.0 ≡ false)) site.result keep.result
+  result = IfSome_then site.result {P = (λ (r : Width × Reg). ResultKeeps map every late r.1)} {Q = (λ (r : Width × Reg). (r.1.0 ≤ 30) × (has map.late r.1.0 ≡ false))} keep.result
       (λ r result. (result.named, result.outside));
-  early_result = λ is_early. if_some (λ (r : Width × Reg). ResultKeeps map every late r.1)
-      (λ (r : Width × Reg). (has map.early r.1.0 ≡ false) × ((k : ℕ) (c : Constraint) → ¬ (IsChild map site k c (Register r.1)))) site.result keep.result
+  early_result = λ is_early. IfSome_then site.result {P = (λ (r : Width × Reg). ResultKeeps map every late r.1)} {Q = (λ (r : Width × Reg). (has map.early r.1.0 ≡ false) × ((k : ℕ) (c : Constraint) → ¬ (IsChild map site k c (Register r.1))))} keep.result
       (λ r result. (
         (result.kind.apart is_early).0,
         λ k c child. (let no = (result.kind.apart is_early).1 in let there = every_has map site every k c r.1 sets.all child in cc),
       ));
-  fixed_result = λ reg e. if_some (λ (r : Width × Reg). ResultKeeps map every late r.1) (λ (r : Width × Reg). r.1 ≡ reg) site.result keep.result
+  fixed_result = λ reg e. IfSome_then site.result {P = (λ (r : Width × Reg). ResultKeeps map every late r.1)} {Q = (λ (r : Width × Reg). r.1 ≡ reg)} keep.result
       (λ r result. result.kind.fixed reg e);
   clobbers = λ p reg. (
     (λ listed. elim (or_cases _ _ (sym (keep.clobbers.some p reg.0) ∙ listed)) [
@@ -172,7 +152,7 @@ result_from patchpoint map site every late clobbered twice sets keeps (Some r) e
     record {
       named = bounds.0;
       outside = bounds.1;
-      apart = not_true _ (λ hit.
+      apart = false_from_ne_true _ (λ hit.
           let s = (sets.read_late r.1).0 hit in
           let differ = (keeps.late s.child s.constraint r.1 s.is s.counted).2 in
           at (λ q. q.1 ≢ r.1) differ refl);
@@ -180,7 +160,7 @@ result_from patchpoint map site every late clobbered twice sets keeps (Some r) e
         apart = λ is_early.
             let both = at (λ q. (has map.early q.1.0 ≡ false) × ((k : ℕ) (c : Constraint) → ¬ (IsChild map site k c (Register q.1))))
             (keeps.early_result is_early) in
-            (both.0, not_true _ (λ hit. let s = (sets.all r.1).0 hit in both.1 s.child s.constraint s.is));
+            (both.0, false_from_ne_true _ (λ hit. let s = (sets.all r.1).0 hit in both.1 s.child s.constraint s.is));
         fixed = λ reg fixed. at (λ q. q.1 ≡ reg) (keeps.fixed_result reg fixed);
       };
     }
@@ -188,15 +168,15 @@ result_from patchpoint map site every late clobbered twice sets keeps (Some r) e
 pub sets_from_keeps : (patchpoint : Bool) (map : Stackmap) (site : Site) (every late clobbered twice : ℕ) → Sets map site every late clobbered twice
     → Keeps patchpoint map site → SetsKeep patchpoint map site every late clobbered twice
 sets_from_keeps patchpoint map site every late clobbered twice sets keeps = record {
-  alone = λ r one. not_true _ (alone_from patchpoint map site every late clobbered twice sets keeps (make r) one);
+  alone = λ r one. false_from_ne_true _ (alone_from patchpoint map site every late clobbered twice sets keeps (make r) one);
   outside_early = λ r hit. (let s = (sets.all (make r)).0 hit in keeps.early s.child s.constraint (make r) s.is);
   outside_late = λ r hit.
       let s = (sets.read_late (make r)).0 hit in
       let apart = keeps.late s.child s.constraint (make r) s.is s.counted in
-      false_both _ _ apart.0 (not_true _ (λ changed. apart.1 (has_clobbered map site clobbered (make r) sets.changed changed)));
+      or_from _ _ apart.0 (false_from_ne_true _ (λ changed. apart.1 (has_clobbered map site clobbered (make r) sets.changed changed)));
   result = result_from patchpoint map site every late clobbered twice sets keeps site.result refl;
   clobbers = record {
-    some = λ p r. same_test _ _
+    some = λ p r. same_tests _ _
         (λ listed. elim ((keeps.clobbers p (make r)).0 listed) [
           | inl is_early ↦ or_left _ _ (or_left _ _ is_early)
           | inr rest ↦ elim rest [

@@ -2,7 +2,7 @@
 use Rattle.std.proofs.Common.{◌≡◌, ◌∙◌, ◌⊎◌, ◌&&◌, ◌||◌, ℕ, ◌+◌, ◌<◌, Bool, true, false, not, nat_lt, nat_le, List, [], ◌∷◌, Option, Some, None, zero, suc, length, take, slice_get, get_or, inl, inr, refl, sym, ap, subst, arith, cond, All}
 use Rattle.std.specs.List.{filter, list_any, list_all}
 use Rattle.std.specs.List.Sorted.{IsStrictlyIncreasing}
-use Rattle.std.proofs.lemmas.Bool.{cases_eq, cases_lt, eq-eqb, leb-true}
+use Rattle.std.proofs.lemmas.Bool.{cases_eq, cases_lt, eq-eqb, leb-true, or_cases, and_parts, ltb-true, not-true}
 use Rattle.std.proofs.lemmas.List.Elements.{filter_passes}
 use Rattle.std.proofs.lemmas.List.Folds.{list_any_at}
 use Rattle.std.proofs.lemmas.List.Kept.{AllPairs-from_increasing, IsStrictlyIncreasing-filter}
@@ -16,7 +16,6 @@ use Rattle.stackmap.specs.PlacesObey.{IsPlacedIn, PlacesObey}
 use Rattle.stackmap.specs.Placing.{allowed, child_register, is_allowed, nth_allowed, placed_count, register_in, register_numbered, result_in, result_register}
 use Rattle.stackmap.specs.Registers.{allocatable, fixed_by, fixes, has, has_result, is_late, is_placed, is_placed_result, stackmap_in}
 use Rattle.stackmap.specs.Rules.{FixApart, FixesAllocatable, FixesApart, IsAllocatable, IsPlaceable, NamesRegisters}
-use Rattle.stackmap.proofs.Children.{or_cases}
 use Rattle.stackmap.proofs.Placed.{placed_less}
 
 -- ---- the allocatable registers
@@ -26,21 +25,14 @@ rises [] = true
 rises (x ∷ []) = true
 rises (x ∷ y ∷ ys) = nat_lt x y && rises (y ∷ ys)
 
-and_both : (a b : Bool) → (a && b) ≡ true → (a ≡ true) × (b ≡ true)
-and_both true b e = (refl, e)
-and_both false b e = absurd (cc)
-
-lt_from_test : (a b : ℕ) → nat_lt a b ≡ true → a < b
-lt_from_test a b e = grind arith
-
 rising : (xs : List ℕ) → rises xs ≡ true → IsStrictlyIncreasing xs
 unfolding rises
 rising [] e k within = absurd (omega arith)
 rising (x ∷ []) e k within = absurd (omega arith)
-rising (x ∷ y ∷ ys) e zero within = lt_from_test x y (and_both _ _ e).0
+rising (x ∷ y ∷ ys) e zero within = ltb-true x y (and_parts _ _ e).0
 rising (x ∷ y ∷ ys) e (suc k) within =
     let next : suc (k + 1) ≡ suc k + 1 = omega arith in
-    subst (λ (j : ℕ). get_or (y ∷ ys) k 0 < get_or (x ∷ y ∷ ys) j 0) next (rising (y ∷ ys) (and_both _ _ e).1 k (omega arith))
+    subst (λ (j : ℕ). get_or (y ∷ ys) k 0 < get_or (x ∷ y ∷ ys) j 0) next (rising (y ∷ ys) (and_parts _ _ e).1 k (omega arith))
 
 allocatable_rises : IsStrictlyIncreasing allocatable
 unfolding allocatable rises
@@ -53,17 +45,17 @@ one_is : (reg : Reg) → is_one reg.0 ≡ true → IsAllocatable reg
 unfolding is_one
 one_is reg e = elim (or_cases _ _ e) [
   | inl low ↦ inl (leb-true reg.0 14 low)
-  | inr high ↦ (let both = and_both _ _ high in inr (leb-true 19 reg.0 both.0, leb-true reg.0 28 both.1))
+  | inr high ↦ (let both = and_parts _ _ high in inr (leb-true 19 reg.0 both.0, leb-true reg.0 28 both.1))
 ]
 
 all_at : (p : ℕ → Bool) (xs : List ℕ) (k r : ℕ) → list_all p xs ≡ true → slice_get xs k ≡ Some r → p r ≡ true
 all_at p [] k r e at = absurd (cc)
-all_at p (x ∷ xs) zero r e at = let same : x ≡ r = cc in subst (λ (q : ℕ). p q ≡ true) same (and_both _ _ e).0
-all_at p (x ∷ xs) (suc k) r e at = all_at p xs k r (and_both _ _ e).1 at
+all_at p (x ∷ xs) zero r e at = let same : x ≡ r = cc in subst (λ (q : ℕ). p q ≡ true) same (and_parts _ _ e).0
+all_at p (x ∷ xs) (suc k) r e at = all_at p xs k r (and_parts _ _ e).1 at
 
 all_filtered : (p q : ℕ → Bool) (xs : List ℕ) → list_all p xs ≡ true → list_all p (filter q xs) ≡ true
 all_filtered p q [] e = refl
-all_filtered p q (x ∷ xs) e = kept (q x) (and_both _ _ e).0 (all_filtered p q xs (and_both _ _ e).1)
+all_filtered p q (x ∷ xs) e = kept (q x) (and_parts _ _ e).0 (all_filtered p q xs (and_parts _ _ e).1)
   where
     kept : (b : Bool) → p x ≡ true → list_all p (filter q xs) ≡ true → list_all p (cond b (x ∷ filter q xs) (filter q xs)) ≡ true
     kept true one rest = rw (one, rest)
@@ -112,21 +104,17 @@ allowed_is map typed n reg e =
     let passes : is_allowed map typed reg.0 ≡ true =
     subst (λ (q : ℕ). is_allowed map typed q ≡ true) (get_or_from_slice_get (allowed map typed) n reg.0 0 at)
     (filter_passes (is_allowed map typed) allocatable n 0 (slice_get_within (allowed map typed) n reg.0 at)) in
-    let a = and_both _ _ passes in
-    let b = and_both _ _ a.0 in
-    let d = and_both _ _ b.0 in
+    let a = and_parts _ _ passes in
+    let b = and_parts _ _ a.0 in
+    let d = and_parts _ _ b.0 in
     record {
       within = one_is reg (all_at is_one (allowed map typed) n reg.0 (all_filtered is_one (is_allowed map typed) allocatable all_are) at);
-      early = not_false _ d.0;
-      late = not_false _ d.1;
-      fixed = not_false _ b.1;
-      result = λ is_typed. typed_part typed (fixes reg.0 map.result) is_typed (not_false _ a.1);
+      early = not-true _ d.0;
+      late = not-true _ d.1;
+      fixed = not-true _ b.1;
+      result = λ is_typed. typed_part typed (fixes reg.0 map.result) is_typed (not-true _ a.1);
     }
   where
-    not_false : (b : Bool) → not b ≡ true → b ≡ false
-    not_false true e = absurd (cc)
-    not_false false e = refl
-
     typed_part : (a b : Bool) → a ≡ true → (a && b) ≡ false → b ≡ false
     typed_part true b ea e = e
     typed_part false b ea e = absurd (cc)
@@ -163,7 +151,7 @@ result_placed_or_fixed map reg e = record { how = from (is_placed_result map.res
     from true is e = inl (is, e)
     from false is e = inr e
 
-fixes_own : (c : Constraint) (reg : Reg) → fixed_by c ≡ Some reg → fixes reg.0 c ≡ true
+pub fixes_own : (c : Constraint) (reg : Reg) → fixed_by c ≡ Some reg → fixes reg.0 c ≡ true
 fixes_own c reg e = rw e (eq-eqb reg.0 reg.0 refl)
 
 -- an allowed register is fixed for no child

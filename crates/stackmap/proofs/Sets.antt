@@ -4,21 +4,12 @@ use Rattle.std.specs.Int.{bit_at, IsBitSet, w32}
 use Rattle.std.proofs.lemmas.Nat.{pow_pos}
 use Rattle.std.proofs.lemmas.Bool.{cases_eq, cases_lt, eq-eqb}
 use Rattle.std.proofs.lemmas.Nat.Bits.{and_pow, bit_at_ones, bit_at_ones_above, bit_at-lt, bit_at-zero, bit_at_above, bit_at_and, bit_at_or, bit_at_set_same, bit_at_set_other, same_from_bits}
+use mathlib.Core.Bool.{or-true, or-false}
+use Rattle.b3_base.proofs.Bits.{one_max, bit_cases, bit_from_set, set_from_bit}
 use Rattle.stackmap.specs.Registers.{has}
 
--- a number below 2
-bit_is : (x : ℕ) → x < 2 → (x ≡ 0) ⊎ (x ≡ 1)
-bit_is x h = elim (cases_eq x 0) [ inl e ↦ inl e | inr ne ↦ inr (omega arith) ]
-
-max_of_bits : (x y : ℕ) → x < 2 → y < 2 → nat_eq (max x y) 1 ≡ (nat_eq x 1 || nat_eq y 1)
-max_of_bits x y hx hy =
-    elim (bit_is x hx) [
-      | inl ex ↦ elim (bit_is y hy) [ inl ey ↦ rw (ex, ey) | inr ey ↦ rw (ex, ey) ]
-      | inr ex ↦ elim (bit_is y hy) [ inl ey ↦ rw (ex, ey) | inr ey ↦ rw (ex, ey) ]
-    ]
-
 pub has-or : (a b r : ℕ) → has (bit_or a b) r ≡ (has a r || has b r)
-has-or a b r = rw (bit_at_or a b r) (max_of_bits _ _ (bit_at-lt a r) (bit_at-lt b r))
+has-or a b r = rw (bit_at_or a b r) (one_max _ _ (bit_at-lt a r) (bit_at-lt b r))
 
 nat_eq-refl : (k : ℕ) → nat_eq k k ≡ true
 nat_eq-refl k = eq-eqb k k refl
@@ -29,17 +20,9 @@ nat_eq-other k q ne = grind arith
 pub has-with : (set r q : ℕ) → r < 32 → has (bit_or set (1 * 2 ^ r % 4294967296)) q ≡ (has set q || nat_eq q r)
 has-with set r q within =
     elim (cases_eq q r) [
-      | inl e ↦ rw (e, bit_at_set_same w32 set r within, nat_eq-refl r) (or_true (has set r))
-      | inr ne ↦ rw (bit_at_set_other w32 set r within q ne, nat_eq-other r q ne) (or_false (has set q))
+      | inl e ↦ rw (e, bit_at_set_same w32 set r within, nat_eq-refl r) (sym (or-true (has set r)))
+      | inr ne ↦ rw (bit_at_set_other w32 set r within q ne, nat_eq-other r q ne) (sym (or-false (has set q)))
     ]
-  where
-    or_true : (b : Bool) → true ≡ (b || true)
-    or_true true = refl
-    or_true false = refl
-
-    or_false : (b : Bool) → b ≡ (b || false)
-    or_false true = refl
-    or_false false = refl
 
 -- a set of 32 bits has no further member
 pub has_none_above : (set r : ℕ) → set < 2 ^ 32 → 32 ≤ r → has set r ≡ false
@@ -65,31 +48,15 @@ and_from_disjoint a b apart =
     same_from_bits _ 0 (λ r. bit_at_and a b r ∙ zero_of _ _ (bit_at-lt a r) (bit_at-lt b r) (apart r) ∙ sym (bit_at-zero r))
   where
     zero_of : (x y : ℕ) → x < 2 → y < 2 → (nat_eq x 1 ≡ true → nat_eq y 1 ≡ false) → min x y ≡ 0
-    zero_of x y hx hy h = elim (bit_is x hx) [
+    zero_of x y hx hy h = elim (bit_cases x hx) [
       | inl ex ↦ omega arith
-      | inr ex ↦ elim (bit_is y hy) [ inl ey ↦ omega arith | inr ey ↦ absurd (clash x y ex ey h) ]
+      | inr ex ↦ elim (bit_cases y hy) [ inl ey ↦ omega arith | inr ey ↦ absurd (clash x y ex ey h) ]
     ]
       where
         clash : (x y : ℕ) → x ≡ 1 → y ≡ 1 → (nat_eq x 1 ≡ true → nat_eq y 1 ≡ false) → ⊥
         clash x y ex ey h = let k : nat_eq y 1 ≡ false = h (eq-eqb x 1 ex) in let k2 : nat_eq y 1 ≡ true = eq-eqb y 1 ey in cc
 
 -- ---- the set of the registers below a number, one more at a time
-
-bit_from_set : (n k : ℕ) → IsBitSet n k → bit_at n k ≡ 1
-bit_from_set n k set =
-    elim (bit_is (bit_at n k) (bit_at-lt n k)) [
-      | inl e ↦ absurd (set (and_pow n k ∙ rw e (zero_mul (2 ^ k))))
-      | inr e ↦ e
-    ]
-  where
-    zero_mul : (m : ℕ) → 0 * m ≡ 0
-    zero_mul m = omega arith
-
-set_from_bit : (n k : ℕ) → bit_at n k ≡ 1 → IsBitSet n k
-set_from_bit n k e none = positive (2 ^ k) (pow_pos k) (sym (one_mul (2 ^ k)) ∙ sym (rw e at (and_pow n k)) ∙ none)
-  where
-    one_mul : (m : ℕ) → 1 * m ≡ m
-    one_mul m = omega arith
 
     positive : (m : ℕ) → 0 < m → m ≡ 0 → ⊥
     positive m h e = omega arith
@@ -107,7 +74,7 @@ below_more set next r is adds = same_from_bits next (2 ^ (r + 1) - 1) bit
     ]))
 
     none : (q : ℕ) → r + 1 ≤ q → bit_at next q ≡ 0
-    none q above = elim (bit_is (bit_at next q) (bit_at-lt next q)) [
+    none q above = elim (bit_cases (bit_at next q) (bit_at-lt next q)) [
       | inl e ↦ e
       | inr e ↦ elim ((adds q).0 (set_from_bit next q e)) [
         | inl was ↦ absurd (let h : 0 ≡ 1 = sym (bit_at_ones_above r q (omega arith)) ∙ sym (old q) ∙ bit_from_set set q was in cc)
