@@ -1,11 +1,16 @@
 //! Asks the rows of data/ of the words of instructions, of what they leave, and of objects.
 #![tactic(auto)]
 
+mod bytes;
+mod objects;
 mod steps;
+mod tables;
 mod words;
 
+use objects::Objects;
 use std::test::Fail;
 use steps::Machine;
+use tables::Sections;
 use tests_rows::ask_file;
 use words::Words;
 
@@ -14,5 +19,7 @@ fn main(rt: HostRuntime) -> Result<(), Fail> {
     ask_file(&rt, "other_words.txt", &mut Words)?;
     ask_file(&rt, "steps.txt", &mut Machine::new(rt.alloc()))?;
     ask_file(&rt, "memory_and_branches.txt", &mut Machine::new(rt.alloc()))?;
+    ask_file(&rt, "tables.txt", &mut Sections::open(&rt)?)?;
+    ask_file(&rt, "objects.txt", &mut Objects::open(&rt)?)?;
     Ok(())
 }
