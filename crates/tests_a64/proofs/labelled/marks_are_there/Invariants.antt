@@ -1,0 +1,6 @@
+use Rattle.tests_a64.proofs.Checking.{AreThereBefore}
+use Rattle.a64_layout.proofs.Putting.{mark_at}
+use Rattle.tests_a64.proofs.labelled.marks_are_there.Given as goal
+
+abbrev pub invariant-loop-mark : goal.invariant-loop-mark
+invariant-loop-mark l = AreThereBefore l.code mark_at l.marks l.mark
