@@ -25,7 +25,6 @@ of_stackmaps P a b c d rule.RegisterDemand within = d
 of_stackmaps P a b c d _ within = absurd (let low = within.0 in let high = within.1 in omega (arith, low, high))
 
 module _ (keeps : Rule → Type 0) where
-
   -- with the rule on sizes, the last
   pub still_least : (r : Rule) → IsLeastBroken 15 18 keeps (Some r) → IsLeastBroken 15 19 keeps (Some r)
   still_least r least =

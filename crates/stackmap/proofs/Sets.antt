@@ -58,9 +58,6 @@ and_from_disjoint a b apart =
 
 -- ---- the set of the registers below a number, one more at a time
 
-    positive : (m : ℕ) → 0 < m → m ≡ 0 → ⊥
-    positive m h e = omega arith
-
 pub below_more : (set next r : ℕ) → set ≡ 2 ^ r - 1 → ((q : ℕ) → IsBitSet next q ↔ (IsBitSet set q ⊎ (q ≡ r))) → next ≡ 2 ^ (r + 1) - 1
 below_more set next r is adds = same_from_bits next (2 ^ (r + 1) - 1) bit
   where
