@@ -229,7 +229,7 @@ value_length : (v : Value) → IsListedValue v → length (value_text v) ≤ 518
 value_length v h =
     let a : length (joined (item_texts v)) ≤ 476 + 38 * length v.children + 22 * case_count v.body = omega (arith, joined_length (item_texts v), items_length v h) in
     let b = parts_length (type_text v.ty) (decimal v.id) (kind_text v.kind) (joined (item_texts v)) (476 + 38 * length v.children + 22 * case_count v.body)
-        (type_length v.ty) (ten v.id h.id) (kind_length v.kind) a in
+    (type_length v.ty) (ten v.id h.id) (kind_length v.kind) a in
     omega (arith, b)
 
 -- ---- rows

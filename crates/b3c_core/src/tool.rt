@@ -93,15 +93,21 @@ pub fn run_tool<S: Source, T: Source, K: Sink, E: Sink>(
         → (Rose (K.faults out.old) (K.faults out.new) → ⊥) → (result ≡ 0) ⊎ (result ≡ 9) }
 
     // What has come about, the line on the error stream, and the order of reading.
-    ensures ended {
-        let call : Call = record {
-            words = words.now; left = S.left input.old; left' = S.left input.new;
-            input_faults = S.faults input.old; input_faults' = S.faults input.new;
-            trial_left = T.left trial.old; trial_left' = T.left trial.new;
-            trial_faults = T.faults trial.old; trial_faults' = T.faults trial.new;
-            held = K.held out.old; held' = K.held out.new;
-            output_faults = K.faults out.old; output_faults' = K.faults out.new;
-        } in
+    ensures ended { let call : Call = record {
+      words = words.now;
+      left = S.left input.old;
+      left' = S.left input.new;
+      input_faults = S.faults input.old;
+      input_faults' = S.faults input.new;
+      trial_left = T.left trial.old;
+      trial_left' = T.left trial.new;
+      trial_faults = T.faults trial.old;
+      trial_faults' = T.faults trial.new;
+      held = K.held out.old;
+      held' = K.held out.new;
+      output_faults = K.faults out.old;
+      output_faults' = K.faults out.new;
+    } in
         (ending : Ending) × (result ≡ status_of ending) × HasEnded call ending
         × TakesLine (line_of ending) (E.held err.old) (E.held err.new) (E.faults err.old) (E.faults err.new)
         × LeavesTrial (trial.new ≡ trial.old) call ending }
@@ -130,25 +136,37 @@ fn run_words<S: Source, T: Source, K: Sink>(
     ensures within { (command : Command) → spec.command_of words.now ≡ Some command → result ≢ Ending.TooLong → Takes (λ n. n ≤ spec.limit_of command) (S.left input.old) (S.left input.new) }
     ensures trial_within { result ≢ Ending.TrialTooLong → Takes (λ n. n ≤ TEXT_LIMIT) (T.left trial.old) (T.left trial.new) }
     ensures nothing_written { result ≢ Ending.Written → result ≢ Ending.WriteFault → out.new ≡ out.old }
-    ensures ended {
-        let call : Call = record {
-            words = words.now; left = S.left input.old; left' = S.left input.new;
-            input_faults = S.faults input.old; input_faults' = S.faults input.new;
-            trial_left = T.left trial.old; trial_left' = T.left trial.new;
-            trial_faults = T.faults trial.old; trial_faults' = T.faults trial.new;
-            held = K.held out.old; held' = K.held out.new;
-            output_faults = K.faults out.old; output_faults' = K.faults out.new;
-        } in
+    ensures ended { let call : Call = record {
+      words = words.now;
+      left = S.left input.old;
+      left' = S.left input.new;
+      input_faults = S.faults input.old;
+      input_faults' = S.faults input.new;
+      trial_left = T.left trial.old;
+      trial_left' = T.left trial.new;
+      trial_faults = T.faults trial.old;
+      trial_faults' = T.faults trial.new;
+      held = K.held out.old;
+      held' = K.held out.new;
+      output_faults = K.faults out.old;
+      output_faults' = K.faults out.new;
+    } in
         HasEnded call result }
-    ensures order {
-        let call : Call = record {
-            words = words.now; left = S.left input.old; left' = S.left input.new;
-            input_faults = S.faults input.old; input_faults' = S.faults input.new;
-            trial_left = T.left trial.old; trial_left' = T.left trial.new;
-            trial_faults = T.faults trial.old; trial_faults' = T.faults trial.new;
-            held = K.held out.old; held' = K.held out.new;
-            output_faults = K.faults out.old; output_faults' = K.faults out.new;
-        } in
+    ensures order { let call : Call = record {
+      words = words.now;
+      left = S.left input.old;
+      left' = S.left input.new;
+      input_faults = S.faults input.old;
+      input_faults' = S.faults input.new;
+      trial_left = T.left trial.old;
+      trial_left' = T.left trial.new;
+      trial_faults = T.faults trial.old;
+      trial_faults' = T.faults trial.new;
+      held = K.held out.old;
+      held' = K.held out.new;
+      output_faults = K.faults out.old;
+      output_faults' = K.faults out.new;
+    } in
         LeavesTrial (trial.new ≡ trial.old) call result }
 {
     let command = match command_of(words) {

@@ -1,5 +1,6 @@
 //! The words of labelled code.
 
+use crate::labelled::text_of;
 use a64_inst::{Cond, Inst, Item, Labelled};
 use a64_layout::Text;
 use b3_base::{NoMemory, Width};
@@ -7,8 +8,6 @@ use std::alloc::Global;
 use std::fmt::Write;
 use std::test::Fail;
 use tests_rows::Teller;
-
-use crate::labelled::text_of;
 
 /// The word of NOP.
 const NOP: u32 = 0xD503_201F;

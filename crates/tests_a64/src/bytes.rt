@@ -21,7 +21,9 @@ pub(crate) fn read_hex(rt: &HostRuntime, name: &str) -> Result<Vec<u8>, Fail> {
 /// Bytes with what a row says of them: `byte 96 is 2, byte 104 is 48`, or `first 63`.
 pub(crate) fn damaged(alloc: Global, bytes: &[u8], damage: &str) -> Result<Vec<u8>, Fail> {
     if let Some(count) = damage.strip_prefix("first ") {
-        let first = bytes.get(..count.parse::<usize>()?).ok_or("too many bytes")?;
+        let first = bytes
+            .get(..count.parse::<usize>()?)
+            .ok_or("too many bytes")?;
         return Ok(first.to_vec(alloc)?);
     }
     let mut copy = bytes.to_vec(alloc)?;

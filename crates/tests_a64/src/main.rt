@@ -21,7 +21,11 @@ fn main(rt: HostRuntime) -> Result<(), Fail> {
     ask_file(&rt, "words.txt", &mut Words)?;
     ask_file(&rt, "other_words.txt", &mut Words)?;
     ask_file(&rt, "steps.txt", &mut Machine::new(rt.alloc()))?;
-    ask_file(&rt, "memory_and_branches.txt", &mut Machine::new(rt.alloc()))?;
+    ask_file(
+        &rt,
+        "memory_and_branches.txt",
+        &mut Machine::new(rt.alloc()),
+    )?;
     ask_file(&rt, "branches.txt", &mut Branches)?;
     ask_file(&rt, "tables.txt", &mut Sections::open(&rt)?)?;
     ask_file(&rt, "objects.txt", &mut Objects::open(&rt)?)?;

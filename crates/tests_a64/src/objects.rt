@@ -2,14 +2,13 @@
 
 ghost use Rattle.elf_obj.specs.Good.{IsGood};
 
+use crate::bytes::{damaged, read_hex};
 use elf_obj::{Object, read, write};
 use std::alloc::Global;
 use std::fmt::Write;
 use std::str;
 use std::test::Fail;
 use tests_rows::Teller;
-
-use crate::bytes::{damaged, read_hex};
 
 /// Tells what the damaged file of an object holds, or its first fault.
 #[derive(Drop)]
@@ -45,7 +44,11 @@ fn object_told(alloc: Global, file: &[u8]) -> Result<String, Fail> {
         Ok(object) => {
             let mut text = shown(alloc, &object)?;
             let again = write(alloc, &object)?;
-            let said = if again.as_slice() == file { "so" } else { "otherwise" };
+            let said = if again.as_slice() == file {
+                "so"
+            } else {
+                "otherwise"
+            };
             text.push_str(", written ")?;
             text.push_str(said)?;
             Ok(text)

@@ -1,5 +1,6 @@
 //! What a step of a processor leaves.
 
+use crate::words::word_of;
 use a64_inst::{Flags, Outcome, State, step};
 use a64_word::decode;
 use b3_base::Memory;
@@ -7,8 +8,6 @@ use std::alloc::Global;
 use std::fmt::Write;
 use std::test::Fail;
 use tests_rows::Teller;
-
-use crate::words::word_of;
 
 /// A processor and its memory.
 #[derive(Drop)]
@@ -61,8 +60,16 @@ impl Teller for Machine {
     fn told(&mut self, alloc: Global, asked: &str) -> Result<String, Fail> {
         let mut words = asked.split_whitespace();
         match words.next().unwrap_or("") {
-            "memory" => self.map(alloc, words.next().unwrap_or(""), words.next().unwrap_or("")),
-            "read" => self.read(alloc, words.next().unwrap_or(""), words.next().unwrap_or("")),
+            "memory" => self.map(
+                alloc,
+                words.next().unwrap_or(""),
+                words.next().unwrap_or(""),
+            ),
+            "read" => self.read(
+                alloc,
+                words.next().unwrap_or(""),
+                words.next().unwrap_or(""),
+            ),
             _ => {
                 if let Some((_, given)) = asked.split_once(" | ") {
                     self.state = given_state(given)?;

@@ -1,12 +1,11 @@
 //! What sections of frames and of exits hold.
 
+use crate::bytes::{damaged, read_hex};
 use b3_base::Range;
 use exit_table::{TableFault, Tables, read};
 use std::alloc::Global;
 use std::test::Fail;
 use tests_rows::Teller;
-
-use crate::bytes::{damaged, read_hex};
 
 /// Tells how many frames and sites damaged sections have, or their first fault.
 #[derive(Drop)]

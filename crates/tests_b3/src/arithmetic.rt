@@ -19,8 +19,16 @@ impl Teller for Arithmetic {
             "sign_extended" => extended(decimal(first)?, hex(second)?)?,
             "high_signed" => mul_high(true, hex(first)?, hex(second)?),
             "high_unsigned" => mul_high(false, hex(first)?, hex(second)?),
-            "rotated_32" => rotate_right(Width::W32, low(Width::W32, hex(first)?), decimal(second)?),
-            "rotated_64" => rotate_right(Width::W64, low(Width::W64, hex(first)?), decimal(second)?),
+            "rotated_32" => rotate_right(
+                Width::W32,
+                low(Width::W32, hex(first)?),
+                decimal(second)?,
+            ),
+            "rotated_64" => rotate_right(
+                Width::W64,
+                low(Width::W64, hex(first)?),
+                decimal(second)?,
+            ),
             "zeros_32" => leading_zeros(Width::W32, low(Width::W32, hex(first)?)),
             "zeros_64" => leading_zeros(Width::W64, low(Width::W64, hex(first)?)),
             "mask_32" => return mask(alloc, Width::W32, hex(first)?),

@@ -42,7 +42,12 @@ fn counts(alloc: Global, half: u32) -> Result<String, Fail>
 }
 
 /// Puts an item so many times last into a chain.
-fn fill(chains: &mut Chains<Rc<u32>>, chain: ChainId, item: &Rc<u32>, count: u32) -> Result<(), Fail>
+fn fill(
+    chains: &mut Chains<Rc<u32>>,
+    chain: ChainId,
+    item: &Rc<u32>,
+    count: u32,
+) -> Result<(), Fail>
     requires room { count ≤ chains.old.spare }
     requires chain { chain < length chains.old.lists }
     ensures spare { OnOk result (chains.new.spare + count ≡ chains.old.spare) }

@@ -6,14 +6,13 @@ ghost use Rattle.b3_ir.specs.Types.{width_of};
 ghost use Rattle.b3_meaning.specs.Foldable.{IsFoldable};
 ghost use Rattle.b3_meaning.specs.Opcodes.{AreWordsOf};
 
+use crate::arithmetic::hex;
 use b3_ir::{Kind, Opcode, Ty, allows_types};
 use b3_items::{read_kind, read_type};
 use b3_meaning::{Role, fold, role_of};
 use std::alloc::Global;
 use std::test::Fail;
 use tests_rows::Teller;
-
-use crate::arithmetic::hex;
 
 /// Tells the word of an opcode, as it is asked by its type, its kind, and the type and the word of each child.
 #[derive(Drop)]

@@ -23,7 +23,11 @@ impl Teller for Sets {
         if bits > MOST_BITS {
             return Err(Fail::from("too many bits"));
         }
-        let said = if agree(alloc, bits, seed)? { "agree" } else { "differ" };
+        let said = if agree(alloc, bits, seed)? {
+            "agree"
+        } else {
+            "differ"
+        };
         Ok(String::from_str(alloc, said)?)
     }
 }
@@ -60,11 +64,13 @@ fn agree(alloc: Global, bits: usize, seed: u64) -> Result<bool, NoMemory>
     let again = rows.union_into(2, 1);
     rows.take_away(0, 1);
     let members = rows.members(alloc, 2)?;
-    Ok(grew == (first > 0)
-        && !again
-        && !rows.meets(0, 1)
-        && are_counted(&rows, seed, bits)
-        && are_members(members.as_slice(), seed, bits))
+    Ok(
+        grew == (first > 0)
+            && !again
+            && !rows.meets(0, 1)
+            && are_counted(&rows, seed, bits)
+            && are_members(members.as_slice(), seed, bits),
+    )
 }
 
 /// Whether row 0 is the difference and row 2 the union, bit by bit and in number.

@@ -8,9 +8,7 @@ use b3_ir::{Body, Reg, RegSet, Value};
 use b3_items::read_type;
 use b3_rows::{Row, read_row};
 use b3_rules::{cases_keep, site_breach};
-use stackmap::{
-    Place, Places, Rep, Site, SiteKind, obeys, registers_for, result_register,
-};
+use stackmap::{Place, Places, Rep, Site, SiteKind, obeys, registers_for, result_register};
 use std::alloc::Global;
 use std::fmt::Write;
 use std::test::Fail;
@@ -45,7 +43,11 @@ impl Teller for Obeying {
         let (value, site) = asked.split_once(" | ").ok_or("no site")?;
         let value = value_of(alloc, value)?;
         let site = site_of(alloc, site)?;
-        let said = if obeys(&value, &site) { "obeys" } else { "disobeys" };
+        let said = if obeys(&value, &site) {
+            "obeys"
+        } else {
+            "disobeys"
+        };
         Ok(String::from_str(alloc, said)?)
     }
 }
@@ -59,7 +61,11 @@ impl Teller for Cases {
         let (ty, value) = asked.split_once(' ').ok_or("no type")?;
         let ty = read_type(ty.as_bytes()).ok_or("no such type")?;
         let value = value_of(alloc, value)?;
-        let said = if cases_keep(alloc, ty, &value.body)? { "kept" } else { "broken" };
+        let said = if cases_keep(alloc, ty, &value.body)? {
+            "kept"
+        } else {
+            "broken"
+        };
         Ok(String::from_str(alloc, said)?)
     }
 }
