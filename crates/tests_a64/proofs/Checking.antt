@@ -1,5 +1,5 @@
 -- Items that a list of their labels' positions shows to be well labelled.
-use Rattle.std.proofs.Common.{◌≡◌, ℕ, zero, suc, ◌*◌, ◌^◌, ◌<◌, ◌≤◌, ⊎_elim, Bool, true, false, Option, Some, None, List, length, get_or, refl, sym, ap, ◌∙◌, subst, arith}
+use Rattle.std.proofs.Common.{◌≡◌, ℕ, zero, suc, ◌+◌, ◌*◌, ◌^◌, ◌<◌, ◌≤◌, ⊎_elim, Bool, true, false, Option, Some, None, List, length, get_or, refl, sym, ap, ◌∙◌, subst, arith}
 use Rattle.std.specs.Prelude.{slice_get, slice_index}
 use Rattle.std.proofs.lemmas.Bool.{cases_lt}
 use Rattle.std.proofs.lemmas.Option.{slice_get_within, get_or_from_slice_get}
@@ -13,8 +13,27 @@ use Rattle.a64_inst.specs.declared.item.Item.{Item}
 use Rattle.a64_inst.specs.declared.item.Item.TheVariants.{Plain, Jump, If, IfZero, IfBit, Label, Mark}
 use Rattle.a64_layout.specs.declared.branch.Test.{Test}
 use Rattle.a64_layout.specs.declared.branch.Test.TheVariants.{Holds, Zero, Bit}
-use Rattle.a64_layout.proofs.Flags.{no_both}
-use Rattle.a64_layout.proofs.Least.{no_some as none_is_no_branch, one_branch, place-zero, place-suc}
+
+no_both : (a : Bool) → a ≡ true → a ≡ false → ⊥
+no_both a is not_so = let e : true ≡ false = sym is ∙ not_so in cc
+
+none_is_no_branch : (b : Test × ℕ) → branch_in None ≡ Some b → ⊥
+none_is_no_branch b is = cc
+
+abbrev the_branch : Option (Test × ℕ) → Test × ℕ → Test × ℕ
+the_branch (Some b) other = b
+the_branch None other = other
+
+one_branch : (o : Option (Test × ℕ)) (a b : Test × ℕ) → o ≡ Some a → o ≡ Some b → a ≡ b
+one_branch o a b is_a is_b = ap (λ p. the_branch p a) (sym is_a ∙ is_b)
+
+place-zero : (items : List Item) (long : Set) → place items long 0 ≡ 0
+unfolding place
+place-zero items long = refl
+
+place-suc : (items : List Item) (long : Set) (k : ℕ) → place items long (suc k) ≡ place items long k + size_in (long k) (slice_get items k)
+unfolding place
+place-suc items long k = refl
 
 size_most : (long : Bool) (item : Item) → size_of long item ≤ 2
 size_most long (Plain inst) = omega arith
@@ -114,3 +133,10 @@ AreGoodBefore items labels marks n = (k : ℕ) (item : Item) → k < n → slice
 -- numbered items stand at these positions
 abbrev pub AreThereBefore : List Item → (ℕ → Item) → List ℕ → ℕ → Type 0
 AreThereBefore items kind positions n = (number : ℕ) → number < n → slice_get items (slice_index positions number) ≡ Some (kind number)
+
+-- items with their numbers
+abbrev pub label_at : ℕ → Item
+label_at label = Label label
+
+abbrev pub mark_at : ℕ → Item
+mark_at mark = Mark mark

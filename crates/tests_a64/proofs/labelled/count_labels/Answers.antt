@@ -1,6 +1,6 @@
 use Rattle.std.proofs.Common.{◌∙◌, sym, arith}
 use Rattle.a64_layout.specs.Text.{is_any_label}
-use Rattle.a64_layout.proofs.Counting.{one_counted, none_counted}
+use Rattle.tests_a64.proofs.Counting.{one_counted, none_counted}
 use Rattle.tests_a64.proofs.labelled.count_labels.Goals as goal
 use Rattle.tests_a64.proofs.labelled.count_labels.Goals.{then-is_label, else-is_label}
 

@@ -1,5 +1,4 @@
-use Rattle.tests_a64.proofs.Checking.{AreThereBefore}
-use Rattle.a64_layout.proofs.Putting.{label_at}
+use Rattle.tests_a64.proofs.Checking.{AreThereBefore, label_at}
 use Rattle.tests_a64.proofs.labelled.labels_are_there.Given as goal
 
 abbrev pub invariant-loop-label : goal.invariant-loop-label

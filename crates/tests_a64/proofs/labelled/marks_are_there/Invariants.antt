@@ -1,5 +1,4 @@
-use Rattle.tests_a64.proofs.Checking.{AreThereBefore}
-use Rattle.a64_layout.proofs.Putting.{mark_at}
+use Rattle.tests_a64.proofs.Checking.{AreThereBefore, mark_at}
 use Rattle.tests_a64.proofs.labelled.marks_are_there.Given as goal
 
 abbrev pub invariant-loop-mark : goal.invariant-loop-mark
