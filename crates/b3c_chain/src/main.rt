@@ -14,13 +14,14 @@ use std::fs;
 use std::rt::Files;
 
 /// The stored texts, by the names of their files.
-const TEXTS: [&str; 6] = [
+const TEXTS: [&str; 7] = [
     "increment.b3",
     "below_five.b3",
     "swapping_loop.b3",
     "loads_25.b3",
     "loads_26.b3",
     "array_sum.b3",
+    "sites.b3",
 ];
 
 /// What is found of the text of a file.
