@@ -4,7 +4,7 @@ use Rattle.std.specs.Prelude.{is_some, nat_lt, if◌then◌else◌}
 use Rattle.std.proofs.lemmas.Bool.{ne_eqb}
 use Rattle.b3_base.specs.Arithmetic.{low}
 use Rattle.b3_base.specs.Memory.{is_mapped, read_word, write_word}
-use Rattle.b3_base.specs.Observed.{Memory}
+use Rattle.b3_base.specs.Observed.{Memory, Start}
 use Rattle.b3_base.specs.declared.word.Width.{Width}
 use Rattle.b3_base.specs.declared.word.Width.TheVariants.{W32, W64}
 use Rattle.b3_base.specs.declared.observation.Status.TheVariants.{Trapped}
@@ -40,7 +40,7 @@ use Rattle.a64_code.specs.Accesses.{access_kind}
 use Rattle.a64_emit.specs.Code.{access_inst, arg_at, fetch, fetch_address, fetch_stored, inst_code, load_code, load_inst, put_result, result_reg, source_of, store_code, store_inst}
 use Rattle.a64_code.specs.Computing.{reg_of}
 use Rattle.a64_emit.specs.Related.{IsRelated}
-use Rattle.a64_emit.specs.Setting.{Setting, row}
+use Rattle.a64_emit.specs.Setting.{Setting, row, IsSet}
 use Rattle.a64_code.specs.declared.source.Source.{Source}
 use Rattle.a64_code.specs.declared.source.Source.TheVariants.{InReg, Constant}
 use Rattle.a64_emit.proofs.AccessesDone.{Fails, Touches, Traps, comes_to, does_there, gap_there, stored_mapped, stored_related}
@@ -54,6 +54,7 @@ use Rattle.a64_code.proofs.Ops.{Gives, read_is}
 use Rattle.a64_emit.proofs.Storing.{with_home}
 use Rattle.a64_emit.proofs.Straight.{Does, DoesOne, does_both, does_one}
 use Rattle.a64_emit.proofs.Words.{put_other, with_memory, with_reg}
+use Rattle.air_frame.specs.Frames.{IsFrameOf}
 
 -- ---- what a load gives
 

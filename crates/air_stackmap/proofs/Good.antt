@@ -7,8 +7,8 @@ use Rattle.b3_ir.specs.declared.value.Constraint.TheVariants.{SomeEarlyRegister}
 use Rattle.b3_ir.specs.declared.value.Reg.{Reg as Register}
 use Rattle.b3_ir.specs.declared.value.Stackmap.{Stackmap}
 use Rattle.stackmap.specs.Placing.{register_for, result_register}
-use Rattle.stackmap.specs.Registers.{constraints_of, has, has_result, is_late}
-use Rattle.stackmap.specs.Rules.{IsAllocatable, NamesRegisters}
+use Rattle.stackmap.specs.Registers.{constraints_of, has, has_result, is_late, stackmap_in}
+use Rattle.stackmap.specs.Rules.{IsAllocatable, NamesRegisters, IsPlaceable}
 use Rattle.stackmap.proofs.PlacedApart.{places_obey}
 use Rattle.air_ir.specs.Expressed.{IsOpOf, result_in, result_role}
 use Rattle.air_ir.specs.Forms.{AllFit, HasOperands}
@@ -26,6 +26,7 @@ use Rattle.air_stackmap.specs.SiteCode.{arg_by, arg_of, changed, changed_by, chi
 use Rattle.air_stackmap.specs.declared.child.Child.{Child}
 use Rattle.air_stackmap.proofs.Expressed.{parts_fit, place_word}
 use Rattle.air_stackmap.proofs.Listing.{clobbered_is, each_in, each_report}
+use Rattle.b3_ir.specs.declared.value.Value.{Value}
 
 abbrev pub Named : AirProc → Operand → Type 0
 Named q o = NamesOwn q o.role o.arg
