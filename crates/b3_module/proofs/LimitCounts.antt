@@ -1,13 +1,21 @@
--- What the limits say of the values, the children and cases, the slots and the blocks of a module.
-use Rattle.std.proofs.Common.{◌≡◌, ℕ, ◌+◌, ◌≤◌, List, [], ◌∷◌, ◌++◌, length, map, arith}
+-- What the limits say of the values, the children and cases, the slots and the blocks of a module; and how many
+-- successors a value has.
+use Rattle.std.proofs.Common.{◌≡◌, ℕ, ◌+◌, ◌≤◌, List, [], ◌∷◌, ◌++◌, length, map, ap, arith}
 use Rattle.std.specs.Prelude.{All, slice_index_or, sum_by}
 use Rattle.std.specs.List.{flat_map}
 use Rattle.std.proofs.lemmas.Option.{slice_get-get_or}
 use Rattle.std.proofs.lemmas.List.Sums.{sum_by-append, sum_by-cons}
 use Rattle.b3_ir.specs.declared.procedure.SlotLine.{SlotLine}
+use Rattle.b3_ir.specs.declared.value.Body.{Body}
+use Rattle.b3_ir.specs.declared.value.Body.TheVariants.{Targets, Cases}
 use Rattle.b3_ir.specs.declared.value.Value.{Value}
 use Rattle.b3_ir.specs.Procedure.{Block, Procedure, total}
-use Rattle.b3_module.specs.Limits.{Header, Heading, KeepsLimits, Placed, operands, part_of_slot, part_of_value, parts_of, parts_of_block, parts_of_slots, parts_of_values, placed}
+use Rattle.b3_module.specs.Canonical.{Matches}
+use Rattle.b3_module.specs.Limits.{Header, Heading, KeepsLimits, Placed, cases_of, operands, part_of_slot, part_of_value, parts_of, parts_of_block, parts_of_slots, parts_of_values, placed}
+use Rattle.b3_module.specs.TextModules.{IsTextValue, targets_of}
+use Rattle.b3_module.specs.Texts.{following}
+use Rattle.b3_module.specs.declared.place.Following.{Following}
+use Rattle.b3_module.specs.declared.place.Following.TheVariants.{Nothing, Bare, One, Two, Many}
 use Rattle.b3_module.specs.declared.fault.LimitName.TheVariants as limits
 use Rattle.b3_module.proofs.LimitSums.{count_of, ones, sums_flat, within}
 
@@ -97,3 +105,20 @@ few_blocks m keeps k d h =
     let p = slice_index_or m k d in
     let most = within limits.ProcedureBlocks (parts_of p) (λ line past. keeps limits.ProcedureBlocks line (k, p, slice_get-get_or m k d h, past)) in
     omega (arith, blocks_in p)
+
+-- ---- successors
+
+few_of : (f : Following) (body : Body) → Matches f body → length (targets_of body) ≤ cases_of body + 2
+few_of Nothing (Targets targets) h = let none : [] ≡ targets = let e = h.0 in cc in omega (arith, ap length none)
+few_of Bare (Targets targets) h = let none : [] ≡ targets = let e = h.0 in cc in omega (arith, ap length none)
+few_of One (Targets (target ∷ [])) h = omega arith
+few_of Two (Targets (then_block ∷ else_block ∷ [])) h = omega arith
+few_of Many (Cases words targets) h = omega arith
+few_of Nothing (Cases words targets) h = let e = h.1 in absurd cc
+few_of Bare (Cases words targets) h = let e = h.1 in absurd cc
+few_of Nothing body h = omega arith
+few_of Bare body h = omega arith
+few_of f body h = absurd h
+
+pub few_successors : (v : Value) → IsTextValue v → length (targets_of v.body) ≤ cases_of v.body + 2
+few_successors v h = few_of (following v.kind.opcode) v.body h.matched

@@ -1,13 +1,14 @@
 //! Laws of texts.
 
-ghost use Rattle.std.specs.Prelude.{◌≡◌, ◌≤◌, ℕ, List, All, length, sum_by};
+ghost use Rattle.std.specs.Prelude.{◌≡◌, ◌+◌, ◌≤◌, ℕ, List, All, length, sum_by};
 ghost use Rattle.std.specs.List.{AllByRecursion};
+ghost use Rattle.b3_ir.specs.declared.value.Value.{Value};
 ghost use Rattle.b3_ir.specs.Names.{IsName};
 ghost use Rattle.b3_ir.specs.Procedure.{Block, Procedure, total};
 ghost use Rattle.b3_rows.specs.Ranges.{IsGoodRow};
 ghost use Rattle.b3_module.specs.Canonical.{AreRowed, RowsSpell, canonical_rows, lined};
-ghost use Rattle.b3_module.specs.Limits.{KeepsLimits, operands};
-ghost use Rattle.b3_module.specs.TextModules.{IsTextModule};
+ghost use Rattle.b3_module.specs.Limits.{KeepsLimits, cases_of, operands};
+ghost use Rattle.b3_module.specs.TextModules.{IsTextModule, IsTextValue, targets_of};
 ghost use Rattle.b3_module.specs.Texts.{Spells};
 
 use b3_rows::rows_are_in_range;
@@ -50,4 +51,10 @@ pub fn limits_are_counted()
         → sum_by (λ (p : Procedure). sum_by (λ (b : Block). sum_by operands b.values) p.blocks) m ≤ 262144 }
     ensures slots { (m : List Procedure) → KeepsLimits m → All (λ (p : Procedure). length p.slots ≤ 4096) m }
     ensures blocks { (m : List Procedure) → KeepsLimits m → All (λ (p : Procedure). length p.blocks ≤ 4096) m }
+{}
+
+/// Tells that a value of a text has at most two successors more than cases. It takes no memory.
+#[tactic(auto, using(crate::proofs::LimitCounts::few_successors))]
+pub fn successors_are_few()
+    ensures { (v : Value) → IsTextValue v → length (targets_of v.body) ≤ cases_of v.body + 2 }
 {}

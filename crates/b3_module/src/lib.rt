@@ -10,5 +10,8 @@ mod place;
 mod reading;
 
 pub use fault::{LimitName, TextFault};
-pub use laws::{limits_are_counted, lines_are_free, rows_spell, texts_are_listed, texts_are_named};
+pub use laws::{
+    limits_are_counted, lines_are_free, rows_spell, successors_are_few, texts_are_listed,
+    texts_are_named,
+};
 pub use reading::read;

@@ -1,5 +1,5 @@
 -- How long canonical text is.
-use Rattle.std.proofs.Common.{◌≡◌, ℕ, ◌+◌, ◌*◌, ◌^◌, ◌<◌, ◌≤◌, List, [], ◌∷◌, ◌++◌, length, map, ap, arith}
+use Rattle.std.proofs.Common.{◌≡◌, ℕ, ◌+◌, ◌*◌, ◌≤◌, List, [], ◌∷◌, ◌++◌, length, map, arith}
 use Rattle.std.specs.Prelude.{All, sum_by}
 use Rattle.std.specs.List.{AllByRecursion, flat_map}
 use Rattle.std.proofs.Math.ListN.{length-append}
@@ -16,12 +16,9 @@ use Rattle.b3_rows.specs.Written.{line_of_row}
 use Rattle.b3_rows.specs.declared.row.Row.{Row}
 use Rattle.b3_rows.specs.declared.row.Row.TheVariants as rows
 use Rattle.b3_written.specs.Lengths.{most_bytes}
-use Rattle.b3_module.specs.Canonical.{Matches, bare, bare_body, canonical_rows, row_of_slot, rows_of_block, rows_of_procedure, rows_of_value, successors_of}
-use Rattle.b3_module.specs.Limits.{KeepsLimits, cases_of, operands}
-use Rattle.b3_module.specs.TextModules.{IsTextBlock, IsTextModule, IsTextProcedure, IsTextValue}
-use Rattle.b3_module.specs.Texts.{following}
-use Rattle.b3_module.specs.declared.place.Following.{Following}
-use Rattle.b3_module.specs.declared.place.Following.TheVariants.{Nothing, Bare, One, Two, Many}
+use Rattle.b3_module.specs.Canonical.{bare, bare_body, canonical_rows, row_of_slot, rows_of_block, rows_of_procedure, rows_of_value, successors_of}
+use Rattle.b3_module.specs.Limits.{cases_of, operands}
+use Rattle.b3_module.specs.TextModules.{IsTextBlock, IsTextModule, IsTextProcedure, IsTextValue, targets_of}
 use Rattle.b3_print.specs.Printed.{canonical, line_text, text_of}
 
 abbrev pub AreShort : Type 0
@@ -46,43 +43,44 @@ text_length short (row ∷ text) good =
 
 -- ---- values
 
-no_more : (b c : ℕ) → b ≤ c → 0 + b ≤ c
-no_more b c h = omega arith
+-- a value of a text has at most two successors more than cases
+abbrev pub HasFewSuccessors : Value → Type 0
+HasFewSuccessors v = length (targets_of v.body) ≤ cases_of v.body + 2
+
+abbrev pub HaveFewSuccessors : Type 0
+HaveFewSuccessors = (v : Value) → IsTextValue v → HasFewSuccessors v
 
 -- cases and successors
-successors_room : (f : Following) (body : Body) → Matches f body → 22 * case_count (bare_body body) + sum_by room (successors_of body) ≤ 49 + 38 * cases_of body
+successors_room : (body : Body) → length (targets_of body) ≤ cases_of body + 2
+    → 22 * case_count (bare_body body) + sum_by room (successors_of body) ≤ 53 + 38 * cases_of body
 unfolding room
-successors_room f bodies.Plain h = omega arith
-successors_room f (bodies.Constant word) h = omega arith
-successors_room f (bodies.Argument r) h = omega arith
-successors_room f (bodies.Slot number) h = omega arith
-successors_room f (bodies.Offset bytes) h = omega arith
-successors_room f (bodies.Target phi) h = omega arith
-successors_room f (bodies.Map m) h = omega arith
-successors_room f (bodies.Targets []) h = omega arith
-successors_room f (bodies.Targets (target ∷ [])) h = omega arith
-successors_room f (bodies.Targets (then_block ∷ else_block ∷ [])) h = omega arith
-successors_room f (bodies.Targets (a ∷ b ∷ c ∷ more)) h = omega arith
-successors_room Nothing (bodies.Cases words targets) h = let e = h.1 in absurd cc
-successors_room Bare (bodies.Cases words targets) h = let e = h.1 in absurd cc
-successors_room One (bodies.Cases words targets) h = absurd h
-successors_room Two (bodies.Cases words targets) h = absurd h
-successors_room Many (bodies.Cases words targets) h = omega arith
+successors_room bodies.Plain h = omega arith
+successors_room (bodies.Constant word) h = omega arith
+successors_room (bodies.Argument r) h = omega arith
+successors_room (bodies.Slot number) h = omega arith
+successors_room (bodies.Offset bytes) h = omega arith
+successors_room (bodies.Target phi) h = omega arith
+successors_room (bodies.Map m) h = omega arith
+successors_room (bodies.Targets []) h = omega arith
+successors_room (bodies.Targets (target ∷ [])) h = omega arith
+successors_room (bodies.Targets (then_block ∷ else_block ∷ [])) h = omega arith
+successors_room (bodies.Targets (a ∷ b ∷ c ∷ more)) h = omega arith
+successors_room (bodies.Cases words targets) h = omega arith
 
-value_room : (v : Value) → IsTextValue v → sum_by room (rows_of_value v) ≤ 572 + 38 * operands v
-value_room v h =
+value_room : HaveFewSuccessors → (v : Value) → IsTextValue v → sum_by room (rows_of_value v) ≤ 576 + 38 * operands v
+value_room few v h =
     let first : room (rows.ValueRow (bare v)) ≡ 523 + 38 * length v.children + 22 * case_count (bare_body v.body) = unfold room in omega arith in
-    omega (arith, sum_by-cons room (rows.ValueRow (bare v)) (successors_of v.body), successors_room (following v.kind.opcode) v.body h.matched)
+    omega (arith, sum_by-cons room (rows.ValueRow (bare v)) (successors_of v.body), successors_room v.body (few v h))
 
-values_room : (vs : List Value) → AllByRecursion IsTextValue vs → sum_by room (flat_map rows_of_value vs) ≤ 572 * length vs + 38 * sum_by operands vs
-values_room [] h = omega arith
-values_room (v ∷ vs) h =
+values_room : HaveFewSuccessors → (vs : List Value) → AllByRecursion IsTextValue vs → sum_by room (flat_map rows_of_value vs) ≤ 576 * length vs + 38 * sum_by operands vs
+values_room few [] h = omega arith
+values_room few (v ∷ vs) h =
     omega (
       arith,
       sum_by-append room (rows_of_value v) (flat_map rows_of_value vs),
       sum_by-cons operands v vs,
-      value_room v h.0,
-      values_room vs h.1,
+      value_room few v h.0,
+      values_room few vs h.1,
     )
 
 -- ---- blocks
@@ -93,22 +91,22 @@ block_values b = length b.values
 abbrev block_operands : Block → ℕ
 block_operands b = sum_by operands b.values
 
-block_room : (b : Block) → IsTextBlock b → sum_by room (rows_of_block b) ≤ 15 + 572 * block_values b + 38 * block_operands b
-block_room b h =
+block_room : HaveFewSuccessors → (b : Block) → IsTextBlock b → sum_by room (rows_of_block b) ≤ 15 + 576 * block_values b + 38 * block_operands b
+block_room few b h =
     let first : room (rows.Heading b.number) ≡ 15 = unfold room in omega arith in
-    omega (arith, sum_by-cons room (rows.Heading b.number) (flat_map rows_of_value b.values), values_room b.values h.values)
+    omega (arith, sum_by-cons room (rows.Heading b.number) (flat_map rows_of_value b.values), values_room few b.values h.values)
 
-blocks_room : (bs : List Block) → AllByRecursion IsTextBlock bs
-    → sum_by room (flat_map rows_of_block bs) ≤ 15 * length bs + 572 * sum_by block_values bs + 38 * sum_by block_operands bs
-blocks_room [] h = omega arith
-blocks_room (b ∷ bs) h =
+blocks_room : HaveFewSuccessors → (bs : List Block) → AllByRecursion IsTextBlock bs
+    → sum_by room (flat_map rows_of_block bs) ≤ 15 * length bs + 576 * sum_by block_values bs + 38 * sum_by block_operands bs
+blocks_room few [] h = omega arith
+blocks_room few (b ∷ bs) h =
     omega (
       arith,
       sum_by-append room (rows_of_block b) (flat_map rows_of_block bs),
       sum_by-cons block_values b bs,
       sum_by-cons block_operands b bs,
-      block_room b h.0,
-      blocks_room bs h.1,
+      block_room few b h.0,
+      blocks_room few bs h.1,
     )
 
 -- ---- procedures
@@ -122,16 +120,16 @@ slots_room (s ∷ slots) =
 abbrev all_operands : Procedure → ℕ
 all_operands p = sum_by block_operands p.blocks
 
-procedure_room : (p : Procedure) → IsTextProcedure p → length p.slots ≤ 4096 → length p.blocks ≤ 4096
-    → sum_by room (rows_of_procedure p) ≤ 237834 + 572 * total p + 38 * all_operands p
-procedure_room p h slots blocks =
+procedure_room : HaveFewSuccessors → (p : Procedure) → IsTextProcedure p → length p.slots ≤ 4096 → length p.blocks ≤ 4096
+    → sum_by room (rows_of_procedure p) ≤ 237834 + 576 * total p + 38 * all_operands p
+procedure_room few p h slots blocks =
     let first : room (rows.Header p.name) ≡ 266 = unfold room in omega arith in
     omega (
       arith,
       sum_by-cons room (rows.Header p.name) (map row_of_slot p.slots ++ flat_map rows_of_block p.blocks),
       sum_by-append room (map row_of_slot p.slots) (flat_map rows_of_block p.blocks),
       slots_room p.slots,
-      blocks_room p.blocks h.begun.blocks,
+      blocks_room few p.blocks h.begun.blocks,
     )
 
 abbrev HasFewSlots : Procedure → Type 0
@@ -140,17 +138,17 @@ HasFewSlots p = length p.slots ≤ 4096
 abbrev HasFewBlocks : Procedure → Type 0
 HasFewBlocks p = length p.blocks ≤ 4096
 
-module_room : (m : List Procedure) → AllByRecursion IsTextProcedure m → AllByRecursion HasFewSlots m → AllByRecursion HasFewBlocks m
-    → sum_by room (canonical_rows m) ≤ 237834 * length m + 572 * sum_by total m + 38 * sum_by all_operands m
-module_room [] h slots blocks = omega arith
-module_room (p ∷ m) h slots blocks =
+module_room : HaveFewSuccessors → (m : List Procedure) → AllByRecursion IsTextProcedure m → AllByRecursion HasFewSlots m → AllByRecursion HasFewBlocks m
+    → sum_by room (canonical_rows m) ≤ 237834 * length m + 576 * sum_by total m + 38 * sum_by all_operands m
+module_room few [] h slots blocks = omega arith
+module_room few (p ∷ m) h slots blocks =
     omega (
       arith,
       sum_by-append room (rows_of_procedure p) (canonical_rows m),
       sum_by-cons total p m,
       sum_by-cons all_operands p m,
-      procedure_room p h.0 slots.0 blocks.0,
-      module_room m h.1 slots.1 blocks.1,
+      procedure_room few p h.0 slots.0 blocks.0,
+      module_room few m h.1 slots.1 blocks.1,
     )
 
 -- ---- whole modules
@@ -163,11 +161,11 @@ pub record HasFew (m : List Procedure) : Type 0 where
   pub slots : All (λ (p : Procedure). length p.slots ≤ 4096) m
   pub blocks : All (λ (p : Procedure). length p.blocks ≤ 4096) m
 
-pub canonical_length : AreShort → (m : List Procedure) → IsTextModule m → AllByRecursion IsGoodRow (canonical_rows m) → HasFew m
-    → length (canonical m) ≤ 108_333_568
-canonical_length short m h good few =
+pub canonical_length : AreShort → HaveFewSuccessors → (m : List Procedure) → IsTextModule m → AllByRecursion IsGoodRow (canonical_rows m) → HasFew m
+    → length (canonical m) ≤ 108_595_712
+canonical_length short successors m h good few =
     omega (
       arith,
       text_length short (canonical_rows m) good,
-      module_room m h.procedures (recursion_from_All HasFewSlots m few.slots) (recursion_from_All HasFewBlocks m few.blocks),
+      module_room successors m h.procedures (recursion_from_All HasFewSlots m few.slots) (recursion_from_All HasFewBlocks m few.blocks),
     )

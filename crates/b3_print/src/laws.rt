@@ -9,7 +9,8 @@ ghost use Rattle.b3_module.specs.Texts.{Spells};
 ghost use Rattle.b3_print.specs.Printed.{canonical};
 
 use b3_module::{
-    limits_are_counted, lines_are_free, rows_spell, texts_are_listed, texts_are_named,
+    limits_are_counted, lines_are_free, rows_spell, successors_are_few, texts_are_listed,
+    texts_are_named,
 };
 use b3_written::{lines_are_cut, lines_are_short, rows_are_read};
 
@@ -40,4 +41,5 @@ pub fn canonical_texts_are_short()
     texts_are_listed();
     texts_are_named();
     limits_are_counted();
+    successors_are_few();
 }

@@ -14,7 +14,7 @@ returns-clause-spelled c bytes m e k =
       slots = c.limits_are_counted.ensures.slots m k;
       blocks = c.limits_are_counted.ensures.blocks m k;
     } in
-    omega (arith, canonical_length c.lines_are_short.ensures m h (c.texts_are_listed.ensures.rows m h) few)
+    omega (arith, canonical_length c.lines_are_short.ensures c.successors_are_few.ensures m h (c.texts_are_listed.ensures.rows m h) few)
 
 pub returns-clause-text : goal.returns-clause-text
 returns-clause-text c m h k =
@@ -25,4 +25,4 @@ returns-clause-text c m h k =
       slots = c.limits_are_counted.ensures.slots m k;
       blocks = c.limits_are_counted.ensures.blocks m k;
     } in
-    omega (arith, canonical_length c.lines_are_short.ensures m h (c.texts_are_listed.ensures.rows m h) few)
+    omega (arith, canonical_length c.lines_are_short.ensures c.successors_are_few.ensures m h (c.texts_are_listed.ensures.rows m h) few)
