@@ -1,6 +1,4 @@
-use Rattle.std.proofs.Common.{ℕ, List, ◌<◌, ◌^◌, length, arith}
-use Rattle.b3_ir.specs.Procedure.{Procedure}
-use Rattle.b3_module.specs.Limits.{KeepsLimits}
+use Rattle.std.proofs.Common.{arith}
 use Rattle.b3_print.proofs.ShortLemmas.{HasFew, canonical_length}
 use Rattle.b3_print.proofs.laws.canonical_texts_are_short.Goals as goal
 
