@@ -27,6 +27,7 @@ pub fn print_and_read(alloc: Global, text: &Module) -> Result<Module, NoMemory>
     match read(alloc, bytes.as_slice()) {
         Ok(made) => Ok(made),
         Err(TextFault::NoMemory) => Err(NoMemory),
-        Err(_) => unreachable!(),
+        Err(TextFault::Syntax { .. }) => unreachable!(),
+        Err(TextFault::Limit { .. }) => unreachable!(),
     }
 }
