@@ -14,9 +14,10 @@ use std::fs;
 use std::rt::Files;
 
 /// The stored texts, by the names of their files.
-const TEXTS: [&str; 7] = [
+const TEXTS: [&str; 8] = [
     "increment.b3",
     "below_five.b3",
+    "conditions.b3",
     "swapping_loop.b3",
     "loads_25.b3",
     "loads_26.b3",
