@@ -12,7 +12,8 @@ use Rattle.air_ir.specs.declared.operand.Home.TheVariants.{Reg}
 use Rattle.air_ir.specs.declared.operand.Arg.{Arg}
 use Rattle.air_ir.specs.declared.operand.Arg.TheVariants.{At, Imm, Addr, Index, FrameSlot}
 use Rattle.air_ir.proofs.HomeLaws.{same_home-refl}
-use Rattle.air_shuffle.specs.Moves.{IsSource, Move, writes}
+use Rattle.air_shuffle.specs.Moves.{IsSource, writes}
+use Rattle.air_shuffle.specs.declared.moves.Move.{Move}
 use Rattle.tests_air.specs.Orderable.{goes_before, is_source, may_go}
 
 pub may-none : (scratch : Register) (l : List Move) → length l ≡ 0 → may_go scratch l ≡ true

@@ -6,7 +6,8 @@ use Rattle.air_ir.specs.Operands.{same_home}
 use Rattle.air_ir.specs.declared.operand.Home.TheVariants.{Reg}
 use Rattle.air_ir.specs.declared.operand.Arg.{Arg}
 use Rattle.air_ir.specs.declared.operand.Arg.TheVariants.{At, Imm}
-use Rattle.air_shuffle.specs.Moves.{Move, writes}
+use Rattle.air_shuffle.specs.Moves.{writes}
+use Rattle.air_shuffle.specs.declared.moves.Move.{Move}
 
 abbrev pub is_source : Arg → Bool
 is_source (At home) = true
