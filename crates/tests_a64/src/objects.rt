@@ -29,12 +29,11 @@ impl Objects {
 impl Teller for Objects {
     fn told(&mut self, alloc: Global, asked: &str) -> Result<String, Fail> {
         let (name, damage) = asked.split_once(' ').unwrap_or((asked, ""));
-        let whole = match name {
-            "one_procedure" => self.one.as_slice(),
-            "two_procedures" => self.two.as_slice(),
+        let file = match name {
+            "one_procedure" => damaged(alloc, self.one.as_slice(), damage)?,
+            "two_procedures" => damaged(alloc, self.two.as_slice(), damage)?,
             _ => return Err(Fail::from("no such file")),
         };
-        let file = damaged(alloc, whole, damage)?;
         object_told(alloc, file.as_slice())
     }
 }

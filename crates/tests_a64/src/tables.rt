@@ -30,19 +30,21 @@ impl Sections {
 impl Teller for Sections {
     fn told(&mut self, alloc: Global, asked: &str) -> Result<String, Fail> {
         let (name, damage) = asked.split_once(' ').unwrap_or((asked, ""));
-        let (frames, exits) = match name {
-            "one" => (self.frames.as_slice(), self.exits.as_slice()),
-            "two" => (self.two_frames.as_slice(), self.two_exits.as_slice()),
-            _ => return Err(Fail::from("no such tables")),
-        };
-        let frames = damaged(alloc, frames, damage.strip_prefix("frames ").unwrap_or(""))?;
-        let exits = damaged(alloc, exits, damage.strip_prefix("exits ").unwrap_or(""))?;
-        let tables = if name == "one" {
-            of_one(alloc, frames.as_slice(), exits.as_slice())
-        } else {
-            of_two(alloc, frames.as_slice(), exits.as_slice())
-        };
-        tables_told(alloc, tables)
+        let in_frames = damage.strip_prefix("frames ").unwrap_or("");
+        let in_exits = damage.strip_prefix("exits ").unwrap_or("");
+        match name {
+            "one" => {
+                let frames = damaged(alloc, self.frames.as_slice(), in_frames)?;
+                let exits = damaged(alloc, self.exits.as_slice(), in_exits)?;
+                tables_told(alloc, of_one(alloc, frames.as_slice(), exits.as_slice()))
+            }
+            "two" => {
+                let frames = damaged(alloc, self.two_frames.as_slice(), in_frames)?;
+                let exits = damaged(alloc, self.two_exits.as_slice(), in_exits)?;
+                tables_told(alloc, of_two(alloc, frames.as_slice(), exits.as_slice()))
+            }
+            _ => Err(Fail::from("no such tables")),
+        }
     }
 }
 
