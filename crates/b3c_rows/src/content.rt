@@ -1,6 +1,8 @@
 //! Lines that say bytes: lines and pieces of text, hexadecimal digits, bytes that have a name, and repetitions with a
 //! running number.
 
+ghost use Rattle.std.specs.Prelude.{◌<◌, IfOk};
+
 use crate::fault::Fault;
 use crate::named::Named;
 use b3_base::Bytes;
@@ -88,7 +90,9 @@ pub fn add_hex(bytes: &mut Bytes, digits: &str) -> Result<(), Fault> {
 }
 
 /// The number below 16 that a digit says.
-fn digit_of(digit: u8) -> Result<u8, Fault> {
+fn digit_of(digit: u8) -> Result<u8, Fault>
+    ensures { IfOk result (λ n. n < 16) }
+{
     match digit {
         b'0'..=b'9' => Ok(digit - b'0'),
         b'a'..=b'f' => Ok(digit - b'a' + 10),
