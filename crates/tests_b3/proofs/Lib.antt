@@ -1,1 +1,2 @@
 pub mod Placeable
+pub mod Foldable

@@ -2,7 +2,7 @@
 
 ghost use Rattle.std.specs.Prelude.{◌≡◌, ◌<◌, ◌^◌, IsTrue};
 ghost use Rattle.b3_base.specs.Word.{bits};
-ghost use Rattle.b3_ir.specs.Types.{width_of};
+ghost use Rattle.b3_ir.specs.Types.{AllowsTypes, width_of};
 ghost use Rattle.b3_meaning.specs.Foldable.{IsFoldable};
 ghost use Rattle.b3_meaning.specs.Opcodes.{AreWordsOf};
 
@@ -48,12 +48,23 @@ fn folded(kind: Kind, ty: Ty, words: &[u64], types: &[Ty]) -> Result<Option<u64>
     Ok(fold(kind.opcode, kind.chill, ty, words, types))
 }
 
+#[tactic(auto, using(crate::proofs::Foldable::foldable))]
 fn is_foldable(opcode: Opcode, ty: Ty, words: &[u64], types: &[Ty]) -> bool
     ensures { IsTrue result → IsFoldable opcode ty words.now types.now }
 {
-    matches!(role_of(opcode), Role::Pure)
-        && allows_types(opcode, ty, types)
-        && are_words(types, words)
+    match role_of(opcode) {
+        Role::Pure => are_children(opcode, ty, words, types),
+        _ => false,
+    }
+}
+
+/// Whether a row allows these types, and these are words of them.
+#[tactic(auto, using(crate::proofs::Foldable::allowed_by_test))]
+fn are_children(opcode: Opcode, ty: Ty, words: &[u64], types: &[Ty]) -> bool
+    ensures types { IsTrue result → AllowsTypes opcode ty types.now }
+    ensures words { IsTrue result → AreWordsOf types.now words.now }
+{
+    allows_types(opcode, ty, types) && are_words(types, words)
 }
 
 /// Whether these are words of these types, of three at most.
