@@ -1,9 +1,10 @@
 -- A load and a store of the machine do what those of the run of Air do.
 use Rattle.std.proofs.Common.{◌≡◌, ℕ, zero, suc, ◌+◌, ◌-◌, ◌^◌, ◌<◌, ◌≤◌, min, Bool, true, false, not, ◌&&◌, ◌||◌, ⊎_elim, List, [], ◌∷◌, Some, None, length, get_or, refl, sym, ap, ◌∙◌, subst, arith}
 use Rattle.std.specs.Prelude.{is_some, if◌then◌else◌, Contains, map, slice_get}
-use Rattle.std.proofs.lemmas.Bool.{cases_lt}
+use Rattle.std.proofs.lemmas.Bool.{cases_lt, or_from}
 use Rattle.std.proofs.lemmas.Bool.Decides.{nat_tests}
 use Rattle.std.proofs.lemmas.List.{length-map}
+use Rattle.std.proofs.lemmas.Option.{same_Some}
 use Rattle.b3_base.specs.Memory.{byte_address, is_mapped, read_word, write_word}
 use Rattle.b3_base.specs.Observed.{Memory, Start}
 use Rattle.b3_base.specs.declared.word.Width.TheVariants.{W64}
@@ -16,20 +17,20 @@ use Rattle.exit_table.specs.Good.{AreDisjoint, saved_span, slot_span, word_span}
 use Rattle.a64_inst.specs.Step.{Stepped, goes_on, step_of}
 use Rattle.a64_inst.specs.declared.inst.Inst.{Inst}
 use Rattle.air_ir.specs.Steps.{State}
-use Rattle.air_frame.specs.Frames.{IsFrameOf}
 use Rattle.air_frame.specs.Needs.{names}
 use Rattle.a64_layout.specs.Machine.{Machine, moved_to}
 use Rattle.a64_run.specs.Placement.{frame_pointer_of, in_frame, in_slot, is_within, visible}
 use Rattle.a64_emit.specs.Emitted.{IsSafe}
 use Rattle.a64_code.specs.Places.{spill_offset}
 use Rattle.a64_emit.specs.Related.{HasFrame, IsRelated}
-use Rattle.a64_emit.specs.Setting.{IsSet, Setting, row}
+use Rattle.a64_emit.specs.Setting.{Setting, row, IsSet}
 use Rattle.a64_emit.proofs.AccessesSeen.{bytes_seen, hidden_apart, is_seen, mapped_seen, write_seen}
 use Rattle.a64_emit.proofs.Entering.{good_row}
-use Rattle.a64_emit.proofs.FrameWords.{IsHiddenWord, all_front, apart_from_slots, hidden_word, not_in_slot, not_some, or_false}
-use Rattle.a64_emit.proofs.Keeping.{none_still, some_is, spill_stands}
+use Rattle.a64_emit.proofs.FrameWords.{IsHiddenWord, all_front, apart_from_slots, hidden_word, not_in_slot, not_some}
+use Rattle.a64_emit.proofs.Keeping.{none_still, spill_stands}
 use Rattle.a64_emit.proofs.Straight.{DoesOne, IsWhole}
 use Rattle.a64_emit.proofs.Words.{with_memory}
+use Rattle.air_frame.specs.Frames.{IsFrameOf}
 
 -- ---- the access of a start
 
@@ -140,7 +141,7 @@ saved_among rows s there =
 module _ (z : Setting) (set : IsSet z) (serves : IsFrameOf z.procedure z.frame) where
   pub unseen : (at : ℕ) → IsHiddenWord z at → (i : ℕ) → i < 8 → is_seen (row z) z.entry (byte_address at i) ≡ false
   unseen at hidden i lt =
-      or_false (is_some (z.entry.memory (byte_address at i))) (in_slot (row z) z.entry (byte_address at i))
+      or_from (is_some (z.entry.memory (byte_address at i))) (in_slot (row z) z.entry (byte_address at i))
       (not_some z set (byte_address at i) (hidden i lt).0) (hidden i lt).1
 
   pub link_hidden : IsHiddenWord z (frame_pointer_of z.entry + 8)
@@ -167,7 +168,7 @@ module _ (z : Setting) (set : IsSet z) (serves : IsFrameOf z.procedure z.frame) 
   pub spill_hidden : (n offset : ℕ) → names z.procedure n ≡ true → slice_get z.frame.spills n ≡ Some offset → IsHiddenWord z (frame_pointer_of z.entry - offset)
   spill_hidden n offset named there =
       let stands = spill_stands z set serves n named in
-      let same : spill_offset z.frame n ≡ offset = some_is (spill_offset z.frame n) offset (sym stands.0 ∙ there) in
+      let same : spill_offset z.frame n ≡ offset = same_Some (spill_offset z.frame n) offset (sym stands.0 ∙ there) in
       subst (λ o. IsHiddenWord z (frame_pointer_of z.entry - o)) same
       (hidden_word z set serves.good (spill_offset z.frame n) stands.1.0
       (all_front (AreDisjoint (word_span W64 (spill_offset z.frame n))) (map slot_span (row z).slots) (map saved_span z.frame.saved) stands.1.1))

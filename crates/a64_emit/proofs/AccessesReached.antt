@@ -3,6 +3,7 @@ use Rattle.std.proofs.Common.{◌≡◌, ◌≢◌, ℕ, ◌+◌, ◌*◌, ◌/�
 use Rattle.std.specs.Prelude.{ℤ, ◌&&◌, nat_le, not, if◌then◌else◌}
 use Rattle.std.specs.Int.{cast_unsigned, w64}
 use Rattle.std.proofs.lemmas.Bool.{and_parts, ne_eqb}
+use Rattle.std.proofs.lemmas.Option.{same_Some}
 use Rattle.b3_base.specs.declared.word.Width.{Width}
 use Rattle.b3_base.specs.declared.word.Width.TheVariants.{W64}
 use Rattle.b3_meaning.specs.Access.{offset_address}
@@ -20,19 +21,19 @@ use Rattle.air_ir.specs.declared.operand.Arg.{Arg}
 use Rattle.air_ir.specs.declared.operand.Arg.TheVariants.{At, Imm, Addr, Index, FrameSlot}
 use Rattle.air_ir.specs.declared.operand.Home.{Home}
 use Rattle.air_ir.specs.declared.operand.Home.TheVariants.{Reg, Spill, Tmp}
-use Rattle.air_frame.specs.Frames.{IsFrameOf}
 use Rattle.a64_layout.specs.Machine.{Machine}
 use Rattle.a64_run.specs.Machine.{touched}
 use Rattle.a64_code.specs.Accesses.{offset_access}
 use Rattle.a64_emit.specs.Code.{access_inst, fetch, fetch_address, source_of}
 use Rattle.a64_code.specs.Computing.{reg_of}
 use Rattle.a64_emit.specs.Related.{IsRelated}
-use Rattle.a64_emit.specs.Setting.{IsSet, Setting}
+use Rattle.a64_emit.specs.Setting.{Setting, IsSet}
 use Rattle.a64_emit.proofs.Computes.{fetch_two, scratch_15}
 use Rattle.a64_emit.proofs.Fetching.{IsUsable, allocatable_other, fetch_word, fetched_keeps}
-use Rattle.a64_emit.proofs.Keeping.{keeps_related, some_is}
+use Rattle.a64_emit.proofs.Keeping.{keeps_related}
 use Rattle.a64_code.proofs.Ops.{Gives}
 use Rattle.a64_emit.proofs.Straight.{Does, does_both}
+use Rattle.air_frame.specs.Frames.{IsFrameOf}
 
 -- ---- the instruction of an access
 
@@ -159,13 +160,13 @@ not_zero reg le e = omega arith
 
 moved_is : (offset : ℤ) (o : Option ℕ) (at : ℕ) → moved offset o ≡ Some at → (base : ℕ) × (o ≡ Some base) × (offset_address base offset ≡ at)
 moved_is offset None at e = absurd cc
-moved_is offset (Some base) at e = (base, refl, some_is _ at e)
+moved_is offset (Some base) at e = (base, refl, same_Some _ at e)
 
 indexed_is : (shift : ℕ) (o p : Option ℕ) (at : ℕ) → indexed shift o p ≡ Some at
     → (base : ℕ) × (index : ℕ) × (o ≡ Some base) × (p ≡ Some index) × ((base + index * 2 ^ shift) % 2 ^ 64 ≡ at)
 indexed_is shift None p at e = absurd cc
 indexed_is shift (Some base) None at e = absurd cc
-indexed_is shift (Some base) (Some index) at e = (base, index, refl, refl, some_is _ at e)
+indexed_is shift (Some base) (Some index) at e = (base, index, refl, refl, same_Some _ at e)
 
 module _ (z : Setting) (set : IsSet z) (serves : IsFrameOf z.procedure z.frame) where
   -- the homes of an address were fetched: each access there is one at this address, also where x17 has changed

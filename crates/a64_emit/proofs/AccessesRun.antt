@@ -1,6 +1,6 @@
 -- Loads and stores do what their code does.
 use Rattle.std.proofs.Common.{◌≡◌, ℕ, ◌+◌, ◌-◌, ◌*◌, ◌%◌, ◌^◌, ◌<◌, ◌≤◌, ◌⊎◌, inl, inr, Bool, true, false, List, [], ◌∷◌, ◌++◌, Option, Some, None, refl, sym, ap, ◌∙◌, subst, arith}
-use Rattle.std.specs.Prelude.{is_some, nat_lt, if◌then◌else◌}
+use Rattle.std.specs.Prelude.{nat_lt, if◌then◌else◌}
 use Rattle.std.proofs.lemmas.Bool.{ne_eqb}
 use Rattle.b3_base.specs.Arithmetic.{low}
 use Rattle.b3_base.specs.Memory.{is_mapped, read_word, write_word}
@@ -10,7 +10,7 @@ use Rattle.b3_base.specs.declared.word.Width.TheVariants.{W32, W64}
 use Rattle.b3_base.specs.declared.observation.Status.TheVariants.{Trapped}
 use Rattle.b3_base.proofs.MemoryLaws.{is_some-read_word}
 use Rattle.b3_base.proofs.WordLaws.{write_word_low}
-use Rattle.b3_base.proofs.Options.{none_of}
+use Rattle.b3_base.proofs.Options.{none_of, some_of}
 use Rattle.b3_meaning.specs.Access.{Done, Refused, Trap, access, touches_private}
 use Rattle.b3_meaning.specs.Opcodes.{Undefined}
 use Rattle.b3_meaning.specs.Run.{extended}
@@ -166,10 +166,6 @@ stores_word : (kind : AccessKind) (extent : Extent) (width : Width) (at word : �
     → machine.access_at kind (reg_of a) at r m ≡ goes_on r (write_word m at (machine.access_bytes kind) word)
 stores_word kind extent width at word a r m store is gives mapped =
     rw (store.store, mapped) (ap (goes_on r) (stored_low kind extent width m at (read r (reg_of a)) word store (stored_is r a width word is gives)))
-
-some_there : (o : Option ℕ) → is_some o ≡ true → (v : ℕ) × (o ≡ Some v)
-some_there None e = absurd cc
-some_there (Some v) e = (v, refl)
 
 -- ---- steps of the run of Air
 
@@ -351,7 +347,7 @@ module _ (z : Setting) (set : IsSet z) (serves : IsFrameOf z.procedure z.frame) 
               | Fails u refused ↦ inl (inl (step_without z.start i s ((a.width, at) ∷ []) read
                   (load_refused z.start i s extent extends a.width at n u loads load.bytes refused)))
               | Touches done mapped ↦
-                  let v = some_there (read_word s.world.memory at n) (is_some-read_word s.world.memory at n ∙ mapped) in
+                  let v = some_of (read_word s.world.memory at n) (is_some-read_word s.world.memory at n ∙ mapped) in
                   let w : ℕ = extended extends n v.0 in
                   let small : v.0 < 2 ^ (8 * n) = read_small c.memory at n v.0 rel.frame.bytes (same_word s c at n v.0 rel mapped v.1) in
                   let loaded = load.loaded v.0 small in

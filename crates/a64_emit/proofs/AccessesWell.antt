@@ -2,8 +2,7 @@
 use Rattle.std.proofs.Common.{◌≡◌, ℕ, ◌*◌, ◌/◌, ◌%◌, ◌^◌, ◌<◌, ◌≤◌, Bool, true, false, refl, arith}
 use Rattle.std.specs.Prelude.{ℤ, pos, negsuc, ◌≤ℤ◌, ◌&&◌, ◌||◌, nat_eq, nat_le, if◌then◌else◌}
 use Rattle.std.specs.Int.{cast_unsigned, w64}
-use Rattle.std.proofs.lemmas.Bool.{and_parts}
-use Rattle.std.proofs.lemmas.Bool.Decides.{nat_tests}
+use Rattle.std.proofs.lemmas.Bool.{and_parts, leb-true}
 use Rattle.std.proofs.lemmas.Int.{ints}
 use Rattle.a64_inst.specs.StepMemory.{access_bytes}
 use Rattle.a64_inst.specs.WellFormed.{IsWellFormed}
@@ -19,9 +18,6 @@ use Rattle.a64_code.specs.Accesses.{offset_access}
 use Rattle.a64_emit.specs.Code.{access_inst, source_of}
 use Rattle.a64_code.specs.Computing.{reg_of}
 use Rattle.a64_emit.specs.Fitting.{IsReached}
-
-le_of : (a b : ℕ) → nat_le a b ≡ true → a ≤ b
-le_of a b e = grind (arith, nat_tests)
 
 or_first : (a b : Bool) → (a || b) ≡ true → b ≡ false → a ≡ true
 or_first true b e f = refl
@@ -46,8 +42,8 @@ is_scaled bytes above = nat_eq (above % bytes) 0 && nat_le above (4095 * bytes)
 pub near_is_small : (bytes : ℕ) (offset : ℤ) → is_offset bytes offset ≡ true → is_scaled bytes (cast_unsigned w64 offset) ≡ false
     → (negsuc 255 ≤ℤ offset) × (offset ≤ℤ pos 255)
 near_is_small bytes (pos n) fits far =
-    let le = le_of n 255 (or_first (nat_le n 255) (is_scaled bytes n) fits far) in (omega (arith, ints), omega (arith, ints))
-near_is_small bytes (negsuc n) fits far = let le = le_of n 255 fits in (omega (arith, ints), omega (arith, ints))
+    let le = leb-true n 255 (or_first (nat_le n 255) (is_scaled bytes n) fits far) in (omega (arith, ints), omega (arith, ints))
+near_is_small bytes (negsuc n) fits far = let le = leb-true n 255 fits in (omega (arith, ints), omega (arith, ints))
 
 offset_well : (kind : AccessKind) (rt rn : ℕ) (offset : ℤ) → rt ≤ 31 → rn ≤ 31 → is_offset (access_bytes kind) offset ≡ true
     → IsWellFormed (offset_access kind rt rn offset)
@@ -56,7 +52,7 @@ offset_well kind rt rn offset le_rt le_rn fits =
     elim (is_scaled (access_bytes kind) above) as (λ b. is_scaled (access_bytes kind) above ≡ b
     → IsWellFormed (if b then Access kind rt rn (above / access_bytes kind) else AccessNear kind rt rn offset)) [
       | true ↦ λ e.
-          let most = le_of above (4095 * access_bytes kind) (and_parts (nat_eq (above % access_bytes kind) 0) (nat_le above (4095 * access_bytes kind)) e).1 in
+          let most = leb-true above (4095 * access_bytes kind) (and_parts (nat_eq (above % access_bytes kind) 0) (nat_le above (4095 * access_bytes kind)) e).1 in
           (le_rt, le_rn, units_small kind above most)
       | false ↦ λ e. let near = near_is_small (access_bytes kind) offset fits e in (le_rt, le_rn, near.0, near.1)
     ] refl

@@ -1,8 +1,8 @@
 -- Words stand behind each label of a block.
-use Rattle.std.proofs.Common.{◌≡◌, ℕ, suc, ◌+◌, ◌<◌, ◌≤◌, Bool, true, false, List, [], ◌∷◌, ◌++◌, Some, None, length, get_or, refl, sym, ap, ◌∙◌, subst, arith, length-append}
+use Rattle.std.proofs.Common.{◌≡◌, ℕ, suc, ◌+◌, ◌<◌, ◌≤◌, Bool, true, false, List, [], ◌∷◌, ◌++◌, Some, length, get_or, refl, sym, ap, ◌∙◌, subst, arith, length-append}
 use Rattle.std.specs.Prelude.{nat_eq, slice_get, if◌then◌else◌}
 use Rattle.std.proofs.lemmas.Bool.{ne_eqb}
-use Rattle.std.proofs.lemmas.Option.{slice_get_within}
+use Rattle.std.proofs.lemmas.Option.{slice_get_within, same_Some, none-some}
 use Rattle.a64_inst.specs.declared.inst.Cond.{Cond}
 use Rattle.a64_inst.specs.declared.inst.Cond.TheVariants.{Eq, Hi}
 use Rattle.a64_inst.specs.declared.inst.Inst.{Inst}
@@ -26,12 +26,6 @@ use Rattle.a64_emit.specs.Switched.{case_items, cases_in_order, compare_word, ju
 use Rattle.a64_emit.specs.Trees.{Leaf, Node, Tree, node_count, tree}
 use Rattle.a64_emit.specs.declared.case.Case.{Case}
 use Rattle.a64_emit.proofs.Positions.{Among, among_first, among_rest}
-
-pub some_same : (a b : ℕ) → Some a ≡ Some b → a ≡ b
-some_same a b e = cc
-
-pub none_some : (n : ℕ) → None ≡ Some n → ⊥
-none_some n e = cc
 
 -- one of some items has words
 pub record HasWords (items : List Item) : Type 0 where
@@ -133,12 +127,12 @@ terminal_words f next label mark targets traps (op.BranchIf test) os ends below 
     (branches test (width_at os 0) (reg_of (source_at os 0 15)) next (get_or targets 0 0) (get_or targets 1 0))
     (branches_words test (width_at os 0) (reg_of (source_at os 0 15)) next (get_or targets 0 0) (get_or targets 1 0))
 terminal_words f next label mark targets traps op.Jump os ends below =
-    let one : 1 ≡ length targets = some_same 1 (length targets) ends in
+    let one : 1 ≡ length targets = same_Some 1 (length targets) ends in
     jump_words next (get_or targets 0 0) (below 0 (omega arith))
 terminal_words f next label mark targets traps (op.Switch cases) os ends below =
-    let count : suc (length cases) ≡ length targets = some_same (suc (length cases)) (length targets) ends in
+    let count : suc (length cases) ≡ length targets = same_Some (suc (length cases)) (length targets) ends in
     words_right (plains (fetch f 15 (arg_at os 0))) (switch_items (width_at os 0) (reg_of (source_at os 0 15)) next label cases targets)
     (switch_words (width_at os 0) (reg_of (source_at os 0 15)) next label cases targets (sym count) below)
 terminal_words f next label mark targets traps op.Return os ends below = plain_words (epilogue f) (epilogue_some f)
 terminal_words f next label mark targets traps op.Oops os ends below = words_first _ [] (λ long. omega arith)
-terminal_words f next label mark targets traps o os ends below = absurd (none_some (length targets) ends)
+terminal_words f next label mark targets traps o os ends below = absurd (none-some (length targets) ends)

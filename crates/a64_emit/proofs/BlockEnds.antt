@@ -2,7 +2,7 @@
 use Rattle.std.proofs.Common.{◌≡◌, ℕ, suc, ◌+◌, ◌-◌, ◌<◌, ◌≤◌, Bool, ⊎_elim, List, [], ◌∷◌, ◌++◌, Some, length, get_or, refl, sym, ap, subst, arith}
 use Rattle.std.specs.Prelude.{slice_get}
 use Rattle.std.proofs.lemmas.Bool.{cases_lt}
-use Rattle.std.proofs.lemmas.Option.{slice_get-get_or}
+use Rattle.std.proofs.lemmas.Option.{slice_get-get_or, same_Some, none-some}
 use Rattle.a64_inst.specs.declared.item.Item.TheVariants.{Label}
 use Rattle.air_ir.specs.Forms.{AllFit, HasOperands}
 use Rattle.air_ir.specs.Kinds.{target_count}
@@ -15,19 +15,19 @@ use Rattle.air_ir.specs.declared.operand.Operand.{Operand}
 use Rattle.air_ir.specs.declared.procedure.AirBlock.{AirBlock}
 use Rattle.air_ir.specs.declared.procedure.AirInst.{AirInst}
 use Rattle.air_ir.specs.declared.procedure.AirProc.{AirProc}
-use Rattle.air_frame.specs.Frames.{IsFrameOf}
 use Rattle.a64_layout.specs.Layout.{Set, place, position_of}
 use Rattle.a64_layout.specs.Machine.{Machine}
 use Rattle.a64_layout.proofs.Least.{place_mono}
 use Rattle.a64_emit.specs.Code.{emitted, inst_items, insts_items, labels_of, marks_of}
 use Rattle.a64_emit.specs.Related.{IsRelated}
-use Rattle.a64_emit.specs.Setting.{IsSet, Setting}
-use Rattle.a64_emit.proofs.Ahead.{HasWords, none_some, some_same, terminal_words, words_ahead, words_left, words_right}
+use Rattle.a64_emit.specs.Setting.{Setting, IsSet}
+use Rattle.a64_emit.proofs.Ahead.{HasWords, terminal_words, words_ahead, words_left, words_right}
 use Rattle.a64_emit.proofs.BranchEnds.{AllUsable, branch_ends}
 use Rattle.a64_emit.proofs.Branching.{NextAt}
 use Rattle.a64_emit.proofs.Endings.{Ends, jump_ends, oops_ends, return_ends}
 use Rattle.a64_emit.proofs.Positions.{Among, block_stands, positions_rise}
 use Rattle.a64_emit.proofs.SwitchEnds.{AllWithin, switch_ends}
+use Rattle.air_frame.specs.Frames.{IsFrameOf}
 
 no_operands : (os : List Operand) → AllFit [] os → os ≡ []
 unfolding AllFit
@@ -53,19 +53,19 @@ module _ (z : Setting) (set : IsSet z) (serves : IsFrameOf z.procedure z.frame)
       → IsRelated z s c → Ends z targets_of i s k c
   unfolding inst_items
   ends_by (op.BranchIf t) i s targets_of next label mark k c is e rel =
-      let two : 2 ≡ length targets_of = some_same 2 (length targets_of) e.ends in
+      let two : 2 ≡ length targets_of = same_Some 2 (length targets_of) e.ends in
       branch_ends z set serves i s targets_of next k c t e.operands.0 is e.operands.2 e.usable (sym two) (e.within 0 (omega arith))
       (e.within 1 (omega arith)) e.items e.at rel
   ends_by op.Jump i s targets_of next label mark k c is e rel =
-      let one : 1 ≡ length targets_of = some_same 1 (length targets_of) e.ends in
+      let one : 1 ≡ length targets_of = same_Some 1 (length targets_of) e.ends in
       jump_ends z set serves i s targets_of next k c is (no_operands i.operands e.operands.2) (omega arith) (e.within 0 (omega arith)) e.items e.at rel
   ends_by (op.Switch cases) i s targets_of next label mark k c is e rel =
-      let count : suc (length cases) ≡ length targets_of = some_same (suc (length cases)) (length targets_of) e.ends in
+      let count : suc (length cases) ≡ length targets_of = same_Some (suc (length cases)) (length targets_of) e.ends in
       switch_ends z set serves placed i s cases targets_of next label k c e.operands.0 is e.operands.1 e.usable (sym count) e.within e.items e.at
       e.ahead e.above rel
   ends_by op.Return i s targets_of next label mark k c is e rel = return_ends z set serves i s targets_of k c is e.operands e.items rel
   ends_by op.Oops i s targets_of next label mark k c is e rel = oops_ends z set serves i s targets_of k c is (no_operands i.operands e.operands.2)
-  ends_by o i s targets_of next label mark k c is e rel = absurd (none_some (length targets_of) e.ends)
+  ends_by o i s targets_of next label mark k c is e rel = absurd (none-some (length targets_of) e.ends)
 
   -- the items of what ends a block lead where it does
   pub terminal_ends : (i : AirInst) (s : State) (targets_of : List ℕ) (next label mark k : ℕ) (c : Machine) → AtEnd z targets_of next label mark k i.traps i.op i.operands

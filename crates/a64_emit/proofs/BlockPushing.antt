@@ -2,17 +2,13 @@
 use Rattle.std.proofs.Common.{◌≡◌, ℕ, zero, suc, ◌+◌, ◌≤◌, List, [], ◌∷◌, ◌++◌, Some, refl, sym, ap, ◌∙◌, arith, length, drop, append_assoc, append-nil}
 use Rattle.std.specs.Prelude.{slice_get, sum_by}
 use Rattle.std.proofs.lemmas.List.Sums.{sum_by-cons}
+use Rattle.b3_base.proofs.Lists.{drop_suc}
 use Rattle.a64_inst.specs.declared.item.Item.{Item}
 use Rattle.a64_inst.specs.declared.item.Item.TheVariants.{Label}
 use Rattle.air_ir.specs.declared.frame.Frame.{Frame}
 use Rattle.air_ir.specs.declared.procedure.AirBlock.{AirBlock}
 use Rattle.air_ir.specs.declared.procedure.AirInst.{AirInst}
 use Rattle.a64_emit.specs.Code.{block_exits, block_labels, block_marks, blocks_exits, blocks_items, exits_of, inst_exits, inst_items, insts_exits, insts_items, labels_of, marks_of}
-
-pub dropped : {X : Type 0} (xs : List X) (k : ℕ) (x : X) → slice_get xs k ≡ Some x → drop k xs ≡ x ∷ drop (suc k) xs
-dropped [] k x there = absurd cc
-dropped (a ∷ xs) zero x there = let same : a ≡ x = cc in ap (λ y. y ∷ xs) same
-dropped (a ∷ xs) (suc k) x there = dropped xs k x there
 
 none_left : {X : Type 0} (xs : List X) (k : ℕ) → length xs ≤ k → drop k xs ≡ []
 none_left [] zero le = refl
@@ -33,7 +29,7 @@ insts_next f next label mark targets insts k i code after whole left there pushe
     ap (λ n. after ++ insts_items f next (label + labels_of i) (mark + marks_of i) targets (drop n insts)) (sym (one_more k))
     ∙ ap (λ (xs : List Item). xs ++ rest) pushed
     ∙ append_assoc code (inst_items f next label mark targets i.traps i.op i.operands) rest
-    ∙ ap (λ (xs : List AirInst). code ++ insts_items f next label mark targets xs) (sym (dropped insts k i there)) ∙ left
+    ∙ ap (λ (xs : List AirInst). code ++ insts_items f next label mark targets xs) (sym (drop_suc insts k i there)) ∙ left
 
 pub insts_done : (f : Frame) (next label mark : ℕ) (targets : List ℕ) (insts : List AirInst) (k : ℕ) (code whole : List Item)
     → code ++ insts_items f next label mark targets (drop k insts) ≡ whole → length insts ≤ k → code ≡ whole
@@ -52,7 +48,7 @@ blocks_next f blocks b label mark block code between after whole left there labe
     ap (λ n. after ++ blocks_items f (b + 1) (label + block_labels block) (mark + block_marks block) (drop n blocks)) (sym (one_more b))
     ∙ ap (λ (xs : List Item). xs ++ rest) (pushed ∙ ap (λ (xs : List Item). xs ++ insts) labelled)
     ∙ append_assoc (code ++ Label b ∷ []) insts rest ∙ append_assoc code (Label b ∷ []) (insts ++ rest)
-    ∙ ap (λ (xs : List AirBlock). code ++ blocks_items f b label mark xs) (sym (dropped blocks b block there)) ∙ left
+    ∙ ap (λ (xs : List AirBlock). code ++ blocks_items f b label mark xs) (sym (drop_suc blocks b block there)) ∙ left
 
 pub blocks_done : (f : Frame) (blocks : List AirBlock) (b label mark : ℕ) (code whole : List Item)
     → code ++ blocks_items f b label mark (drop b blocks) ≡ whole → length blocks ≤ b → code ≡ whole
@@ -68,7 +64,7 @@ exits_next label mark insts k i code after whole left there pushed =
     let rest : List Item = insts_exits (label + labels_of i) (mark + exits_of i) (drop (suc k) insts) in
     ap (λ n. after ++ insts_exits (label + labels_of i) (mark + exits_of i) (drop n insts)) (sym (one_more k))
     ∙ ap (λ (xs : List Item). xs ++ rest) pushed ∙ append_assoc code (inst_exits label mark i) rest
-    ∙ ap (λ (xs : List AirInst). code ++ insts_exits label mark xs) (sym (dropped insts k i there)) ∙ left
+    ∙ ap (λ (xs : List AirInst). code ++ insts_exits label mark xs) (sym (drop_suc insts k i there)) ∙ left
 
 pub exits_done : (label mark : ℕ) (insts : List AirInst) (k : ℕ) (code whole : List Item) → code ++ insts_exits label mark (drop k insts) ≡ whole
     → length insts ≤ k → code ≡ whole
@@ -84,7 +80,7 @@ all_exits_next label mark blocks b block code after whole left there pushed =
     let rest : List Item = blocks_exits (label + block_labels block) (mark + block_exits block) (drop (suc b) blocks) in
     ap (λ n. after ++ blocks_exits (label + block_labels block) (mark + block_exits block) (drop n blocks)) (sym (one_more b))
     ∙ ap (λ (xs : List Item). xs ++ rest) pushed ∙ append_assoc code (insts_exits label mark block.insts) rest
-    ∙ ap (λ (xs : List AirBlock). code ++ blocks_exits label mark xs) (sym (dropped blocks b block there)) ∙ left
+    ∙ ap (λ (xs : List AirBlock). code ++ blocks_exits label mark xs) (sym (drop_suc blocks b block there)) ∙ left
 
 pub all_exits_done : (label mark : ℕ) (blocks : List AirBlock) (b : ℕ) (code whole : List Item) → code ++ blocks_exits label mark (drop b blocks) ≡ whole
     → length blocks ≤ b → code ≡ whole
@@ -101,5 +97,5 @@ sum_done count xs b n total left le =
 pub sum_left : {X : Type 0} (count : X → ℕ) (xs : List X) (b : ℕ) (x : X) → slice_get xs b ≡ Some x
     → sum_by count (drop b xs) ≡ count x + sum_by count (drop (b + 1) xs)
 sum_left count xs b x there =
-    ap (sum_by count) (dropped xs b x there) ∙ sum_by-cons count x (drop (suc b) xs)
+    ap (sum_by count) (drop_suc xs b x there) ∙ sum_by-cons count x (drop (suc b) xs)
     ∙ ap (λ n. count x + sum_by count (drop n xs)) (one_more b)

@@ -2,9 +2,10 @@
 use Rattle.a64_emit.proofs.SitesMade.{check_op}
 use Rattle.air_ir.specs.declared.operand.Arg.{Arg}
 use Rattle.a64_code.specs.Fitting.{IsSummed}
-use Rattle.std.proofs.Common.{◌≡◌, ◌≢◌, ℕ, ℤ, zero, suc, ◌+◌, ◌-◌, ◌^◌, ◌<◌, ◌≤◌, ◌⊎◌, Bool, true, false, inl, inr, ⊎_elim, List, [], ◌∷◌, ◌++◌, Option, Some, None, length, map, get_or, not, refl, sym, ap, ◌∙◌, subst, arith, length-append, append-nil, append_assoc, ◌%◌}
+use Rattle.std.proofs.Common.{◌≡◌, ◌≢◌, ℕ, ℤ, ◌+◌, ◌-◌, ◌<◌, ◌≤◌, ◌⊎◌, Bool, true, false, ⊎_elim, List, [], ◌∷◌, ◌++◌, Some, None, length, map, not, refl, sym, ap, ◌∙◌, subst, arith, length-append, append-nil, append_assoc, ◌%◌}
 use Rattle.std.specs.Prelude.{All, if◌then◌else◌, nat_eq, slice_get}
 use Rattle.std.specs.Int.{bit_at}
+use Rattle.b3_base.proofs.Lists.{get_behind}
 use Rattle.b3_base.specs.Arithmetic.{low}
 use Rattle.b3_base.specs.Ranged.{IsRangedAnswer}
 use Rattle.b3_base.specs.Signed.{is_signed, signed, unsigned}
@@ -15,24 +16,18 @@ use Rattle.b3_base.specs.declared.word.Width.TheVariants.{W32, W64}
 use Rattle.b3_meaning.specs.Run.{checked_result}
 use Rattle.b3_meaning.specs.declared.role.Checked.{Checked}
 use Rattle.b3_meaning.specs.declared.role.Checked.TheVariants.{Sum, Difference, Product}
-use Rattle.a64_inst.specs.Registers.{Registers, goes_on, put}
-use Rattle.a64_inst.specs.Step.{step_of}
-use Rattle.a64_inst.specs.Values.{holds}
+use Rattle.a64_inst.specs.Registers.{Registers, put}
 use Rattle.a64_inst.specs.declared.inst.Inst.{Inst}
-use Rattle.a64_inst.specs.declared.inst.Inst.TheVariants.{Break}
 use Rattle.a64_inst.specs.declared.item.Item.{Item}
-use Rattle.a64_inst.specs.declared.item.Item.TheVariants.{Label, Mark, Plain}
 use Rattle.a64_checked.specs.Checks.{comparing, making, passing}
-use Rattle.a64_checked.specs.Exact.{Checks, RunTo, StepsTo, exact, with_pc}
+use Rattle.a64_checked.specs.Exact.{RunTo, StepsTo, exact}
 use Rattle.a64_checked.proofs.Exact.{checks_exact}
 use Rattle.air_ir.specs.Blocks as air
-use Rattle.air_ir.specs.Forms.{AllFit, AtSite, BitOf, Fits, HasSite, IsHome, NoImmediate, OfSum, OneIs, Result, SiteOperands, Word, home, listed, test_takes, two_homes}
-use Rattle.air_ir.specs.Kinds.{ChecksResult, kind_of}
+use Rattle.air_ir.specs.Forms.{AllFit, AtSite, BitOf, Fits, NoImmediate, OfSum, OneIs, Result, SiteOperands, Word, home, listed, test_takes, two_homes, HasSite}
 use Rattle.air_ir.specs.Meaning.{checks, checks_result, ends, gives, meaning, operation, width_of}
-use Rattle.air_ir.specs.Operands.{Holds, Homes, Read, Target, and_word, put_all, targets, word_of, words}
-use Rattle.air_ir.specs.Steps.{Goes, State, Undefined, step}
+use Rattle.air_ir.specs.Operands.{Holds, Homes, Read, Target, put_all, targets, word_of, words}
+use Rattle.air_ir.specs.Steps.{Goes, State}
 use Rattle.air_ir.specs.Words.{test}
-use Rattle.air_ir.specs.declared.op.AirOp.{AirOp}
 use Rattle.air_ir.specs.declared.op.AirOp.TheVariants as op
 use Rattle.air_ir.specs.declared.op.Test.{Test}
 use Rattle.air_ir.specs.declared.op.Test.TheVariants.{Compare, NonZero, Bit}
@@ -41,44 +36,44 @@ use Rattle.air_ir.specs.declared.operand.Home.{Home}
 use Rattle.air_ir.specs.declared.operand.Operand.{Operand}
 use Rattle.air_ir.specs.declared.operand.Role.TheVariants.{Use}
 use Rattle.air_ir.specs.declared.procedure.AirInst.{AirInst}
-use Rattle.air_frame.specs.Frames.{IsFrameOf}
 use Rattle.a64_layout.specs.Layout.{place, position_of}
 use Rattle.a64_layout.specs.Machine.{Machine, moved_to}
 use Rattle.a64_run.specs.Machine.{touched}
 use Rattle.a64_code.specs.declared.source.Source.{Source}
 use Rattle.a64_code.specs.declared.source.Source.TheVariants.{InReg, Constant}
-use Rattle.a64_emit.specs.Code.{branch_item, check_items, checked_items, compared, fetch, fetch_checked, fetch_tested, guarded, make_checked, put_result, result_at, result_reg, source_at, source_of, test_count, width_at}
+use Rattle.a64_emit.specs.Code.{branch_item, check_items, checked_items, compared, fetch, fetch_tested, guarded, put_result, result_at, result_reg, source_at, source_of, test_count, width_at}
 use Rattle.a64_code.specs.Computing.{reg_of}
 use Rattle.a64_emit.specs.Emitted.{log_of}
 use Rattle.a64_emit.specs.Made.{exit_site}
 use Rattle.a64_code.specs.Places.{plains}
 use Rattle.a64_emit.specs.Related.{IsRelated}
-use Rattle.a64_emit.specs.Setting.{IsSet, Setting}
+use Rattle.a64_emit.specs.Setting.{Setting, IsSet}
 use Rattle.a64_emit.proofs.AirSteps.{IsWritten, step_lost, targets_result, words_use, written_home}
 use Rattle.a64_emit.proofs.BranchEnds.{Readied, bit_goes, compare_goes, compare_readied, home_register, one_readied, one_there, two_there as compare_there, word_home, word_summed, zero_goes}
 use Rattle.a64_emit.proofs.Branching.{Goes as TestGoes, alike_related}
 use Rattle.a64_emit.proofs.CheckParts.{CheckParts, check_reads, check_writes, result_parts, test_parts}
 use Rattle.a64_emit.proofs.Exits.{ExitAt}
-use Rattle.a64_emit.proofs.ChecksLead.{Guard, IsPast, between, between_related, exit_stops, goes_past}
+use Rattle.a64_emit.proofs.ChecksLead.{Guard, between, between_related, exit_stops, goes_past}
 use Rattle.a64_emit.proofs.Computes.{ends_by, fetch_two, scratch_17}
 use Rattle.a64_emit.proofs.Endings.{among_plains}
-use Rattle.a64_emit.proofs.Fetching.{Finished, IsPlaceFor, IsUsable, result_most, source_differs}
-use Rattle.a64_emit.proofs.Fits.{grouped, one_result, two_there}
-use Rattle.a64_emit.proofs.Inner.{GoesOn, InstLeads, IsLost, IsOn, IsOver, Stops}
+use Rattle.a64_emit.proofs.Fetching.{IsPlaceFor, IsUsable, result_most, source_differs}
+use Rattle.a64_emit.proofs.Fits.{one_result, two_there}
+use Rattle.a64_emit.proofs.Inner.{InstLeads, IsLost, IsOn, IsOver}
 use Rattle.a64_emit.proofs.Instructions.{AreOpen, home_word}
 use Rattle.a64_emit.proofs.Keeping.{keeps_related, whole_of, IsKept}
 use Rattle.a64_code.proofs.Ops.{Gives, IsRegister}
 use Rattle.a64_emit.proofs.Outside.{put_both, reg_targets, regs_count, step_with}
 use Rattle.a64_emit.proofs.Outward.{Owns, changed_regs}
 use Rattle.a64_emit.proofs.OutwardLeads.{last_operand}
-use Rattle.a64_emit.proofs.Positions.{Among, among_rest, get_behind, length_plains}
-use Rattle.a64_emit.proofs.Shapes.{IsPlain}
+use Rattle.a64_emit.proofs.Positions.{Among, among_rest, length_plains}
 use Rattle.a64_emit.proofs.Storing.{with_home}
-use Rattle.a64_emit.proofs.Straight.{AreAlike, Does, IsWhole, Reaches, ReachesUnlessLost, Runs, does_alike, does_both, leads_on, straight_runs}
+use Rattle.a64_emit.proofs.Straight.{Does, IsWhole, ReachesUnlessLost, Runs, does_alike, does_both, leads_on, straight_runs}
 use Rattle.a64_emit.proofs.Told.{and_some}
 use Rattle.a64_emit.proofs.Words.{does_safely, touches_nothing}
 use Rattle.a64_emit.proofs.Light.{test_length}
 use Rattle.a64_emit.proofs.Weights.{fit_count}
+use Rattle.a64_inst.specs.declared.item.Item.TheVariants.{Label}
+use Rattle.air_frame.specs.Frames.{IsFrameOf}
 
 -- ---- words that are read
 

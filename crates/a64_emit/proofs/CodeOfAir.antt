@@ -1,11 +1,12 @@
 -- The code of a procedure carries out its blocks.
 use Rattle.a64_emit.proofs.Outward.{owns_of}
-use Rattle.std.proofs.Common.{◌≡◌, ℕ, zero, suc, ◌+◌, ◌<◌, ◌≤◌, true, ⊎_elim, List, [], ◌∷◌, ◌++◌, Some, None, refl, sym, ap, ◌∙◌, subst, arith, length, length-append, get_or, append_assoc, append-nil}
+use Rattle.std.proofs.Common.{◌≡◌, ℕ, ◌+◌, ◌<◌, ◌≤◌, true, ⊎_elim, List, [], ◌∷◌, ◌++◌, Some, None, refl, sym, ap, ◌∙◌, subst, arith, length, length-append, get_or, append_assoc, append-nil}
 use Rattle.std.specs.Prelude.{All, slice_get}
 use Rattle.std.proofs.lemmas.Bool.{cases_lt}
 use Rattle.std.proofs.lemmas.Option.{slice_get-get_or, slice_get_within}
 use Rattle.std.specs.List.{flat_map, sum_by}
 use Rattle.std.proofs.lemmas.List.Sums.{sum_by-cons}
+use Rattle.b3_base.proofs.Lists.{get_front}
 use Rattle.b3_base.specs.Observed.{Answer}
 use Rattle.b3_base.specs.Ranged.{IsRangedAnswer}
 use Rattle.stackmap.specs.declared.site.Site.{Site}
@@ -18,7 +19,6 @@ use Rattle.air_ir.specs.declared.frame.Frame.{Frame}
 use Rattle.air_ir.specs.declared.procedure.AirBlock.{AirBlock}
 use Rattle.air_ir.specs.declared.procedure.AirInst.{AirInst}
 use Rattle.air_ir.specs.declared.procedure.AirProc.{AirProc}
-use Rattle.air_frame.specs.Frames.{IsFrameOf}
 use Rattle.a64_layout.specs.Layout.{place, position_of}
 use Rattle.a64_layout.specs.Machine.{Machine}
 use Rattle.a64_layout.proofs.Least.{place_mono}
@@ -28,7 +28,6 @@ use Rattle.a64_emit.specs.Emitted.{Begins, CarriesOut, first_state}
 use Rattle.a64_emit.specs.Made.{block_exit_sites, block_sites, inst_sites, procedure_sites}
 use Rattle.a64_code.specs.Places.{plains, prologue}
 use Rattle.a64_emit.specs.Related.{IsRelated}
-use Rattle.a64_emit.specs.Setting.{IsSet, Setting}
 use Rattle.a64_emit.proofs.Ahead.{words_ahead, terminal_words}
 use Rattle.a64_emit.proofs.BlockEnds.{AtEnd, ahead_of_blocks, terminal_ends}
 use Rattle.a64_emit.proofs.Blocks.{BlockEnds, block_carries, body_ends, entry_carries}
@@ -40,13 +39,10 @@ use Rattle.a64_emit.proofs.Opened.{all_at, operands_open, terminal_usable}
 use Rattle.a64_emit.proofs.Exits.{HaveOwn, exits_stand}
 use Rattle.a64_emit.proofs.Positions.{Among, BlockStands, among_first, among_rest, block_stands, inner_length}
 use Rattle.a64_emit.proofs.Straight.{straight_runs}
+use Rattle.air_frame.specs.Frames.{IsFrameOf}
+use Rattle.a64_emit.specs.Setting.{IsSet, Setting}
 
 -- ---- the parts of a block
-
-front_at : {X : Type 0} (xs ys : List X) (k : ℕ) (x : X) → slice_get xs k ≡ Some x → slice_get (xs ++ ys) k ≡ Some x
-front_at [] ys k x there = absurd cc
-front_at (a ∷ xs) ys zero x there = there
-front_at (a ∷ xs) ys (suc k) x there = front_at xs ys k x there
 
 last_at : {X : Type 0} (xs : List X) (x : X) → slice_get (xs ++ x ∷ []) (length xs) ≡ Some x
 last_at [] x = refl
@@ -111,7 +107,7 @@ module _ (z : Setting) (set : IsSet z) (serves : IsFrameOf z.procedure z.frame) 
   within = slice_get_within z.procedure.blocks b block there
 
   body_at : (j : ℕ) (i : AirInst) → slice_get good.body j ≡ Some i → slice_get block.insts j ≡ Some i
-  body_at j i at = ap (λ xs. slice_get xs j) good.parts ∙ front_at good.body (good.last ∷ []) j i at
+  body_at j i at = ap (λ xs. slice_get xs j) good.parts ∙ get_front good.body (good.last ∷ []) j i at
 
   last_there : slice_get block.insts (length good.body) ≡ Some good.last
   last_there = ap (λ xs. slice_get xs (length good.body)) good.parts ∙ last_at good.body good.last

@@ -1,5 +1,6 @@
 -- Copies of words.
 use Rattle.std.proofs.Common.{◌≡◌, ◌≢◌, ℕ, ◌^◌, ◌<◌, ◌≤◌, ◌⊎◌, true, false, inl, inr, ⊎_elim, List, [], ◌∷◌, ◌++◌, Some, None, refl, sym, ap, ◌∙◌, subst, arith, nat_eq, eq-eqb, eqb-true}
+use Rattle.std.proofs.lemmas.Option.{same_Some}
 use Rattle.std.specs.Prelude.{if◌then◌else◌}
 use Rattle.b3_base.specs.Arithmetic.{low}
 use Rattle.b3_base.specs.Word.{bits}
@@ -19,23 +20,23 @@ use Rattle.air_ir.specs.declared.operand.Home.TheVariants.{Reg, Spill, Tmp}
 use Rattle.air_ir.specs.declared.operand.Operand.{Operand}
 use Rattle.air_ir.specs.declared.operand.Role.TheVariants.{Use}
 use Rattle.air_ir.specs.declared.procedure.AirInst.{AirInst}
-use Rattle.air_frame.specs.Frames.{IsFrameOf}
 use Rattle.a64_emit.specs.Code.{bring, copy_code, inst_code, kept_register, put_result}
 use Rattle.a64_code.specs.Computing.{move_reg}
 use Rattle.a64_code.specs.Places.{above_sp, spill_offset, store_at}
 use Rattle.a64_emit.specs.Related.{Carries, HasFrame, IsRelated}
-use Rattle.a64_emit.specs.Setting.{IsSet, Setting}
+use Rattle.a64_emit.specs.Setting.{Setting, IsSet}
 use Rattle.a64_code.specs.declared.source.Source.TheVariants.{InReg}
 use Rattle.a64_emit.proofs.AirSteps.{IsWritten, copies_word, step_gives, step_lost, targets_result, targets_use, words_result, words_use}
 use Rattle.a64_emit.proofs.Computes.{InstRuns, le_more, result_small, scratch_16, scratch_17}
 use Rattle.a64_emit.proofs.Fetching.{IsPlaceFor, IsUsable, allocatable_most, allocatable_other, kept_differs, result_most, spill_loads, spill_stored}
-use Rattle.a64_emit.proofs.Keeping.{KeepsAll, reads_carried, some_is, whole_of}
+use Rattle.a64_emit.proofs.Keeping.{KeepsAll, reads_carried, whole_of}
 use Rattle.a64_emit.proofs.Moves.{constant_puts}
 use Rattle.a64_code.proofs.Ops.{move_is}
 use Rattle.a64_emit.proofs.Shapes.{move_plain}
 use Rattle.a64_emit.proofs.Storing.{reg_related, with_home}
 use Rattle.a64_emit.proofs.Straight.{Does, does_both, does_none}
 use Rattle.a64_emit.proofs.Words.{Puts, puts_by_one, puts_one}
+use Rattle.air_frame.specs.Frames.{IsFrameOf}
 
 -- a constant is a word of its width
 abbrev pub IsConstantOf : Width → Arg → Type 0
@@ -140,7 +141,7 @@ module _ (z : Setting) (set : IsSet z) (serves : IsFrameOf z.procedure z.frame) 
   brings s c width reg (Imm word) x rel take fits le other e = record {
     word = word;
     puts = constant_puts z c width reg word (whole_of z set serves c rel.frame) rel.frame.words le other fits;
-    is = some_is (low width word) x e;
+    is = same_Some (low width word) x e;
   }
   brings s c width reg (Addr base offset) x rel take fits le other e = absurd (usable_other z s c (Addr base offset) take (λ f. absurd cc))
   brings s c width reg (Index base index shift) x rel take fits le other e = absurd (usable_other z s c (Index base index shift) take (λ f. absurd cc))

@@ -1,9 +1,10 @@
 -- The prologue leads from the start to the label of the entry, with the frame there.
-use Rattle.std.proofs.Common.{◌≡◌, ◌≢◌, ℕ, negsuc, zero, suc, ◌+◌, ◌-◌, ◌*◌, ◌/◌, ◌%◌, ◌^◌, ◌<◌, ◌≤◌, min, Bool, true, false, ⊎_elim, List, [], ◌∷◌, ◌++◌, Option, Some, None, length, get_or, refl, sym, ap, ◌∙◌, subst, arith}
+use Rattle.std.proofs.Common.{◌≡◌, ◌≢◌, ℕ, negsuc, zero, suc, ◌+◌, ◌-◌, ◌*◌, ◌/◌, ◌%◌, ◌^◌, ◌<◌, ◌≤◌, min, Bool, true, false, ⊎_elim, List, [], ◌∷◌, ◌++◌, Some, None, length, get_or, refl, sym, ap, ◌∙◌, subst, arith}
 use Rattle.std.specs.Prelude.{All, AllPairs, Contains, IfSome, IsSomeAnd, is_some, map, nat_eq, nat_le, nat_lt, ◌&&◌, if◌then◌else◌}
 use Rattle.std.proofs.lemmas.Bool.Decides.{nat_tests}
 use Rattle.std.proofs.lemmas.Int.{ints}
 use Rattle.std.proofs.lemmas.List.Elements.{All-head, All-tail}
+use Rattle.std.proofs.lemmas.Option.{same_Some}
 use Rattle.b3_base.specs.Memory.{AreApart, AreBytes, byte_address, is_mapped, read_word, write_word}
 use Rattle.b3_base.specs.Arithmetic.{low}
 use Rattle.b3_base.specs.Observed.{Answer, Memory}
@@ -15,7 +16,9 @@ use Rattle.air_frame.specs.Frames.{IsFrameOf}
 use Rattle.b3_base.specs.declared.word.Width.TheVariants.{W64}
 use Rattle.b3_base.proofs.MemoryLaws.{is_mapped_all, is_some-read_word, write_word-AreBytes}
 use Rattle.b3_base.proofs.WordLaws.{is_mapped_after_write, read-write_apart, read-write_same, write_word_mapped}
-use Rattle.exit_table.specs.Good.{AreDisjoint, IsGoodFrame, IsGoodRep, IsGoodSaved, IsWordOffset, saved_span, slot_span}
+use Rattle.b3_base.proofs.Widths.{whole_word}
+use Rattle.b3_base.proofs.Options.{some_of, none_of}
+use Rattle.exit_table.specs.Good.{AreDisjoint, IsGoodRep, IsGoodSaved, IsWordOffset, saved_span, slot_span, IsGoodFrame}
 use Rattle.stackmap.specs.declared.site.SavedRow.{SavedRow}
 use Rattle.a64_inst.specs.Step.{AreWords, Registers, Stepped, step_of, goes_on, put, moved_sp, add_sub_imm, store_pair}
 use Rattle.a64_inst.specs.declared.inst.Inst.TheVariants.{AddSubImm, PairSp}
@@ -24,9 +27,8 @@ use Rattle.a64_run.specs.Placement.{argument_words, entry_memory, frame_pointer_
 use Rattle.a64_code.specs.Places.{above_sp, lower_sp, prologue, saves, store_at, unless_zero}
 use Rattle.a64_emit.specs.Related.{Carries, HasFrame, IsRelated, word_below}
 use Rattle.a64_emit.specs.Setting.{IsSet, Setting, row}
-use Rattle.a64_emit.specs.Emitted.{Begins, first_state}
+use Rattle.a64_emit.specs.Emitted.{first_state, Begins}
 use Rattle.a64_emit.proofs.FrameWords.{IsHiddenWord, apart_from_slots, hidden_store, hidden_word, not_in_slot, pairs_behind, pairs_head, pairs_without, word_mapped, words_apart}
-use Rattle.a64_emit.proofs.Keeping.{none_byte}
 use Rattle.a64_emit.proofs.Straight.{Does, DoesOne, IsWhole, does_both, does_first, does_none, does_one}
 use Rattle.a64_emit.proofs.Words.{IsPlaced, does_safely, put_other, put_same, put_words, puts_one, store_puts, touches_nothing, whole_same, with_memory, with_reg}
 
@@ -119,9 +121,6 @@ same_saved : (z : Setting) (c : Machine) (x y : ℕ → ℕ) (rows : List SavedR
 same_saved z c x y [] same are saved = tt
 same_saved z c x y (s ∷ rows) same are saved = (saved.0 ∙ ap Some (same s.reg.0 are.0.low), same_saved z c x y rows same are.3 saved.1)
 
-small_word : (w : ℕ) → w < 2 ^ 64 → w % 2 ^ 64 ≡ w
-small_word w small = omega arith
-
 module _ (z : Setting) (set : IsSet z) (good : IsGoodFrame (row z)) where
   -- SP is at the bottom of the frame, which is whole
   pub record IsLow (c : Machine) : Type 0 where
@@ -192,7 +191,7 @@ module _ (z : Setting) (set : IsSet z) (good : IsGoodFrame (row z)) where
             ∙ read-write_apart c.memory other 8 at 8 (c.registers.x s.reg.0) differ.0;
         saved = (
           more.other at are.2 ∙ ap (λ (m : Memory). read_word m at 8) first.memory
-              ∙ read-write_same c.memory at 8 (c.registers.x s.reg.0) (omega arith) ∙ ap Some (small_word (c.registers.x s.reg.0) (low.words.x s.reg.0)),
+              ∙ read-write_same c.memory at 8 (c.registers.x s.reg.0) (omega arith) ∙ ap Some (whole_word (c.registers.x s.reg.0) (low.words.x s.reg.0)),
           same_saved z more.after first.after.registers.x c.registers.x rows (λ r ge. first.others r (λ e. omega arith)) are.3 more.saved,
         );
       }
@@ -224,9 +223,6 @@ low_byte sp i le small lt = omega arith
 
 top_byte : (sp i : ℕ) → 16 ≤ sp → sp < 2 ^ 64 → i < 8 → sp - 16 ≤ byte_address (sp - 16 + 8) i
 top_byte sp i le small lt = omega arith
-
-same_pair : (a b : ℕ × ℕ) → Some a ≡ Some b → a ≡ b
-same_pair a b e = cc
 
 min_right : (a b q : ℕ) → b ≤ q → min a b ≤ q
 min_right a b q le = omega arith
@@ -384,7 +380,7 @@ module _ (z : Setting) (set : IsSet z) (good : IsGoodFrame (row z)) (c : Machine
     does = does_first_one;
     safe = λ pc. record {
       there = λ at n i some lt is.
-          let both : (frame_pointer_of z.entry, 16) ≡ (at, n) = same_pair (frame_pointer_of z.entry, 16) (at, n) (ap (λ a. Some (a, 16)) (sym down) ∙ some) in
+          let both : (frame_pointer_of z.entry, 16) ≡ (at, n) = same_Some (frame_pointer_of z.entry, 16) (at, n) (ap (λ a. Some (a, 16)) (sym down) ∙ some) in
           let at_is : frame_pointer_of z.entry ≡ at = ap (λ (p : ℕ × ℕ). p.0) both in
           let count : 16 ≡ n = ap (λ (p : ℕ × ℕ). p.1) both in
           let above : frame_pointer_of z.entry ≤ byte_address at i =
@@ -444,13 +440,13 @@ module _ (z : Setting) (set : IsSet z) (good : IsGoodFrame (row z)) (c : Machine
       ∙ read-write_apart (write_word c.memory (frame_pointer_of z.entry) 8 (z.entry.registers 29)) (frame_pointer_of z.entry) 8 (frame_pointer_of z.entry + 8) 8
       (z.entry.registers 30) (two_apart z.entry.sp some_room set.ranged.sp)
       ∙ read-write_same c.memory (frame_pointer_of z.entry) 8 (z.entry.registers 29) (omega arith)
-      ∙ ap Some (small_word (z.entry.registers 29) (set.ranged.registers 29))
+      ∙ ap Some (whole_word (z.entry.registers 29) (set.ranged.registers 29))
 
   first_link : read_word (pushed z c.memory) (frame_pointer_of z.entry + 8) 8 ≡ Some (z.entry.registers 30)
   first_link =
       read-write_same (write_word c.memory (frame_pointer_of z.entry) 8 (z.entry.registers 29)) (frame_pointer_of z.entry + 8) 8 (z.entry.registers 30)
       (omega arith)
-      ∙ ap Some (small_word (z.entry.registers 30) (set.ranged.registers 30))
+      ∙ ap Some (whole_word (z.entry.registers 30) (set.ranged.registers 30))
 
   -- ---- mov x29, sp, and SP falls
 
@@ -508,7 +504,7 @@ module _ (z : Setting) (set : IsSet z) (good : IsGoodFrame (row z)) (c : Machine
           bytes = last.bytes;
           whole = λ address is. last.keeps address ∙ low.whole address is;
           mapped = λ address is. last.keeps address ∙ first_keeps address ∙ rw begins.memory (mapped_too address is);
-          unmapped = λ address none out. none_byte (last.after.memory address)
+          unmapped = λ address none out. none_of (last.after.memory address)
               (last.keeps address ∙ first_keeps address ∙ rw begins.memory (rw out none));
           caller = last.other (frame_pointer_of z.entry - 0) (caller_other z set good z.frame.saved good.saved) ∙ first_caller;
           link = last.other (frame_pointer_of z.entry + 8) (link_other z set good z.frame.saved good.saved) ∙ first_link;
@@ -532,10 +528,6 @@ carries_argument z arguments r word same is =
       | false ↦ λ many. tt
     ] refl
 
-some_word : (o : Option ℕ) → is_some o ≡ true → (word : ℕ) × (o ≡ Some word)
-some_word (Some word) some = (word, refl)
-some_word None some = cc
-
 no_scratch : (r : Register) → IsAllocatable r → (r.0 ≢ 15) × (r.0 ≢ 29)
 no_scratch r is = ⊎_elim (λ (le : r.0 ≤ 14). (λ e. omega arith, λ e. omega arith)) (λ (between : (19 ≤ r.0) × (r.0 ≤ 28)). let lo = between.0 in
     let hi = between.1 in (λ e. omega arith, λ e. omega arith)) is
@@ -553,7 +545,7 @@ entered_related z set serves answers c entered = record {
       let some : is_some (word_below z entered.after offset) ≡ true =
       is_some-read_word entered.after.memory (frame_pointer_of z.entry - offset) 8
       ∙ word_mapped z set serves.good entered.after offset is_word entered.frame.whole in
-      let word = some_word (word_below z entered.after offset) some in
+      let word = some_of (word_below z entered.after offset) some in
       (word.0, word.1, tt);
   memory = set.memory ∙ sym entered.seen;
 }

@@ -1,5 +1,6 @@
 -- Operands are fetched, and a result is put in its place.
 use Rattle.std.proofs.Common.{◌≡◌, ◌≢◌, ℕ, ◌^◌, ◌<◌, ◌≤◌, true, ⊎_elim, List, [], ◌∷◌, Some, refl, ap, ◌∙◌, arith}
+use Rattle.std.proofs.lemmas.Option.{same_Some}
 use Rattle.b3_base.specs.Arithmetic.{low}
 use Rattle.b3_base.specs.declared.word.Width.{Width}
 use Rattle.b3_ir.specs.declared.value.Reg.{Reg as Register}
@@ -12,21 +13,21 @@ use Rattle.air_ir.specs.declared.operand.Arg.{Arg}
 use Rattle.air_ir.specs.declared.operand.Arg.TheVariants.{At, Imm, Addr, Index, FrameSlot}
 use Rattle.air_ir.specs.declared.operand.Home.{Home}
 use Rattle.air_ir.specs.declared.operand.Home.TheVariants.{Reg, Spill, Tmp}
-use Rattle.air_frame.specs.Frames.{IsFrameOf}
 use Rattle.air_frame.specs.Needs.{names, writes}
 use Rattle.a64_layout.specs.Machine.{Machine}
 use Rattle.a64_emit.specs.Code.{fetch, put_result, result_reg, source_of}
 use Rattle.a64_code.specs.Places.{above_sp, load_at, spill_offset, store_at}
 use Rattle.a64_emit.specs.Related.{IsRelated}
-use Rattle.a64_emit.specs.Setting.{IsSet, Setting}
+use Rattle.a64_emit.specs.Setting.{Setting, IsSet}
 use Rattle.a64_code.specs.declared.source.Source.{Source}
 use Rattle.a64_code.specs.declared.source.Source.TheVariants.{InReg, Constant}
 use Rattle.a64_emit.proofs.FrameWords.{word_mapped}
-use Rattle.a64_emit.proofs.Keeping.{IsKept, KeepsAll, keeps_related, placed, reads_carried, some_is, spill_stands, whole_of, word-small}
+use Rattle.a64_emit.proofs.Keeping.{IsKept, KeepsAll, keeps_related, placed, reads_carried, spill_stands, whole_of, word-small}
 use Rattle.a64_code.proofs.Ops.{Gives}
 use Rattle.a64_emit.proofs.Storing.{reg_related, spill_related, with_home}
 use Rattle.a64_emit.proofs.Straight.{Does, DoesOne, does_first, does_none, does_one}
 use Rattle.a64_emit.proofs.Words.{Puts, load_puts, put_other, put_same, put_words, store_puts, with_reg}
+use Rattle.air_frame.specs.Frames.{IsFrameOf}
 
 -- an argument that may be fetched: a register that values may stand in, a spill place that is named, or a constant
 abbrev pub IsUsable : Setting → Arg → Type 0
@@ -145,7 +146,7 @@ module _ (z : Setting) (set : IsSet z) (serves : IsFrameOf z.procedure z.frame) 
         (omega (arith, is.1), ap (low width) load.1.put ∙ load.2),
       )
   fetch_word s c scratch (At (Tmp n)) width w rel usable is e = absurd usable
-  fetch_word s c scratch (Imm word) width w rel usable is e = (none_fetched c scratch rel.frame.words, some_is _ w e)
+  fetch_word s c scratch (Imm word) width w rel usable is e = (none_fetched c scratch rel.frame.words, same_Some _ w e)
   fetch_word s c scratch (Addr base offset) width w rel usable is e = absurd usable
   fetch_word s c scratch (Index base index shift) width w rel usable is e = absurd usable
   fetch_word s c scratch (FrameSlot n) width w rel usable is e = absurd usable

@@ -1,17 +1,18 @@
 -- The words of a frame: where their bytes stand, and that a store to one of them isn't seen.
 use mathlib.Core.Path.{fun_ext}
-use Rattle.std.proofs.Common.{◌≡◌, ◌≢◌, ℕ, suc, ◌+◌, ◌-◌, ◌^◌, ◌<◌, ◌≤◌, ◌⊎◌, inl, inr, ⊎_elim, Bool, true, false, List, [], ◌∷◌, ◌++◌, None, refl, ap, ◌∙◌, subst, arith}
+use Rattle.std.proofs.Common.{◌≡◌, ◌≢◌, ℕ, suc, ◌+◌, ◌-◌, ◌^◌, ◌<◌, ◌≤◌, ◌⊎◌, inl, inr, ⊎_elim, true, false, List, [], ◌∷◌, ◌++◌, None, refl, ap, ◌∙◌, subst, arith}
 use Rattle.std.specs.Prelude.{All, AllPairs, Contains, is_some, map, ◌||◌, if◌then◌else◌}
 use Rattle.std.specs.List.{list_any}
 use Rattle.std.proofs.lemmas.Bool.Decides.{nat_tests}
 use Rattle.std.proofs.lemmas.List.Kept.{AllPairs-cons}
 use Rattle.std.proofs.lemmas.List.Elements.{All-cons, All-head, All-nil, All-tail, Contains-append_right}
+use Rattle.std.proofs.lemmas.Bool.{or_from}
 use Rattle.b3_base.specs.Memory.{AreApart, byte_address, is_mapped, write_word}
 use Rattle.b3_base.specs.Observed.{Memory, MachineStart}
 use Rattle.b3_base.specs.declared.word.Width.TheVariants.{W64}
 use Rattle.b3_base.proofs.MemoryLaws.{is_mapped_all}
 use Rattle.b3_base.proofs.WordLaws.{write_word_other}
-use Rattle.exit_table.specs.Good.{AreDisjoint, IsGoodFrame, IsGoodSlot, IsWordOffset, Span, slot_span, word_span}
+use Rattle.exit_table.specs.Good.{AreDisjoint, IsGoodSlot, IsWordOffset, Span, slot_span, word_span, IsGoodFrame}
 use Rattle.exit_table.specs.declared.tables.FrameRow.{FrameRow}
 use Rattle.stackmap.specs.declared.site.SlotRow.{SlotRow}
 use Rattle.a64_layout.specs.Machine.{Machine}
@@ -39,9 +40,6 @@ byte_above : (sp offset size q : ℕ) → size ≤ offset → offset + 16 ≤ sp
 byte_above sp offset size q ends room above = grind (arith, nat_tests)
 
 -- ---- what is not seen
-
-pub or_false : (a b : Bool) → a ≡ false → b ≡ false → (a || b) ≡ false
-or_false a b e f = rw (e, f) refl
 
 pub not_some : (z : Setting) → IsSet z → (q : ℕ) → in_frame (row z) z.entry q ≡ true → is_some (z.entry.memory q) ≡ false
 not_some z set q inside =
@@ -79,7 +77,7 @@ pub hidden_store : (z : Setting) → IsSet z → (memory : Memory) (at w : ℕ) 
     → visible (row z) z.entry (write_word memory at 8 w) ≡ visible (row z) z.entry memory
 hidden_store z set memory at w hidden =
     fun_ext (hidden_at (row z) z.entry memory at w (λ i lt.
-    or_false (is_some (z.entry.memory (byte_address at i))) (in_slot (row z) z.entry (byte_address at i))
+    or_from (is_some (z.entry.memory (byte_address at i))) (in_slot (row z) z.entry (byte_address at i))
     (not_some z set (byte_address at i) (hidden i lt).0) (hidden i lt).1))
 
 -- ---- words that are apart
@@ -143,7 +141,7 @@ module _ (z : Setting) (set : IsSet z) (good : IsGoodFrame (row z)) where
   in_no_slot (slot ∷ slots) offset i goods aparts word lt =
       let is_good = All-head (IsGoodSlot z.frame.bytes) slot slots goods in
       let apart = All-head (AreDisjoint (word_span W64 offset)) (slot_span slot) (map slot_span slots) aparts in
-      or_false (is_within (slot_address z.entry slot) slot.size (byte_address (frame_pointer_of z.entry - offset) i))
+      or_from (is_within (slot_address z.entry slot) slot.size (byte_address (frame_pointer_of z.entry - offset) i))
       (list_any (λ slot. is_within (slot_address z.entry slot) slot.size (byte_address (frame_pointer_of z.entry - offset) i)) slots)
       (byte_in_no_slot z.entry.sp z.frame.bytes slot.offset slot.size offset i set.ranged.sp set.room is_good.ends is_good.begins word.ends word.begins
       apart lt)
@@ -157,7 +155,7 @@ module _ (z : Setting) (set : IsSet z) (good : IsGoodFrame (row z)) where
       let is_good = All-head (IsGoodSlot z.frame.bytes) slot slots goods in
       let room = set.room in
       let begins = is_good.begins in
-      or_false (is_within (slot_address z.entry slot) slot.size q) (list_any (λ slot. is_within (slot_address z.entry slot) slot.size q) slots)
+      or_from (is_within (slot_address z.entry slot) slot.size q) (list_any (λ slot. is_within (slot_address z.entry slot) slot.size q) slots)
       (byte_above z.entry.sp slot.offset slot.size q is_good.ends (omega arith) above)
       (above_slots slots q (All-tail (IsGoodSlot z.frame.bytes) slot slots goods) above)
 

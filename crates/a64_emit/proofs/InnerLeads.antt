@@ -5,14 +5,14 @@ use Rattle.b3_meaning.specs.declared.role.Checked.TheVariants.{Sum, Difference, 
 use Rattle.b3_meaning.specs.declared.role.Checked.{Checked}
 use Rattle.a64_emit.proofs.SitesMade.{check_op, result_site}
 use Rattle.a64_inst.specs.declared.item.Item.TheVariants.{Label}
-use Rattle.std.proofs.lemmas.Bool.Decides.{nat_tests}
 use Rattle.stackmap.specs.declared.site.SiteKind.TheVariants as site_kind
 use Rattle.stackmap.specs.declared.site.Returns.{Returns}
 use Rattle.a64_emit.proofs.Outward.{Owns}
 use Rattle.a64_emit.proofs.OutwardLeads.{call_leads, patch_leads}
 use Rattle.a64_emit.proofs.Inner.{InstLeads, access_leads, runs_leads, straight_items, items_of_load, items_of_store, code_of_load, code_of_store, load_site, store_site, first_site}
-use Rattle.std.proofs.Common.{◌≡◌, ℕ, ◌+◌, ◌<◌, Bool, true, List, [], ◌∷◌, None, length, refl, sym, ap, ◌∙◌, subst, arith, Some}
-use Rattle.std.specs.Prelude.{All, nat_lt, slice_get}
+use Rattle.std.proofs.Common.{◌≡◌, ℕ, ◌+◌, ◌<◌, Bool, true, List, [], ◌∷◌, None, length, refl, sym, ap, ◌∙◌, subst, Some}
+use Rattle.std.proofs.lemmas.Bool.{ltb-true}
+use Rattle.std.specs.Prelude.{All, slice_get}
 use Rattle.b3_base.specs.Ranged.{IsRangedAnswer}
 use Rattle.a64_inst.specs.declared.item.Item.{Item}
 use Rattle.air_ir.specs.Forms.{HasOperands, HasSite, OfCall}
@@ -23,7 +23,6 @@ use Rattle.air_ir.specs.declared.op.AirOp.{AirOp}
 use Rattle.air_ir.specs.declared.op.AirOp.TheVariants as op
 use Rattle.air_ir.specs.declared.operand.Operand.{Operand}
 use Rattle.air_ir.specs.declared.procedure.AirInst.{AirInst}
-use Rattle.air_frame.specs.Frames.{IsFrameOf}
 use Rattle.a64_layout.specs.Layout.{place, position_of}
 use Rattle.a64_layout.specs.Machine.{Machine}
 use Rattle.a64_emit.specs.Built.{is_built}
@@ -32,11 +31,12 @@ use Rattle.stackmap.specs.declared.site.Site.{Site}
 use Rattle.a64_emit.specs.Made.{exit_by, inst_sites, sites_by, trap_site, outward_site, patch_size, exit_site}
 use Rattle.a64_code.specs.Places.{plains}
 use Rattle.a64_emit.specs.Related.{IsRelated}
-use Rattle.a64_emit.specs.Setting.{IsSet, Setting}
+use Rattle.a64_emit.specs.Setting.{Setting, IsSet}
 use Rattle.a64_emit.proofs.Instructions.{AreOpen, inst_runs, is_load, is_store_op, is_straight, load_by, store_by}
 use Rattle.a64_emit.proofs.MarkedRuns.{insts_plains, plains_passed}
 use Rattle.a64_emit.proofs.Exits.{ExitAt, HasOwn}
 use Rattle.a64_emit.proofs.Positions.{Among}
+use Rattle.air_frame.specs.Frames.{IsFrameOf}
 
 -- an instruction that may stand before the last one
 pub record IsInner (z : Setting) (i : AirInst) : Type 0 where
@@ -45,9 +45,6 @@ pub record IsInner (z : Setting) (i : AirInst) : Type 0 where
   pub operands : HasOperands z.procedure.returns i.op i.operands
   pub opened : AreOpen z i.operands
   pub owns : Owns z.procedure i
-
-lt_of : (a b : ℕ) → nat_lt a b ≡ true → a < b
-lt_of a b e = grind (arith, nat_tests)
 
 pub data Shape (o : AirOp) : Type 0 where
   IsALoad : (is : is_load o ≡ true) → Shape o
@@ -74,7 +71,7 @@ shape_of op.CheckAdd traps built inner = IsAChecked Sum refl
 shape_of op.CheckSub traps built inner = IsAChecked Difference refl
 shape_of op.CheckMul traps built inner = IsAChecked Product refl
 shape_of (op.Call typed) traps built inner = IsACall typed refl
-shape_of (op.Patch size typed) traps built inner = IsAPatch size typed refl (lt_of 0 size built)
+shape_of (op.Patch size typed) traps built inner = IsAPatch size typed refl (ltb-true 0 size built)
 shape_of (op.BranchIf test) traps built inner = absurd cc
 shape_of op.Jump traps built inner = absurd cc
 shape_of (op.Switch cases) traps built inner = absurd cc

@@ -1,13 +1,14 @@
 -- How the relation of a run of Air and the machine is kept.
-use Rattle.std.proofs.Common.{◌≡◌, ℕ, ◌+◌, ◌-◌, ◌*◌, ◌%◌, ◌^◌, ◌<◌, ◌≤◌, ◌⊎◌, false, true, inl, inr, ⊎_elim, Option, Some, None, refl, sym, ap, ◌∙◌, subst, arith}
+use Rattle.std.proofs.Common.{◌≡◌, ℕ, ◌+◌, ◌-◌, ◌*◌, ◌%◌, ◌^◌, ◌<◌, ◌≤◌, ◌⊎◌, true, inl, inr, ⊎_elim, Option, Some, None, refl, sym, ap, ◌∙◌, subst, arith}
 use Rattle.std.specs.Prelude.{is_some, IfSome, IsSomeAnd, slice_get}
-use Rattle.std.proofs.lemmas.Option.{get_or_from_slice_get}
+use Rattle.std.proofs.lemmas.Option.{get_or_from_slice_get, same_Some}
 use Rattle.b3_base.specs.Arithmetic.{low}
 use Rattle.b3_base.specs.Memory.{AreBytes, read_word}
 use Rattle.b3_base.specs.Observed.{Memory}
 use Rattle.b3_base.specs.declared.word.Width.{Width}
 use Rattle.b3_base.specs.declared.word.Width.TheVariants.{W32, W64}
 use Rattle.b3_base.proofs.WordLaws.{read_word-lt}
+use Rattle.b3_base.proofs.Options.{none_of, some_of}
 use Rattle.b3_ir.specs.declared.value.Reg.{Reg as Register}
 use Rattle.stackmap.specs.Rules.{IsAllocatable}
 use Rattle.stackmap.specs.declared.site.Rep.TheVariants.{Slot}
@@ -16,20 +17,17 @@ use Rattle.a64_inst.specs.Step.{AreWords}
 use Rattle.air_ir.specs.Operands.{Held, Empty, Holds, read}
 use Rattle.air_ir.specs.Steps.{State}
 use Rattle.air_ir.specs.declared.operand.Home.TheVariants.{Reg}
-use Rattle.air_frame.specs.Frames.{IsFrameOf}
 use Rattle.air_frame.specs.Needs.{names}
 use Rattle.a64_layout.specs.Machine.{Machine}
 use Rattle.a64_run.specs.Placement.{frame_pointer_of, visible}
 use Rattle.a64_code.specs.Places.{spill_offset}
 use Rattle.a64_emit.specs.Related.{Carries, HasFrame, IsRelated, word_below}
-use Rattle.a64_emit.specs.Setting.{IsSet, Setting, row}
+use Rattle.a64_emit.specs.Setting.{Setting, row, IsSet}
 use Rattle.a64_emit.proofs.Straight.{IsWhole}
 use Rattle.a64_emit.proofs.Words.{IsPlaced}
+use Rattle.air_frame.specs.Frames.{IsFrameOf}
 
 -- ---- what homes carry
-
-pub some_is : (x y : ℕ) → Some x ≡ Some y → x ≡ y
-some_is x y e = cc
 
 low_low : (x y w : ℕ) → x % 2 ^ 64 ≡ y % 2 ^ 64 → y % 2 ^ 32 ≡ w → x % 2 ^ 32 ≡ w
 low_low x y w e f = omega arith
@@ -39,10 +37,10 @@ pub reads_carried : (width : Width) (held : Held) (word w : ℕ) → Carries hel
 unfolding read
 reads_carried W32 Empty word w carries e = absurd cc
 reads_carried W64 Empty word w carries e = absurd cc
-reads_carried W32 (Holds W32 held) word w carries e = carries ∙ some_is _ w e
-reads_carried W32 (Holds W64 held) word w carries e = low_low word held w carries (some_is _ w e)
+reads_carried W32 (Holds W32 held) word w carries e = carries ∙ same_Some _ w e
+reads_carried W32 (Holds W64 held) word w carries e = low_low word held w carries (same_Some _ w e)
 reads_carried W64 (Holds W32 held) word w carries e = absurd cc
-reads_carried W64 (Holds W64 held) word w carries e = carries ∙ some_is _ w e
+reads_carried W64 (Holds W64 held) word w carries e = carries ∙ same_Some _ w e
 
 -- ---- registers that may change
 
@@ -85,22 +83,13 @@ keeps_related z s c d k rel = record {
   memory = rel.memory ∙ ap (visible (row z) z.entry) (sym k.memory);
 }
 
--- a byte that isn't there is none
-pub none_byte : (o : Option ℕ) → is_some o ≡ false → o ≡ None
-none_byte None e = refl
-none_byte (Some byte) e = absurd cc
-
 -- nor is it where the same bytes are there
 pub none_still : (o p : Option ℕ) → is_some p ≡ is_some o → o ≡ None → p ≡ None
-none_still o p same none = none_byte p (same ∙ ap is_some none)
+none_still o p same none = none_of p (same ∙ ap is_some none)
 
 -- a word of the machine is one of 64 bits
 pub word-small : (z : Setting) (c : Machine) (offset w : ℕ) → HasFrame z c → word_below z c offset ≡ Some w → w < 2 ^ 64
 word-small z c offset w f there = subst (λ o. IfSome o (λ v. v < 2 ^ (8 * 8))) there (read_word-lt c.memory (frame_pointer_of z.entry - offset) 8 f.bytes)
-
-some_byte : (o : Option ℕ) → is_some o ≡ true → (byte : ℕ) × (o ≡ Some byte)
-some_byte None e = absurd cc
-some_byte (Some byte) e = (byte, refl)
 
 still_aligned : (sp bytes : ℕ) → sp % 16 ≡ 0 → bytes % 16 ≡ 0 → bytes ≤ sp → (sp - bytes) % 16 ≡ 0
 still_aligned sp bytes a b le = omega arith
@@ -112,7 +101,7 @@ module _ (z : Setting) (set : IsSet z) (serves : IsFrameOf z.procedure z.frame) 
   pub whole_of : (c : Machine) → HasFrame z c → IsWhole z c
   whole_of c f = record {
     aligned = rw f.sp (still_aligned z.entry.sp z.frame.bytes set.aligned serves.good.aligned set.room);
-    whole = λ address inside. some_byte (c.memory address) (f.whole address inside);
+    whole = λ address inside. some_of (c.memory address) (f.whole address inside);
   }
 
   pub placed : (c : Machine) (offset : ℕ) → HasFrame z c → IsWordOffset z.frame.bytes offset → IsPlaced z c offset

@@ -1,11 +1,11 @@
 -- Emitted code is well labelled.
 use Rattle.std.proofs.Common.{◌≡◌, ℕ, zero, suc, ◌+◌, ◌-◌, ◌/◌, ◌%◌, ◌^◌, ◌<◌, ◌≤◌, ◌⊎◌, Bool, true, false, ⊎_elim, List, [], ◌∷◌, ◌++◌, length, get_or, refl, sym, subst, arith}
 use Rattle.std.specs.Prelude.{All, nat_eq, nat_le, nat_lt, if◌then◌else◌, sum_by}
-use Rattle.std.proofs.lemmas.Bool.{cases_lt}
-use Rattle.std.proofs.lemmas.Bool.Decides.{nat_tests}
+use Rattle.std.proofs.lemmas.Bool.{cases_lt, leb-true}
 use Rattle.std.proofs.lemmas.Int.{ints}
 use Rattle.std.proofs.lemmas.List.Elements.{All-cons, All-head, All-nil, All-tail}
 use Rattle.std.proofs.lemmas.List.Sums.{sum_by-cons}
+use Rattle.b3_base.proofs.Widths.{bits-pos}
 use Rattle.b3_meaning.specs.declared.role.Checked.{Checked}
 use Rattle.b3_meaning.specs.declared.role.Checked.TheVariants.{Sum, Difference, Product}
 use Rattle.a64_checked.specs.Checks.{comparing, making, passing}
@@ -22,7 +22,6 @@ use Rattle.a64_inst.specs.declared.inst.Inst.{Inst}
 use Rattle.a64_inst.specs.declared.inst.Inst.TheVariants.{AddSubReg, Access, AddSubImm}
 use Rattle.a64_inst.specs.declared.item.Item.{Item}
 use Rattle.a64_inst.specs.declared.item.Item.TheVariants.{If, IfBit, IfZero, Jump, Label, Mark, Plain}
-use Rattle.air_ir.specs.declared.frame.Frame.{Frame}
 use Rattle.air_ir.specs.declared.op.AirOp.{AirOp}
 use Rattle.air_ir.specs.declared.op.AirOp.TheVariants as op
 use Rattle.air_ir.specs.declared.op.Test.{Test}
@@ -60,6 +59,7 @@ use Rattle.a64_emit.proofs.LabelCounts.{all_labels}
 use Rattle.a64_emit.proofs.Sorting.{each_map, search_labels, sorted_small}
 use Rattle.a64_emit.proofs.Trees.{Each, each_append, each_left, each_right, each_weaker, in_order, tree_order}
 use Rattle.a64_emit.proofs.Shapes.{computing_plain, move_plain, sum_plain, testing_plain}
+use Rattle.air_ir.specs.declared.frame.Frame.{Frame}
 
 -- ---- instructions
 
@@ -72,15 +72,12 @@ well_append : (xs ys : List Inst) → AllWell xs → AllWell ys → AllWell (xs 
 well_append [] ys first rest = rest
 well_append (x ∷ xs) ys first rest = (first.0, well_append xs ys first.1 rest)
 
-le_of : (a b : ℕ) → nat_le a b ≡ true → a ≤ b
-le_of a b e = grind (arith, nat_tests)
-
 load_well : (reg bytes : ℕ) → reg ≤ 31 → bytes < 2 ^ 21 → AllWell (load_at reg bytes)
 unfolding load_at
 load_well reg bytes le small =
     elim (nat_le bytes 32760) as (λ b. nat_le bytes 32760 ≡ b → AllWell (if b then Access LdrX reg 31 (bytes / 8) ∷ [] else
     AddSubImm W64 false false reg 31 (bytes / 4096) true ∷ Access LdrX reg reg (bytes % 4096 / 8) ∷ [])) [
-      | true ↦ λ e. let near = le_of bytes 32760 e in ((le, omega arith, omega arith), tt)
+      | true ↦ λ e. let near = leb-true bytes 32760 e in ((le, omega arith, omega arith), tt)
       | false ↦ λ e. ((le, omega arith, omega arith), ((le, le, omega arith), tt))
     ] refl
 
@@ -89,7 +86,7 @@ unfolding store_at
 store_well reg bytes le small =
     elim (nat_le bytes 32760) as (λ b. nat_le bytes 32760 ≡ b → AllWell (if b then Access StrX reg 31 (bytes / 8) ∷ [] else
     AddSubImm W64 false false 15 31 (bytes / 4096) true ∷ Access StrX reg 15 (bytes % 4096 / 8) ∷ [])) [
-      | true ↦ λ e. let near = le_of bytes 32760 e in ((le, omega arith, omega arith), tt)
+      | true ↦ λ e. let near = leb-true bytes 32760 e in ((le, omega arith, omega arith), tt)
       | false ↦ λ e. ((omega arith, omega arith, omega arith), ((le, omega arith, omega arith), tt))
     ] refl
 
@@ -134,14 +131,10 @@ constant_well : (width : Width) (reg word : ℕ) → reg ≤ 31 → AllWell (con
 unfolding constant
 constant_well width reg word le = moves_well width (is_inverted width word) reg word false (half_count width) 0 le (omega arith)
 
-bits_pos : (width : Width) → 0 < bits width
-bits_pos W32 = omega arith
-bits_pos W64 = omega arith
-
 comparing_well : (kind : Checked) (width : Width) (a b : ℕ) → a ≤ 31 → b ≤ 31 → AllWell (comparing kind width a b)
 unfolding comparing
-comparing_well Sum width a b le_a le_b = ((omega arith, le_a, le_b, omega arith, bits_pos width), tt)
-comparing_well Difference width a b le_a le_b = ((omega arith, le_a, le_b, omega arith, bits_pos width), tt)
+comparing_well Sum width a b le_a le_b = ((omega arith, le_a, le_b, omega arith, bits-pos width), tt)
+comparing_well Difference width a b le_a le_b = ((omega arith, le_a, le_b, omega arith, bits-pos width), tt)
 comparing_well Product W32 a b le_a le_b = (
   (omega arith, le_a, le_b, omega arith),
   ((omega arith, omega arith, omega arith, omega arith), ((omega arith, omega arith, omega arith, omega arith, omega arith), tt)),
@@ -153,9 +146,9 @@ comparing_well Product W64 a b le_a le_b = (
 
 making_well : (kind : Checked) (width : Width) (rd a b : ℕ) → rd ≤ 31 → a ≤ 31 → b ≤ 31 → AllWell (making kind width rd a b)
 unfolding making
-making_well Sum width rd a b le le_a le_b = ((le, le_a, le_b, omega arith, bits_pos width), tt)
-making_well Difference width rd a b le le_a le_b = ((le, le_a, le_b, omega arith, bits_pos width), tt)
-making_well Product width rd a b le le_a le_b = ((le, omega arith, omega arith, omega arith, bits_pos width), tt)
+making_well Sum width rd a b le le_a le_b = ((le, le_a, le_b, omega arith, bits-pos width), tt)
+making_well Difference width rd a b le le_a le_b = ((le, le_a, le_b, omega arith, bits-pos width), tt)
+making_well Product width rd a b le le_a le_b = ((le, omega arith, omega arith, omega arith, bits-pos width), tt)
 
 breaks_well : (n : ℕ) → AllWell (breaks n)
 unfolding breaks
@@ -335,7 +328,7 @@ module _ (f : Frame) (limit : f.bytes < 2 ^ 21) where
   below_x29_well reg bytes le =
       elim (nat_le bytes 4095) as (λ b. nat_le bytes 4095 ≡ b → AllWell (if b then AddSubImm W64 true false reg 29 bytes false ∷ [] else
       AddSubImm W64 true false reg 29 (upper bytes) true ∷ unless_zero (bytes % 4096) (AddSubImm W64 true false reg reg (bytes % 4096) false ∷ []))) [
-        | true ↦ λ e. let few = le_of bytes 4095 e in ((le, omega arith, omega arith), tt)
+        | true ↦ λ e. let few = leb-true bytes 4095 e in ((le, omega arith, omega arith), tt)
         | false ↦ λ e. (
           (le, omega arith, omega arith),
           unless_well (bytes % 4096) (AddSubImm W64 true false reg reg (bytes % 4096) false ∷ []) ((le, le, omega arith), tt),

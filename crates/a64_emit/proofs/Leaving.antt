@@ -4,6 +4,7 @@ use Rattle.std.specs.Prelude.{All, Contains, nat_eq}
 use Rattle.std.proofs.lemmas.Bool.{cases_lt}
 use Rattle.std.proofs.lemmas.Bool.Decides.{nat_tests}
 use Rattle.std.proofs.lemmas.List.Elements.{All-head, All-tail}
+use Rattle.std.proofs.lemmas.Option.{same_Some}
 use Rattle.b3_base.specs.Memory.{byte_address, read_word}
 use Rattle.b3_base.specs.Observed.{Memory}
 use Rattle.b3_base.specs.declared.word.Width.TheVariants.{W64}
@@ -14,14 +15,14 @@ use Rattle.a64_inst.specs.declared.inst.Inst.TheVariants.{AddSubImm, PairSp}
 use Rattle.a64_layout.specs.Machine.{Machine, moved_to}
 use Rattle.a64_run.specs.Machine.{saved_at}
 use Rattle.a64_run.specs.Placement.{frame_pointer_of}
-use Rattle.air_frame.specs.Frames.{IsFrameOf}
 use Rattle.a64_code.specs.Places.{above_sp, load_at, restores}
-use Rattle.a64_emit.specs.Related.{HasFrame, word_below}
-use Rattle.a64_emit.specs.Setting.{IsSet, Setting}
+use Rattle.a64_emit.specs.Related.{word_below, HasFrame}
+use Rattle.a64_emit.specs.Setting.{Setting, IsSet}
 use Rattle.a64_emit.proofs.Entering.{low_byte, with_sp}
 use Rattle.a64_emit.proofs.Keeping.{whole_of}
 use Rattle.a64_emit.proofs.Straight.{Does, DoesOne, IsWhole, does_both, does_first, does_none, does_one}
 use Rattle.a64_emit.proofs.Words.{IsPlaced, TouchesWell, does_safely, load_puts, put_other, put_same, put_words, touches_nothing, whole_same, with_reg}
+use Rattle.air_frame.specs.Frames.{IsFrameOf}
 
 -- ---- registers are restored
 
@@ -110,9 +111,6 @@ pops : (fp lr sp : ℕ) (r : Registers) (m : Memory) → read_word m r.sp 8 ≡ 
 unfolding step_of load_pair
 pops fp lr sp r m first second at = rw (first, second, ← at) refl
 
-same_pair : (a b : ℕ × ℕ) → Some a ≡ Some b → a ≡ b
-same_pair a b e = cc
-
 -- what the epilogue leaves before its RET
 pub record Leaves (z : Setting) (c : Machine) : Type 0 where
   pub after : Machine
@@ -161,7 +159,7 @@ module _ (z : Setting) (set : IsSet z) (serves : IsFrameOf z.procedure z.frame) 
   pops_safely : TouchesWell second (PairSp true 29 30 (pos 2))
   unfolding second
   pops_safely pc at n i some lt =
-      let both : (frame_pointer_of z.entry, 16) ≡ (at, n) = same_pair (frame_pointer_of z.entry, 16) (at, n) some in
+      let both : (frame_pointer_of z.entry, 16) ≡ (at, n) = same_Some (frame_pointer_of z.entry, 16) (at, n) some in
       let at_is : frame_pointer_of z.entry ≡ at = ap (λ (p : ℕ × ℕ). p.0) both in
       let count : 16 ≡ n = ap (λ (p : ℕ × ℕ). p.1) both in
       subst (λ (a : ℕ). frame_pointer_of z.entry ≤ byte_address a i) at_is (low_byte z.entry.sp i some_room set.ranged.sp (omega (arith, count)))

@@ -3,6 +3,7 @@ use Rattle.std.proofs.Common.{◌≡◌, ℕ, zero, suc, ◌+◌, ◌<◌, ◌�
 use Rattle.std.specs.Prelude.{slice_get}
 use Rattle.std.specs.List.{position_or_len}
 use Rattle.std.proofs.lemmas.Bool.{ne_eqb}
+use Rattle.b3_base.proofs.Lists.{get_front}
 use Rattle.stackmap.specs.declared.site.Site.{Site}
 use Rattle.stackmap.specs.declared.site.SiteKind.{SiteKind}
 use Rattle.stackmap.specs.declared.site.SiteKind.TheVariants.{Call, Patchpoint, Exit, Trap}
@@ -14,7 +15,6 @@ use Rattle.a64_layout.specs.Text.{is_any_mark, is_mark, mark_count}
 use Rattle.a64_code.specs.Places.{plains}
 use Rattle.a64_emit.specs.Sites.{SuitsItems}
 use Rattle.a64_emit.proofs.LabelCounts.{more_times}
-use Rattle.a64_emit.proofs.Positions.{get_front}
 use Rattle.a64_emit.proofs.Trees.{Each}
 
 -- the marks of some items are the numbers from one on, one for each of some sites, in order

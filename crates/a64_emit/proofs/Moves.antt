@@ -1,6 +1,7 @@
 -- Constants put in registers, and copies.
 use Rattle.std.proofs.Common.{◌≡◌, ◌≢◌, ℕ, zero, suc, ◌+◌, ◌-◌, ◌*◌, ◌/◌, ◌%◌, ◌^◌, ◌<◌, ◌≤◌, Bool, true, false, List, [], ◌∷◌, None, refl, sym, ap, ◌∙◌, subst, arith, nat_eq, eqb-true}
 use Rattle.std.specs.Prelude.{if◌then◌else◌}
+use Rattle.b3_base.proofs.Widths.{width-word}
 use Rattle.b3_base.specs.Word.{bits}
 use Rattle.b3_base.specs.declared.word.Width.{Width}
 use Rattle.b3_base.specs.declared.word.Width.TheVariants.{W32, W64}
@@ -151,10 +152,6 @@ low_same : (width : Width) (n : ℕ) → n < 2 ^ bits width → low_bits width n
 low_same W32 n small = omega arith
 low_same W64 n small = omega arith
 
-width_small : (width : Width) (n : ℕ) → n < 2 ^ bits width → n < 2 ^ 64
-width_small W32 n small = omega arith
-width_small W64 n small = omega arith
-
 -- ---- instructions
 
 -- a half-word is put: the register has the first half-words, where some were put, and the filling stands for them where none was
@@ -255,7 +252,7 @@ module _ (z : Setting) (width : Width) (inverted : Bool) (reg word : ℕ) (le : 
             (still_at width inverted started word hw (c.registers.x reg) lt (eqb-true _ _ e) at)
         | false ↦ λ e.
             let v : ℕ = started_word width inverted word (hw + 1) in
-            let v_small = width_small width v (started_small width inverted word (hw + 1) (omega arith) small) in
+            let v_small = width-word width v (started_small width inverted word (hw + 1) (omega arith) small) in
             let d : Machine = with_reg c reg v in
             puts_then z c (half_move width inverted started reg (half_word word hw) hw) (half_moves width inverted reg word true n (hw + 1)) reg v word
             (puts_one z c (half_move width inverted started reg (half_word word hw) hw) reg v whole other

@@ -4,6 +4,7 @@ use Rattle.std.specs.Prelude.{◌||◌, All, slice_get}
 use Rattle.std.specs.List.{list_any}
 use Rattle.std.proofs.lemmas.List.Folds.{list_any_at}
 use Rattle.std.proofs.lemmas.Option.{get_or_from_slice_get, slice_get_within}
+use Rattle.std.proofs.lemmas.Bool.{or_left, or_right}
 use Rattle.b3_base.specs.declared.word.Width.{Width}
 use Rattle.b3_base.specs.declared.word.Width.TheVariants.{W32, W64}
 use Rattle.stackmap.specs.declared.site.Returns.{Returns}
@@ -22,8 +23,6 @@ use Rattle.air_ir.specs.declared.operand.Home.{Home}
 use Rattle.air_ir.specs.declared.operand.Home.TheVariants.{Reg, Spill, Tmp}
 use Rattle.air_ir.specs.declared.operand.Operand.{Operand}
 use Rattle.air_ir.specs.declared.operand.Role.TheVariants.{Def, Use}
-use Rattle.air_ir.specs.declared.procedure.AirBlock.{AirBlock}
-use Rattle.air_ir.specs.declared.procedure.AirInst.{AirInst}
 use Rattle.air_frame.specs.Needs.{arg_names, block_names, block_writes, inst_names, inst_writes, is_register, is_spill, names, writes}
 use Rattle.a64_emit.specs.Setting.{Setting}
 use Rattle.a64_emit.proofs.AccessesReached.{IsReachable}
@@ -32,6 +31,8 @@ use Rattle.a64_emit.proofs.BranchEnds.{AllUsable}
 use Rattle.a64_emit.proofs.Fetching.{IsPlaceFor, IsUsable}
 use Rattle.a64_emit.proofs.FrameAddresses.{IsOwnSlot}
 use Rattle.a64_emit.proofs.Instructions.{AreOpen, home_word}
+use Rattle.air_ir.specs.declared.procedure.AirBlock.{AirBlock}
+use Rattle.air_ir.specs.declared.procedure.AirInst.{AirInst}
 
 -- ---- lists
 
@@ -45,13 +46,6 @@ all_at P xs k x there each = subst P (get_or_from_slice_get xs k x x there) (eac
 
 pub own_spill : (n : ℕ) → arg_names n (At (Spill n)) ≡ true
 own_spill n = eq-eqb n n refl
-
-or_left : (a b : Bool) → a ≡ true → (a || b) ≡ true
-or_left a b e = rw e refl
-
-or_right : (a b : Bool) → b ≡ true → (a || b) ≡ true
-or_right true b e = refl
-or_right false b e = e
 
 pub usable_arg : (z : Setting) (arg : Arg) → z.procedure.tmps ≡ 0 → NamesOwn z.procedure Use arg → ((n : ℕ) → arg_names n arg ≡ true → names z.procedure n ≡ true)
     → (width : Width) (immediates : Immediates) → IsWord immediates width arg → IsUsable z arg

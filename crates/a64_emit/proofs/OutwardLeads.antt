@@ -6,10 +6,12 @@ use Rattle.a64_inst.proofs.Ranged.{step_of-LeavesWords}
 use Rattle.a64_emit.proofs.BranchEnds.{word_home}
 use Rattle.b3_base.specs.Memory.{AreBytes, read_word}
 use Rattle.std.proofs.Common.{◌≡◌, ◌≢◌, ℕ, zero, suc, ◌+◌, ◌-◌, ◌%◌, ◌^◌, ◌<◌, ◌≤◌, Bool, true, false, inl, inr, ⊎_elim, List, [], ◌∷◌, ◌++◌, Option, Some, None, length, map, take, drop, get_or, nat_eq, refl, sym, ap, ◌∙◌, subst, arith, length-append, append_assoc, append-nil, eq-eqb}
-use Rattle.std.specs.Prelude.{All, Contains, is_some, if◌then◌else◌, slice_get, ◌||◌}
+use Rattle.std.specs.Prelude.{All, Contains, is_some, if◌then◌else◌, slice_get}
 use Rattle.std.specs.List.{list_any}
 use Rattle.std.proofs.lemmas.List.Elements.{All-cons, All-head, All-nil, All-tail}
 use Rattle.std.proofs.lemmas.Option.{slice_get_within}
+use Rattle.std.proofs.lemmas.Bool.{or_left, or_right}
+use Rattle.b3_base.proofs.Lists.{All-front, All-behind, All-from_places, get_front, get_behind}
 use Rattle.b3_base.specs.Observed.{Event, Memory}
 use Rattle.b3_base.specs.Ranged.{IsRangedAnswer}
 use Rattle.b3_base.specs.declared.event.EventKind.{EventKind}
@@ -33,7 +35,7 @@ use Rattle.a64_inst.specs.declared.item.Item.{Item}
 use Rattle.a64_inst.specs.declared.item.Item.TheVariants.{Mark, Plain}
 use Rattle.air_ir.specs.Forms.{HasSite, IsChanged, IsPlacedResult, IsReported, NoImmediate, OfCall, OneIs, SiteOperands, arguments_from, call_clobbers, home, operand_in, spills_changed, AllFit}
 use Rattle.air_ir.specs.Meaning as air
-use Rattle.air_ir.specs.Meaning.{World, answered, calls, meaning, operation}
+use Rattle.air_ir.specs.Meaning.{answered, meaning, operation}
 use Rattle.air_ir.specs.Operands.{Read, Target, and_word, is_read, targets, word_of, words}
 use Rattle.air_ir.specs.SitesInPlaces.{register_at}
 use Rattle.air_ir.specs.Steps.{State}
@@ -46,7 +48,6 @@ use Rattle.air_ir.specs.declared.operand.Operand.{Operand}
 use Rattle.air_ir.specs.declared.operand.Role.TheVariants.{Use, EarlyDef, Def, Clobber}
 use Rattle.air_ir.specs.declared.procedure.AirInst.{AirInst}
 use Rattle.air_ir.specs.declared.procedure.AirProc.{AirProc}
-use Rattle.air_frame.specs.Frames.{IsFrameOf}
 use Rattle.air_frame.specs.Needs.{arg_names, is_register, names}
 use Rattle.a64_layout.specs.Layout.{place}
 use Rattle.a64_layout.specs.Machine.{Machine, machine_of, moved_to}
@@ -59,7 +60,7 @@ use Rattle.a64_emit.specs.Emitted.{ActsAt, Asks, IsProperAt, IsSafeItem, RunsTo,
 use Rattle.a64_emit.specs.Made.{outward_site, places_read, result_in, with_home, with_written, without_result}
 use Rattle.a64_code.specs.Places.{plains, spill_offset}
 use Rattle.a64_emit.specs.Related.{Carries, IsRelated}
-use Rattle.a64_emit.specs.Setting.{IsSet, Setting, address_of, row, site_before}
+use Rattle.a64_emit.specs.Setting.{Setting, address_of, row, site_before, IsSet}
 use Rattle.a64_emit.proofs.AirSteps.{step_lost, step_without, targets_use, words_use, home_there}
 use Rattle.a64_emit.proofs.Branching.{alike_related, words_there}
 use Rattle.a64_emit.proofs.Fetching.{IsUsable, fetch_word, fetched_keeps}
@@ -72,9 +73,10 @@ use Rattle.a64_emit.proofs.Opened.{all_at, any_at, usable_arg}
 use Rattle.a64_code.proofs.Ops.{Gives}
 use Rattle.a64_emit.proofs.Outside.{IsFound, asking_leads, reg_targets, result_targets}
 use Rattle.a64_emit.proofs.Outward.{IsPut, Owns, changed_regs, has_changed, places_changed, places_front, places_put, places_told, reg_in, reported_told, targets_changed, targets_front, targets_put, words_changed, words_front, words_put}
-use Rattle.a64_emit.proofs.Positions.{Among, among_first, among_rest, get_front, get_behind}
+use Rattle.a64_emit.proofs.Positions.{Among, among_first, among_rest}
 use Rattle.a64_emit.proofs.Straight.{Does, Runs, runs_here, runs_on, runs_pass, does_none, IsWhole}
 use Rattle.a64_emit.proofs.Told.{IsTold, arguments_told, widths_told, words_told}
+use Rattle.air_frame.specs.Frames.{IsFrameOf}
 
 -- ---- the operands in parts
 
@@ -102,24 +104,13 @@ pub record InParts (p : AirProc) (typed : Bool) (os front reported changed resul
 -- a home that the operands write is written by the instruction
 any_left : (r : ℕ) (regs : List ℕ) (rest : List Target) → Contains regs r → list_any (λ (t : Target). is_register r t.home) (reg_targets regs ++ rest) ≡ true
 any_left r [] rest there = absurd (omega (arith, there.1))
-any_left r (q ∷ regs) rest (zero, lt, is) = first_or (nat_eq q r) _ (eq-eqb q r is)
-  where
-    first_or : (a b : Bool) → a ≡ true → (a || b) ≡ true
-    first_or a b e = rw e refl
-any_left r (q ∷ regs) rest (suc k, lt, is) = second_or (nat_eq q r) _ (any_left r regs rest (k, omega arith, is))
-  where
-    second_or : (a b : Bool) → b ≡ true → (a || b) ≡ true
-    second_or true b e = refl
-    second_or false b e = e
+any_left r (q ∷ regs) rest (zero, lt, is) = or_left (nat_eq q r) _ (eq-eqb q r is)
+any_left r (q ∷ regs) rest (suc k, lt, is) = or_right (nat_eq q r) _ (any_left r regs rest (k, omega arith, is))
 
 any_right : (r : ℕ) (regs : List ℕ) (rest : List Target) → list_any (λ (t : Target). is_register r t.home) rest ≡ true
     → list_any (λ (t : Target). is_register r t.home) (reg_targets regs ++ rest) ≡ true
 any_right r [] rest there = there
-any_right r (q ∷ regs) rest there = second_or (nat_eq q r) _ (any_right r regs rest there)
-  where
-    second_or : (a b : Bool) → b ≡ true → (a || b) ≡ true
-    second_or true b e = refl
-    second_or false b e = e
+any_right r (q ∷ regs) rest there = or_right (nat_eq q r) _ (any_right r regs rest there)
 
 result_written : (result : Option (Width × Register)) (width : Width) (reg : Register) → result ≡ Some (width, reg)
     → list_any (λ (t : Target). is_register reg.0 t.home) (result_targets result) ≡ true
@@ -303,18 +294,6 @@ take_front (x ∷ xs) ys = ap (λ zs. x ∷ zs) (take_front xs ys)
 take_whole : {X : Type 0} (xs : List X) → take (length xs - 0) xs ≡ xs
 take_whole xs = ap (λ n. take n xs) (omega arith) ∙ ap (take (length xs)) (sym (append-nil xs)) ∙ take_front xs []
 
-all_left : {X : Type 0} (P : X → Type 0) (xs ys : List X) → All P (xs ++ ys) → All P xs
-all_left P [] ys all = All-nil P
-all_left P (x ∷ xs) ys all = All-cons P x xs (All-head P x (xs ++ ys) all) (all_left P xs ys (All-tail P x (xs ++ ys) all))
-
-all_right : {X : Type 0} (P : X → Type 0) (xs ys : List X) → All P (xs ++ ys) → All P ys
-all_right P [] ys all = all
-all_right P (x ∷ xs) ys all = all_right P xs ys (All-tail P x (xs ++ ys) all)
-
-all_of : {X : Type 0} (P : X → Type 0) (xs : List X) → ((k : ℕ) (x : X) → slice_get xs k ≡ Some x → P x) → All P xs
-all_of P [] each = All-nil P
-all_of P (x ∷ xs) each = All-cons P x xs (each 0 x refl) (all_of P xs (λ k y there. each (suc k) y there))
-
 -- a register that is changed is one of x0 to x30, but x29
 changed_few : (p : AirProc) (changed : List Operand) → All IsChanged changed → All (λ (o : Operand). NamesOwn p o.role o.arg) changed
     → All (λ (o : Operand). (reg_in o.arg ≤ 30) × (reg_in o.arg ≢ 29)) changed
@@ -352,9 +331,9 @@ in_parts p true os front reported changed (o ∷ []) parts read_front no_targets
       told = told;
       changes = changes;
       few = changed_few p changed changes
-          (all_left (λ (o : Operand). NamesOwn p o.role o.arg) changed (o ∷ [])
-          (all_right (λ (o : Operand). NamesOwn p o.role o.arg) reported (changed ++ o ∷ [])
-          (all_right (λ (o : Operand). NamesOwn p o.role o.arg) front (reported ++ (changed ++ o ∷ []))
+          (All-front (λ (o : Operand). NamesOwn p o.role o.arg) changed (o ∷ [])
+          (All-behind (λ (o : Operand). NamesOwn p o.role o.arg) reported (changed ++ o ∷ [])
+          (All-behind (λ (o : Operand). NamesOwn p o.role o.arg) front (reported ++ (changed ++ o ∷ []))
           (subst (All (λ (o : Operand). NamesOwn p o.role o.arg)) parts own))));
       result_is = ap is_some is_result;
       result_words = λ s. words_put s.homes o [] one.reg one.is;
@@ -373,9 +352,9 @@ in_parts p false os front reported changed [] parts read_front no_targets told c
   told = told;
   changes = changes;
   few = changed_few p changed changes
-      (all_left (λ (o : Operand). NamesOwn p o.role o.arg) changed []
-      (all_right (λ (o : Operand). NamesOwn p o.role o.arg) reported (changed ++ [])
-      (all_right (λ (o : Operand). NamesOwn p o.role o.arg) front (reported ++ (changed ++ []))
+      (All-front (λ (o : Operand). NamesOwn p o.role o.arg) changed []
+      (All-behind (λ (o : Operand). NamesOwn p o.role o.arg) reported (changed ++ [])
+      (All-behind (λ (o : Operand). NamesOwn p o.role o.arg) front (reported ++ (changed ++ []))
       (subst (All (λ (o : Operand). NamesOwn p o.role o.arg)) parts own))));
   result_is = refl;
   result_words = λ s. refl;
@@ -458,7 +437,7 @@ placed_result false width (o ∷ xs) is = absurd is
 pub all_told : (p : AirProc) (i : AirInst) (front reported rest : List Operand) → Owns p i → i.operands ≡ front ++ (reported ++ rest) → All IsReported reported
     → All (IsTold p) reported
 all_told p i front reported rest owns parts reports =
-    all_of (IsTold p) reported (λ k o there.
+    All-from_places (IsTold p) reported (λ k o there.
     let at : slice_get i.operands (length front + k) ≡ Some o =
     ap (λ (xs : List Operand). slice_get xs (length front + k)) parts ∙ get_behind front (reported ++ rest) k ∙ get_front reported rest k o there in
     reported_told p o (all_at IsReported reported k o there reports)

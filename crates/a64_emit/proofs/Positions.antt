@@ -1,17 +1,16 @@
 -- Where the blocks stand in the code of a procedure.
-use Rattle.a64_inst.specs.declared.inst.Inst.TheVariants.{Break}
-use Rattle.std.proofs.Common.{◌≡◌, ℕ, zero, suc, ◌+◌, ◌<◌, ◌≤◌, ◌⊎◌, inl, inr, Bool, true, false, not, cond, ⊎_elim, List, [], ◌∷◌, ◌++◌, Some, length, get_or, refl, sym, ap, ◌∙◌, subst, arith, append_assoc, length-append, eq-eqb}
+use Rattle.std.proofs.Common.{◌≡◌, ℕ, zero, suc, ◌+◌, ◌<◌, ◌≤◌, ◌⊎◌, Bool, true, false, not, cond, ⊎_elim, List, [], ◌∷◌, ◌++◌, Some, length, get_or, refl, sym, ap, ◌∙◌, subst, arith, append_assoc, length-append, eq-eqb}
 use Rattle.std.proofs.lemmas.List.{append-nil}
 use Rattle.std.proofs.lemmas.Option.{slice_get-get_or, slice_get_within}
 use Rattle.std.specs.Prelude.{nat_eq, slice_get, if◌then◌else◌}
 use Rattle.std.specs.List.{flat_map, position_or_len, sum_by}
 use Rattle.std.proofs.lemmas.List.Sums.{sum_by-cons}
 use Rattle.stackmap.specs.declared.site.Site.{Site}
-use Rattle.b3_meaning.specs.declared.role.Checked.{Checked}
 use Rattle.b3_meaning.specs.declared.role.Checked.TheVariants.{Sum, Difference, Product}
 use Rattle.a64_checked.specs.Checks.{passing}
 use Rattle.air_ir.specs.Kinds.{Checks, ChecksResult, Kind, Loads, Stores, kind_of}
 use Rattle.std.proofs.lemmas.Bool.{cases_lt, ne_eqb}
+use Rattle.b3_base.proofs.Lists.{get_front, get_behind}
 use Rattle.a64_inst.specs.declared.inst.Cond.TheVariants.{Eq, Hi}
 use Rattle.a64_inst.specs.declared.inst.Inst.{Inst}
 use Rattle.a64_inst.specs.declared.item.Item.{Item}
@@ -42,15 +41,6 @@ use Rattle.a64_emit.proofs.Trees.{Each, each_append, each_weaker}
 -- these stand among others from the k-th on
 abbrev pub Among : {X : Type 0} → List X → ℕ → List X → Type 0
 Among {X = X} code k items = (j : ℕ) (item : X) → slice_get items j ≡ Some item → slice_get code (k + j) ≡ Some item
-
-pub get_front : {X : Type 0} (a b : List X) (n : ℕ) (x : X) → slice_get a n ≡ Some x → slice_get (a ++ b) n ≡ Some x
-get_front [] b n x e = cc
-get_front (y ∷ a) b zero x e = e
-get_front (y ∷ a) b (suc n) x e = get_front a b n x e
-
-pub get_behind : {X : Type 0} (a b : List X) (n : ℕ) → slice_get (a ++ b) (length a + n) ≡ slice_get b n
-get_behind [] b n = ap (slice_get b) (omega arith)
-get_behind (x ∷ a) b n = let e : length (x ∷ a) + n ≡ suc (length a + n) = omega arith in ap (slice_get (x ∷ (a ++ b))) e ∙ get_behind a b n
 
 pub among_split : (code before items rest : List Item) → code ≡ before ++ (items ++ rest) → Among code (length before) items
 among_split code before items rest split j item there =

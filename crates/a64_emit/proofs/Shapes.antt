@@ -3,6 +3,7 @@ use Rattle.std.proofs.Common.{◌≡◌, ℕ, ◌-◌, ◌*◌, ◌/◌, ◌%◌
 use Rattle.std.specs.Prelude.{nat_le, IsSome, if◌then◌else◌}
 use Rattle.std.proofs.Math.Nat.{mod-lt}
 use Rattle.std.proofs.lemmas.Bool.Decides.{nat_tests}
+use Rattle.std.proofs.lemmas.Bool.{leb-true}
 use Rattle.b3_base.specs.BitMask.{element_bits}
 use Rattle.b3_base.specs.MaskFields.{fields_of_mask}
 use Rattle.b3_base.specs.Word.{bits}
@@ -10,6 +11,7 @@ use Rattle.b3_base.specs.declared.word.Width.{Width}
 use Rattle.b3_base.specs.declared.word.Width.TheVariants.{W32, W64}
 use Rattle.b3_base.proofs.MaskSearch.{found_turned}
 use Rattle.b3_base.proofs.Masks.{element_bits-le, element_bits-pos}
+use Rattle.b3_base.proofs.Widths.{bits-pos}
 use Rattle.a64_inst.specs.Step.{Registers}
 use Rattle.a64_inst.specs.StepData.{shift_of}
 use Rattle.a64_inst.specs.WellFormed.{IsWellFormed}
@@ -46,14 +48,11 @@ some_there o k e = subst IsSome (sym e) refl
 most_short : (k : ℕ) → is_short k ≡ true → k ≤ 4095 * 4096
 most_short k short = grind (arith, nat_tests)
 
-le_of : (a b : ℕ) → nat_le a b ≡ true → a ≤ b
-le_of a b e = grind (arith, nat_tests)
-
 short_plain : (width : Width) (sub flags : Bool) (rd rn k : ℕ) → rd ≤ 31 → rn ≤ 31 → is_short k ≡ true → IsPlain (short_sum width sub flags rd rn k)
 short_plain width sub flags rd rn k le_rd le_rn short =
     let most = most_short k short in
     either_plain (nat_le k 4095) (AddSubImm width sub flags rd rn k false) (AddSubImm width sub flags rd rn (k / 4096) true)
-    (λ e. let le = le_of k 4095 e in record { fields = (le_rd, le_rn, omega arith); touches = λ r. refl })
+    (λ e. let le = leb-true k 4095 e in record { fields = (le_rd, le_rn, omega arith); touches = λ r. refl })
     (λ e. record { fields = (le_rd, le_rn, omega arith); touches = λ r. refl })
 
 with_plain : (width : Width) (sub flags : Bool) (rd rn k : ℕ) → rd ≤ 31 → rn ≤ 31 → IsImmediate OfSum width k → IsPlain (sum_with width sub flags rd rn k)
@@ -66,23 +65,19 @@ with_plain width true flags rd rn k le_rd le_rn fits =
     (λ e. short_plain width true flags rd rn k le_rd le_rn e)
     (λ e. short_plain width false flags rd rn (2 ^ bits width - k) le_rd le_rn (turned_short width k e fits))
 
-bits_pos : (width : Width) → 0 < bits width
-bits_pos W32 = omega arith
-bits_pos W64 = omega arith
-
 bits_most : (width : Width) (n : ℕ) → n % bits width < bits width
 bits_most W32 n = omega arith
 bits_most W64 n = omega arith
 
 pub sum_plain : (width : Width) (sub flags : Bool) (rd rn : ℕ) (b : Source) → rd ≤ 31 → rn ≤ 31 → reg_of b ≤ 31 → IsSummed width b → IsPlain (sum_by width sub flags rd rn b)
-sum_plain width sub flags rd rn (InReg rm) le_rd le_rn le_rm fits = record { fields = (le_rd, le_rn, le_rm, omega arith, bits_pos width); touches = λ r. refl }
+sum_plain width sub flags rd rn (InReg rm) le_rd le_rn le_rm fits = record { fields = (le_rd, le_rn, le_rm, omega arith, bits-pos width); touches = λ r. refl }
 sum_plain width sub flags rd rn (Constant k) le_rd le_rn le_rm fits = with_plain width sub flags rd rn k le_rd le_rn fits.1
 
 less_most : (a b : ℕ) → a < b → b ≤ 64 → a < 64
 less_most a b lt le = omega arith
 
 logic_plain : (width : Width) (o : LogicOp) (rd rn : ℕ) (b : Source) → rd ≤ 31 → rn ≤ 31 → reg_of b ≤ 31 → IsMasked width b → IsPlain (logic_by width o rd rn b)
-logic_plain width o rd rn (InReg rm) le_rd le_rn le_rm fits = record { fields = (le_rd, le_rn, le_rm, omega arith, bits_pos width); touches = λ r. refl }
+logic_plain width o rd rn (InReg rm) le_rd le_rn le_rm fits = record { fields = (le_rd, le_rn, le_rm, omega arith, bits-pos width); touches = λ r. refl }
 logic_plain width o rd rn (Constant k) le_rd le_rn le_rm fits =
     let named = fits.1 in
     let found = found_turned width named.0 named.1 named.2 k (omega (arith, named.3)) (omega (arith, named.5)) named.6 in
@@ -113,7 +108,7 @@ pub moved_plain : (width : Width) (rd rm shift amount : ℕ) → rd ≤ 31 → r
 moved_plain width rd rm shift amount le_rd le_rm le_shift lt = record { fields = (le_rd, omega arith, le_rm, le_shift, lt); touches = λ r. refl }
 
 pub move_plain : (width : Width) (rd rm : ℕ) → rd ≤ 31 → rm ≤ 31 → IsPlain (move_reg width rd rm)
-move_plain width rd rm le_rd le_rm = moved_plain width rd rm 0 0 le_rd le_rm (omega arith) (bits_pos width)
+move_plain width rd rm le_rd le_rm = moved_plain width rd rm 0 0 le_rd le_rm (omega arith) (bits-pos width)
 
 shift_plain : (width : Width) (kind : ShiftKind) (rd rn : ℕ) (b : Source) → rd ≤ 31 → rn ≤ 31 → reg_of b ≤ 31 → IsPlain (shift_by width kind rd rn b)
 shift_plain width kind rd rn (InReg rm) le_rd le_rn le_rm = record { fields = (le_rd, le_rn, le_rm); touches = λ r. refl }
@@ -123,8 +118,8 @@ pub computing_plain : (o : AirOp) (width : Width) (rd : ℕ) (a b c : Source) �
     → IsPlain (computing o width rd a b c)
 unfolding computing
 computing_plain op.Add width rd a b c le_rd le_a le_b le_c fits = sum_plain width false false rd (reg_of a) b le_rd le_a le_b fits
-computing_plain op.Sub width rd a b c le_rd le_a le_b le_c fits = record { fields = (le_rd, le_a, le_b, omega arith, bits_pos width); touches = λ r. refl }
-computing_plain op.Neg width rd a b c le_rd le_a le_b le_c fits = record { fields = (le_rd, omega arith, le_a, omega arith, bits_pos width); touches = λ r. refl }
+computing_plain op.Sub width rd a b c le_rd le_a le_b le_c fits = record { fields = (le_rd, le_a, le_b, omega arith, bits-pos width); touches = λ r. refl }
+computing_plain op.Neg width rd a b c le_rd le_a le_b le_c fits = record { fields = (le_rd, omega arith, le_a, omega arith, bits-pos width); touches = λ r. refl }
 computing_plain op.Mul width rd a b c le_rd le_a le_b le_c fits = record { fields = (le_rd, le_a, le_b, omega arith); touches = λ r. refl }
 computing_plain op.MulSub width rd a b c le_rd le_a le_b le_c fits = record { fields = (le_rd, le_a, le_b, le_c); touches = λ r. refl }
 computing_plain op.Div width rd a b c le_rd le_a le_b le_c fits = record { fields = (le_rd, le_a, le_b); touches = λ r. refl }

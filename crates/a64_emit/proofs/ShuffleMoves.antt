@@ -1,11 +1,11 @@
 -- The moves of a Shuffle, and what is known of them once they are in order.
 use Rattle.std.proofs.Math.ListN.{drop_of_length-le}
-use Rattle.std.proofs.Common.{◌≡◌, ◌≢◌, ℕ, zero, suc, ◌+◌, ◌*◌, ◌/◌, ◌<◌, ◌≤◌, ◌⊎◌, ⊎_elim, List, [], ◌∷◌, ◌++◌, map, length, drop, get_or, Option, Some, None, refl, sym, ap, ◌∙◌, subst, arith, length-append, length-drop, append_assoc, append-nil}
-use Rattle.std.specs.Prelude.{All, AllPairs, Bool, true, false, nat_eq, if◌then◌else◌, slice_get}
+use Rattle.std.proofs.Common.{◌≡◌, ◌≢◌, ℕ, zero, suc, ◌+◌, ◌*◌, ◌/◌, ◌<◌, ◌≤◌, ◌⊎◌, ⊎_elim, List, [], ◌∷◌, ◌++◌, map, length, drop, get_or, Some, refl, sym, ap, ◌∙◌, subst, arith, length-append, length-drop, append_assoc, append-nil}
+use Rattle.std.specs.Prelude.{All, AllPairs, true, false, nat_eq, if◌then◌else◌, slice_get}
 use Rattle.std.proofs.lemmas.List.{get_or-map, length-map, map-append}
 use Rattle.std.proofs.lemmas.List.Elements.{All-contains, All-cons, All-head, All-nil, All-tail}
+use Rattle.b3_base.proofs.Lists.{drop_suc}
 use Rattle.b3_base.specs.declared.word.Width.{Width}
-use Rattle.b3_base.specs.declared.word.Width.TheVariants.{W64}
 use Rattle.b3_ir.specs.declared.value.Reg.{Reg as Register}
 use Rattle.stackmap.specs.Rules.{IsAllocatable}
 use Rattle.a64_inst.specs.declared.inst.Inst.{Inst}
@@ -13,7 +13,7 @@ use Rattle.a64_inst.specs.declared.item.Item.{Item}
 use Rattle.a64_inst.specs.declared.item.Item.TheVariants.{Plain}
 use Rattle.air_ir.specs.Forms.{AllFit, AnyWord, ArePairs, Immediates, IsHome, IsWord, WritesApart}
 use Rattle.air_ir.specs.Operands.{Target, targets}
-use Rattle.air_ir.specs.WellFormed.{MayName, NamesOwn}
+use Rattle.air_ir.specs.WellFormed.{NamesOwn}
 use Rattle.air_ir.specs.declared.frame.Frame.{Frame}
 use Rattle.air_ir.specs.declared.operand.Arg.{Arg}
 use Rattle.air_ir.specs.declared.operand.Arg.TheVariants.{At, Imm, Addr, Index, FrameSlot}
@@ -31,7 +31,6 @@ use Rattle.a64_code.specs.Computing.{move_reg}
 use Rattle.a64_code.specs.Places.{above_sp, plains, spill_offset}
 use Rattle.a64_emit.specs.Code.{bring, copies_code, copy_code, copy_reg, home_of, kept_register, moves_of, put_result, shuffle_code}
 use Rattle.a64_emit.specs.Fitting.{AreOrderable}
-use Rattle.a64_emit.proofs.BlockPushing.{dropped}
 use Rattle.a64_emit.proofs.Computes.{scratch_17}
 use Rattle.a64_emit.proofs.Fetching.{allocatable_other}
 use Rattle.a64_emit.proofs.Sizes.{constant_most, load_most, put_most}
@@ -221,8 +220,8 @@ two_more : (os : List Operand) (k : ℕ) (from to : Operand) → slice_get os (2
 two_more os k from to first second =
     let one : suc (2 * k) ≡ 2 * k + 1 = omega arith in
     let two : suc (2 * k + 1) ≡ 2 * (k + 1) = omega arith in
-    dropped os (2 * k) from first
-    ∙ ap (λ xs. from ∷ xs) (ap (λ j. drop j os) one ∙ dropped os (2 * k + 1) to second ∙ ap (λ j. to ∷ drop j os) two)
+    drop_suc os (2 * k) from first
+    ∙ ap (λ xs. from ∷ xs) (ap (λ j. drop j os) one ∙ drop_suc os (2 * k + 1) to second ∙ ap (λ j. to ∷ drop j os) two)
 
 pub move_added : (os : List Operand) (k : ℕ) (from to : Operand) (home : Home) (moves new : List Move) → slice_get os (2 * k) ≡ Some from
     → slice_get os (2 * k + 1) ≡ Some to → home ≡ home_of to.arg → moves ++ moves_of (drop (2 * k) os) ≡ moves_of os
@@ -257,7 +256,7 @@ copy_added f ms k m start code new there so_far e =
     let one : suc k ≡ k + 1 = omega arith in
     let here : List Inst = copy_code f m.width m.from (At m.to) in
     let rest : List Inst = copies_code f (drop (k + 1) ms) in
-    let next : drop k ms ≡ m ∷ drop (k + 1) ms = dropped ms k m there ∙ ap (λ j. m ∷ drop j ms) one in
+    let next : drop k ms ≡ m ∷ drop (k + 1) ms = drop_suc ms k m there ∙ ap (λ j. m ∷ drop j ms) one in
     ap (λ (l : List Item). l ++ plains rest) e
     ∙ append_assoc code (plains here) (plains rest)
     ∙ ap (λ (l : List Item). code ++ l) (sym (map-append Plain here rest))

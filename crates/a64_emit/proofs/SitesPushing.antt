@@ -15,6 +15,7 @@ use Rattle.a64_emit.specs.Code.{breaks}
 use Rattle.a64_emit.specs.Made.{and_place, places_read, with_home, with_written}
 use Rattle.a64_code.specs.Places.{plains}
 use Rattle.std.proofs.lemmas.List.Elements.{All-append, All-cons, All-nil}
+use Rattle.b3_base.proofs.Lists.{drop_next, get_take}
 
 one_more : (i : ℕ) → i + 1 ≡ suc i
 one_more i = omega arith
@@ -42,13 +43,6 @@ all_grown P items xs i x same lt is here before =
 
 -- ---- the operands of a site
 
-dropped : {X : Type 0} (xs : List X) (k : ℕ) (x : X) → slice_get xs k ≡ Some x → drop k xs ≡ x ∷ drop (k + 1) xs
-dropped [] k x there = absurd cc
-dropped (a ∷ xs) zero x there = let same : a ≡ x = cc in let e : 0 + 1 ≡ suc 0 = omega arith in ap (λ y. y ∷ xs) same
-dropped (a ∷ xs) (suc k) x there =
-    let e : suc (k + 1) ≡ suc k + 1 = omega arith in
-    dropped xs k x there ∙ ap (λ n. x ∷ drop n (a ∷ xs)) e
-
 none_left : {X : Type 0} (xs : List X) (k : ℕ) → length xs ≤ k → drop k xs ≡ []
 none_left [] zero le = refl
 none_left [] (suc k) le = refl
@@ -65,17 +59,11 @@ unfolding places_read
 places_next f os k o now after whole left there pushed =
     let rest : List Place = places_read f (drop (k + 1) os) in
     ap (λ xs. xs ++ rest) pushed ∙ append_assoc now (and_place (is_read o.role) f o []) rest
-    ∙ ap (λ xs. now ++ xs) (and_place_front (is_read o.role) f o rest ∙ ap (places_read f) (sym (dropped os k o there))) ∙ left
+    ∙ ap (λ xs. now ++ xs) (and_place_front (is_read o.role) f o rest ∙ ap (places_read f) (sym (drop_next os k o there))) ∙ left
 
 pub places_done : (f : Frame) (os : List Operand) (k : ℕ) (now whole : List Place) → now ++ places_read f (drop k os) ≡ whole → length os ≤ k → now ≡ whole
 unfolding places_read
 places_done f os k now whole left le = sym (append-nil now) ∙ ap (λ xs. now ++ places_read f xs) (sym (none_left os k le)) ∙ left
-
-taken_at : {X : Type 0} (xs : List X) (n k : ℕ) (x : X) → k < n → slice_get xs k ≡ Some x → slice_get (take n xs) k ≡ Some x
-taken_at [] n k x lt there = absurd cc
-taken_at (a ∷ xs) zero k x lt there = absurd (omega arith)
-taken_at (a ∷ xs) (suc n) zero x lt there = there
-taken_at (a ∷ xs) (suc n) (suc k) x lt there = taken_at xs n k x (omega arith) there
 
 few_taken : {X : Type 0} (xs : List X) (n : ℕ) → length (take n xs) ≤ n
 few_taken [] zero = omega arith
@@ -88,7 +76,7 @@ pub written_next : (os : List Operand) (n k : ℕ) (o : Operand) (set after whol
 unfolding with_written
 written_next os n k o set after whole left lt there is =
     ap (λ x. with_written x (drop (k + 1) (take n os))) is
-    ∙ ap (with_written set) (sym (dropped (take n os) k o (taken_at os n k o lt there))) ∙ left
+    ∙ ap (with_written set) (sym (drop_next (take n os) k o (get_take os n k o lt there))) ∙ left
 
 pub written_done : (os : List Operand) (n k : ℕ) (set whole : ℕ) → with_written set (drop k (take n os)) ≡ whole → n ≤ k → set ≡ whole
 unfolding with_written

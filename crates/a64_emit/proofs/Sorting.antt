@@ -7,10 +7,10 @@ use Rattle.std.proofs.lemmas.Bool.{cases_lt, ne_eqb}
 use Rattle.std.proofs.lemmas.Bool.Decides.{nat_tests}
 use Rattle.std.proofs.lemmas.List.{length-map}
 use Rattle.std.proofs.lemmas.List.Sums.{sum_by-cons}
+use Rattle.b3_base.proofs.Widths.{low-lt}
 use Rattle.b3_base.specs.Arithmetic.{low}
 use Rattle.b3_base.specs.Word.{bits}
 use Rattle.b3_base.specs.declared.word.Width.{Width}
-use Rattle.b3_base.specs.declared.word.Width.TheVariants.{W32, W64}
 use Rattle.air_ir.specs.Meaning.{case_number}
 use Rattle.a64_emit.specs.Switched.{case_of, cases_in_order, insert_word, sorted_words, switch_labels, target_of}
 use Rattle.a64_emit.specs.Trees.{Leaf, Node, Tree, node_count, tree}
@@ -206,16 +206,11 @@ module _ (width : Width) where
       let b = sum_by-cons f (low width case) (map (low width) cases) in
       omega arith
 
-  -- each is a word of the width
-  low_small : (w : Width) (x : ℕ) → low w x < 2 ^ bits w
-  low_small W32 x = omega arith
-  low_small W64 x = omega arith
-
   pub sorted_small : (cases : List ℕ) → Each (λ word. word < 2 ^ bits width) (sorted_words width cases)
   unfolding sorted_words
   sorted_small [] = tt
   sorted_small (case ∷ cases) =
-      each_inserted (λ word. word < 2 ^ bits width) (low width case) (sorted_words width cases) (low_small width case) (sorted_small cases)
+      each_inserted (λ word. word < 2 ^ bits width) (low width case) (sorted_words width cases) (low-lt width case) (sorted_small cases)
 
   -- a word that isn't among them is equal to no case
   pub none_equal : (x : ℕ) (cases : List ℕ) → Each (λ word. nat_eq word x ≡ false) (sorted_words width cases) → case_number width x cases ≡ length cases

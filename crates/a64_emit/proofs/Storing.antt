@@ -5,6 +5,7 @@ use Rattle.std.specs.List.{filter, list_any}
 use Rattle.std.proofs.lemmas.Bool.{cases_lt}
 use Rattle.std.proofs.lemmas.Bool.Decides.{nat_tests}
 use Rattle.std.proofs.lemmas.List.Elements.{All-contains, All-cons, All-head, All-nil, All-tail}
+use Rattle.std.proofs.lemmas.Option.{same_Some}
 use Rattle.b3_base.specs.Arithmetic.{low}
 use Rattle.b3_base.specs.Memory.{AreApart, AreBytes, read_word, write_word}
 use Rattle.b3_base.specs.Observed.{Memory}
@@ -30,9 +31,9 @@ use Rattle.a64_run.specs.Machine.{saved_at}
 use Rattle.a64_run.specs.Placement.{frame_pointer_of, visible}
 use Rattle.a64_code.specs.Places.{spill_offset}
 use Rattle.a64_emit.specs.Related.{Carries, HasFrame, IsRelated}
-use Rattle.a64_emit.specs.Setting.{IsSet, Setting, row}
+use Rattle.a64_emit.specs.Setting.{Setting, row, IsSet}
 use Rattle.a64_emit.proofs.FrameWords.{all_front, hidden_store, hidden_word, word_mapped, words_apart}
-use Rattle.a64_emit.proofs.Keeping.{IsKept, allocatable_kept, none_still, some_is, spill_stands}
+use Rattle.a64_emit.proofs.Keeping.{IsKept, allocatable_kept, none_still, spill_stands}
 
 -- a state with something else in a home
 abbrev pub with_home : State → Home → Held → State
@@ -230,7 +231,7 @@ module _ (z : Setting) (set : IsSet z) (serves : IsFrameOf z.procedure z.frame) 
             ⊎_elim
             (λ (same : Spill m ≡ Spill n).
             let number : m ≡ n = cc in
-            let place : offset ≡ spill_offset z.frame n = some_is offset (spill_offset z.frame n) (sym there ∙ ap (slice_get z.frame.spills) number ∙ stands.0) in (
+            let place : offset ≡ spill_offset z.frame n = same_Some offset (spill_offset z.frame n) (sym there ∙ ap (slice_get z.frame.spills) number ∙ stands.0) in (
               word,
               ap (λ (m : Memory). read_word m (frame_pointer_of z.entry - offset) 8) p.memory ∙ ap (λ (o : ℕ). read_word (write_word c.memory at 8 word) (frame_pointer_of z.entry - o) 8) place
                   ∙ read-write_same c.memory at 8 word (omega arith) ∙ ap Some (small_word word p.small),
@@ -239,7 +240,7 @@ module _ (z : Setting) (set : IsSet z) (serves : IsFrameOf z.procedure z.frame) 
             (λ (differ : Spill m ≢ Spill n).
             let word_m = rel.spills m offset named_m there in
             let stands_m = spill_stands z set serves m named_m in
-            let place : spill_offset z.frame m ≡ offset = some_is (spill_offset z.frame m) offset (sym stands_m.0 ∙ there) in (
+            let place : spill_offset z.frame m ≡ offset = same_Some (spill_offset z.frame m) offset (sym stands_m.0 ∙ there) in (
               word_m.0,
               ap (λ (m : Memory). read_word m (frame_pointer_of z.entry - offset) 8) p.memory
                   ∙ read-write_apart c.memory (frame_pointer_of z.entry - offset) 8 at 8 word

@@ -4,6 +4,7 @@ use Rattle.std.specs.Prelude.{nat_eq, nat_le, nat_lt, slice_get, if◌then◌els
 use Rattle.std.proofs.lemmas.Bool.{cases_lt}
 use Rattle.std.proofs.lemmas.Bool.Decides.{nat_tests}
 use Rattle.std.proofs.lemmas.Option.{slice_get-get_or, slice_get_within}
+use Rattle.b3_base.proofs.Widths.{low-same}
 use Rattle.b3_base.specs.Arithmetic.{low}
 use Rattle.b3_base.specs.Word.{bits}
 use Rattle.b3_base.specs.declared.word.Width.{Width}
@@ -24,7 +25,6 @@ use Rattle.air_ir.specs.declared.op.AirOp.TheVariants as op
 use Rattle.air_ir.specs.declared.op.Test.TheVariants.{Compare}
 use Rattle.air_ir.specs.declared.operand.Operand.{Operand}
 use Rattle.air_ir.specs.declared.procedure.AirInst.{AirInst}
-use Rattle.air_frame.specs.Frames.{IsFrameOf}
 use Rattle.a64_layout.specs.Layout.{place, position_of}
 use Rattle.a64_layout.specs.Machine.{Machine, moved_to, test_holds}
 use Rattle.a64_layout.specs.Run as run
@@ -34,7 +34,7 @@ use Rattle.a64_code.specs.Constants.{constant}
 use Rattle.a64_emit.specs.Emitted.{Log, log_of}
 use Rattle.a64_code.specs.Places.{plains}
 use Rattle.a64_emit.specs.Related.{IsRelated}
-use Rattle.a64_emit.specs.Setting.{IsSet, Setting, meaning_of}
+use Rattle.a64_emit.specs.Setting.{Setting, meaning_of, IsSet}
 use Rattle.a64_emit.specs.Switched.{case_items, cases_in_order, compare_word, jump_to, search_items, switch_items}
 use Rattle.a64_emit.specs.Trees.{Leaf, Node, Tree, node_count, tree}
 use Rattle.a64_emit.specs.declared.case.Case.{Case}
@@ -59,6 +59,7 @@ use Rattle.a64_emit.proofs.Straight.{AreAlike, Does, DoesOne, Reaches, Runs, doe
 use Rattle.a64_emit.proofs.Trees.{Each, each_left, each_right, in_order, tree_order}
 use Rattle.a64_code.proofs.Tests.{compare_is, with_flags}
 use Rattle.a64_emit.proofs.Words.{does_safely, touches_nothing}
+use Rattle.air_frame.specs.Frames.{IsFrameOf}
 
 -- the difference of two words is 0 where they are equal
 same_words : (width : Width) (x y : ℕ) → x < 2 ^ bits width → y < 2 ^ bits width → nat_eq (sum_of width x (complement width y) 1) 0 ≡ nat_eq y x
@@ -70,10 +71,6 @@ higher_word : (width : Width) (x y : ℕ) → x < 2 ^ bits width → y < 2 ^ bit
     → (nat_le (2 ^ bits width) (x + complement width y + 1) && not (nat_eq (sum_of width x (complement width y) 1) 0)) ≡ nat_lt y x
 higher_word W32 x y small_x small_y = grind (arith, nat_tests)
 higher_word W64 x y small_x small_y = grind (arith, nat_tests)
-
-low_of : (width : Width) (y : ℕ) → y < 2 ^ bits width → low width y ≡ y
-low_of W32 y small = omega arith
-low_of W64 y small = omega arith
 
 case_number-le : (width : Width) (x : ℕ) (cases : List ℕ) → case_number width x cases ≤ length cases
 case_number-le width x [] = omega arith
@@ -122,7 +119,7 @@ module _ (z : Setting) (set : IsSet z) (serves : IsFrameOf z.procedure z.frame)
       let inst : Inst = AddSubReg width true true 31 (reg_of a) 16 0 0 in
       let d : Machine = record { registers = with_flags m.registers (flags_of_sum width x (complement width y) 1); memory = m.memory } in
       let gives_a : Gives m.registers a width x = gives_same c.registers m.registers a width x (λ r is. p.others r (differ r is)) gives in
-      let gives_b : Gives m.registers (InReg 16) width y = (omega arith, ap (low width) p.put ∙ low_of width y small) in
+      let gives_b : Gives m.registers (InReg 16) width y = (omega arith, ap (low width) p.put ∙ low-same width y small) in
       let one : DoesOne z m inst d = does_safely z m d inst (whole_of z set serves m rel_m.frame) (touches_nothing m inst (λ pc. refl)) refl
       (λ pc. compare_is (moved_to pc m).registers m.memory width a (InReg 16) x y is
       (gives_same m.registers (moved_to pc m).registers a width x (λ r is. refl) gives_a) gives_b tt) in
@@ -153,7 +150,7 @@ module _ (z : Setting) (set : IsSet z) (serves : IsFrameOf z.procedure z.frame)
       let one : DoesOne z c inst d = does_safely z c d inst (whole_of z set serves c rel.frame)
       (touches_nothing c inst (λ pc. plain.touches (moved_to pc c).registers)) refl
       (λ pc. compare_is (moved_to pc c).registers c.memory width a (Constant y) x y is
-      (gives_same c.registers (moved_to pc c).registers a width x (λ r is. refl) gives) (low_of width y small)
+      (gives_same c.registers (moved_to pc c).registers a width x (λ r is. refl) gives) (low-same width y small)
       (small, short)) in
       let small_x = gives-small c.registers a width x gives in
       record {

@@ -3,12 +3,14 @@ use Rattle.std.proofs.Common.{◌≡◌, ℕ, suc, ◌+◌, ◌-◌, ◌*◌, �
 use Rattle.std.specs.Prelude.{All, IfSome, if◌then◌else◌, nat_lt}
 use Rattle.std.proofs.lemmas.Bool.Decides.{nat_tests}
 use Rattle.std.proofs.lemmas.List.Elements.{All-cons, All-head, All-nil, All-tail}
+use Rattle.std.proofs.lemmas.Option.{same_Some}
 use Rattle.b3_base.specs.Arithmetic.{low}
 use Rattle.b3_base.specs.Memory.{AreBytes, byte_address, read_word, with_byte_above}
 use Rattle.b3_base.specs.Word.{bits}
 use Rattle.b3_base.specs.declared.word.Width.{Width}
 use Rattle.b3_base.specs.declared.word.Width.TheVariants.{W32, W64}
 use Rattle.b3_base.proofs.WordLaws.{read_word-lt}
+use Rattle.b3_base.proofs.Widths.{low-same}
 use Rattle.exit_table.specs.Good.{IsWordOffset}
 use Rattle.stackmap.specs.Rules.{IsAllocatable}
 use Rattle.stackmap.specs.World.{below_frame_pointer, widths_of, word_in, words_in}
@@ -17,7 +19,6 @@ use Rattle.stackmap.specs.declared.site.Rep.{Rep}
 use Rattle.stackmap.specs.declared.site.Rep.TheVariants as rep
 use Rattle.air_ir.specs.Forms.{argument_home, arguments_from}
 use Rattle.air_ir.specs.Operands.{Read, and_word, is_given, is_read, word_of, words}
-use Rattle.air_ir.specs.Steps.{State}
 use Rattle.air_ir.specs.declared.frame.Frame.{Frame}
 use Rattle.air_ir.specs.declared.operand.Arg.{Arg}
 use Rattle.air_ir.specs.declared.operand.Arg.TheVariants.{At, Imm, Addr, Index, FrameSlot}
@@ -25,15 +26,16 @@ use Rattle.air_ir.specs.declared.operand.Home.TheVariants.{Reg, Spill, Tmp}
 use Rattle.air_ir.specs.declared.operand.Operand.{Operand}
 use Rattle.air_ir.specs.declared.operand.Role.TheVariants.{Use}
 use Rattle.air_ir.specs.declared.procedure.AirProc.{AirProc}
-use Rattle.air_frame.specs.Frames.{IsFrameOf}
 use Rattle.air_frame.specs.Needs.{names}
 use Rattle.a64_layout.specs.Machine.{Machine}
 use Rattle.a64_run.specs.Placement.{frame_pointer_of}
 use Rattle.a64_code.specs.Places.{spill_offset}
-use Rattle.a64_emit.specs.Related.{HasFrame, IsRelated, word_below}
-use Rattle.a64_emit.specs.Setting.{IsSet, Setting}
+use Rattle.a64_emit.specs.Related.{HasFrame, word_below, IsRelated}
 use Rattle.a64_emit.specs.Sites.{ArePlacesOf, IsRepIn, argument_places}
-use Rattle.a64_emit.proofs.Keeping.{reads_carried, some_is, spill_stands, word-small}
+use Rattle.a64_emit.proofs.Keeping.{reads_carried, spill_stands, word-small}
+use Rattle.air_ir.specs.Steps.{State}
+use Rattle.air_frame.specs.Frames.{IsFrameOf}
+use Rattle.a64_emit.specs.Setting.{IsSet, Setting}
 
 -- ---- the low half of a word
 
@@ -42,7 +44,7 @@ below_byte : (n : ℕ) (low byte : Option ℕ) (w : ℕ) → with_byte_above n l
     → (l : ℕ) × (b : ℕ) × (low ≡ Some l) × (l + b * 2 ^ (8 * n) ≡ w)
 below_byte n None byte w is = absurd cc
 below_byte n (Some l) None w is = absurd cc
-below_byte n (Some l) (Some b) w is = (l, b, refl, some_is (l + b * 2 ^ (8 * n)) w is)
+below_byte n (Some l) (Some b) w is = (l, b, refl, same_Some (l + b * 2 ^ (8 * n)) w is)
 
 half_of : (l4 l5 l6 l7 w b4 b5 b6 b7 : ℕ) → l4 + b4 * 2 ^ (8 * 4) ≡ l5 → l5 + b5 * 2 ^ (8 * 5) ≡ l6 → l6 + b6 * 2 ^ (8 * 6) ≡ l7 → l7 + b7 * 2 ^ (8 * 7) ≡ w
     → l4 < 2 ^ (8 * 4) → l4 ≡ w % 2 ^ 32
@@ -78,10 +80,6 @@ below_is sp bytes offset small room begins = omega arith
 whole_word : (word w : ℕ) → word < 2 ^ 64 → word % 2 ^ 64 ≡ w → word ≡ w
 whole_word word w small e = omega arith
 
-low_same : (width : Width) (word : ℕ) → word < 2 ^ bits width → low width word ≡ word
-low_same W32 word small = omega arith
-low_same W64 word small = omega arith
-
 -- some words read, the first of them apart
 pub and_some : (width : Width) (o : Option ℕ) (ws : Option (List Read)) (rs : List Read) → and_word width o ws ≡ Some rs
     → (w : ℕ) × (vs : List Read) × (o ≡ Some w) × (ws ≡ Some vs) × ((width, w) ∷ vs ≡ rs)
@@ -112,13 +110,13 @@ module _ (z : Setting) (set : IsSet z) (serves : IsFrameOf z.procedure z.frame) 
     word_told width (At (Spill n)) where_ w told is reads =
         let held = rel.spills n is.0 told is.1 in
         let stands = spill_stands z set serves n told in
-        let same : spill_offset z.frame n ≡ is.0 = some_is (spill_offset z.frame n) is.0 (sym stands.0 ∙ is.1) in
+        let same : spill_offset z.frame n ≡ is.0 = same_Some (spill_offset z.frame n) is.0 (sym stands.0 ∙ is.1) in
         ap (word_in c.registers.x c.memory width) is.2
         ∙ ap (λ a. read_word c.memory a (bits width / 8)) (below_there c is.0 rel.frame (subst (IsWordOffset z.frame.bytes) same stands.1.0))
         ∙ in_frame_word c width is.0 held.0 w rel.frame held.1 (reads_carried width (s.homes (Spill n)) held.0 w held.2 reads)
     word_told width (At (Tmp n)) where_ w told is reads = absurd told
     word_told width (Imm word) where_ w told is reads =
-        ap (word_in c.registers.x c.memory width) is ∙ ap Some (sym (low_same width word told)) ∙ reads
+        ap (word_in c.registers.x c.memory width) is ∙ ap Some (sym (low-same width word told)) ∙ reads
     word_told width (Addr base offset) where_ w told is reads = absurd told
     word_told width (Index base index shift) where_ w told is reads = absurd told
     word_told width (FrameSlot n) where_ w told is reads = absurd told

@@ -1,15 +1,12 @@
 -- The labels of emitted code are the numbers below their count, each once, and each that is named is there.
-use Rattle.std.proofs.Common.{◌≡◌, ℕ, zero, suc, ◌+◌, ◌^◌, ◌<◌, List, [], ◌∷◌, Option, Some, None, length, refl, subst, arith}
-use Rattle.std.specs.Prelude.{All, slice_get}
+use Rattle.std.proofs.Common.{◌≡◌, ℕ, ◌+◌, ◌^◌, ◌<◌, List, Option, Some, None, length, refl, subst, arith}
+use Rattle.std.specs.Prelude.{slice_get, All}
 use Rattle.std.proofs.lemmas.Option.{slice_get_within}
 use Rattle.std.specs.List.{position_or_len}
+use Rattle.b3_base.proofs.Lists.{get_some}
 use Rattle.stackmap.specs.declared.site.Site.{Site}
-use Rattle.exit_table.specs.Good.{IsGoodSaved}
 use Rattle.a64_inst.specs.declared.item.Item.{Item}
 use Rattle.a64_inst.specs.declared.item.Item.TheVariants.{If, IfBit, IfZero, Jump, Label, Mark, Plain}
-use Rattle.air_ir.specs.WellFormed.{IsWellFormed}
-use Rattle.air_ir.specs.declared.frame.Frame.{Frame}
-use Rattle.air_ir.specs.declared.procedure.AirProc.{AirProc}
 use Rattle.a64_layout.specs.Branch.{IsTest, branch_in}
 use Rattle.a64_layout.specs.Layout.{most_words, position_of}
 use Rattle.a64_layout.specs.Text.{IsWellLabelled, is_mark, mark_position_of}
@@ -21,6 +18,10 @@ use Rattle.a64_emit.proofs.LabelCounts.{all_labels, below_is, below_most, code_t
 use Rattle.a64_emit.proofs.Labelled.{IsFair, code_fair}
 use Rattle.a64_emit.proofs.Marks.{Marked, mark_once, mark_stands, mark_within, marks_counted}
 use Rattle.a64_emit.proofs.Positions.{each_at}
+use Rattle.exit_table.specs.Good.{IsGoodSaved}
+use Rattle.air_ir.specs.WellFormed.{IsWellFormed}
+use Rattle.air_ir.specs.declared.frame.Frame.{Frame}
+use Rattle.air_ir.specs.declared.procedure.AirProc.{AirProc}
 
 -- what is fair of a branch
 fair_branch : (n : ℕ) (test : Test) (label : ℕ) (o : Option Item) → ((item : Item) → o ≡ Some item → IsFair n item) → branch_in o ≡ Some (test, label)
@@ -40,11 +41,6 @@ fair_branch n test label (Some (Plain inst)) fair is = absurd (no_some (test, la
 fair_branch n test label (Some (Jump to)) fair is = absurd (no_some (test, label) is)
 fair_branch n test label (Some (Label to)) fair is = absurd (no_some (test, label) is)
 fair_branch n test label (Some (Mark to)) fair is = absurd (no_some (test, label) is)
-
-some_at : {X : Type 0} (xs : List X) (k : ℕ) → k < length xs → (x : X) × (slice_get xs k ≡ Some x)
-some_at [] k lt = absurd (omega arith)
-some_at (x ∷ xs) zero lt = (x, refl)
-some_at (x ∷ xs) (suc k) lt = some_at xs k (omega arith)
 
 module _ (p : AirProc) (f : Frame) (well : IsWellFormed p) (limit : f.bytes < 2 ^ 21) (goods : All (IsGoodSaved f.bytes) f.saved) where
   fair_at : (k : ℕ) (item : Item) → slice_get (emitted p f) k ≡ Some item → IsFair (all_labels p) item
@@ -71,7 +67,7 @@ module _ (p : AirProc) (f : Frame) (well : IsWellFormed p) (limit : f.bytes < 2 
   mark_there : (sites : List Site) → Marked 0 (emitted p f) sites → (mark : ℕ) → mark < length sites → mark_position_of (emitted p f) mark < length (emitted p f)
   unfolding mark_position_of
   mark_there sites marked mark lt =
-      let site = some_at sites mark lt in
+      let site = get_some sites mark lt in
       let stands = mark_stands 0 (emitted p f) sites marked mark site.0 site.1 in
       let e : 0 + mark ≡ mark = omega arith in
       let within = slice_get_within (emitted p f) stands.at (Mark (0 + mark)) stands.there in

@@ -2,6 +2,7 @@
 use Rattle.std.proofs.Common.{◌≡◌, ◌≢◌, ℕ, ◌+◌, ◌-◌, ◌*◌, ◌/◌, ◌%◌, ◌^◌, ◌<◌, ◌≤◌, min, true, false, List, [], ◌∷◌, Option, Some, None, refl, sym, ap, ◌∙◌, subst, arith, nat_eq, eq-eqb}
 use Rattle.std.specs.Prelude.{nat_le, if◌then◌else◌}
 use Rattle.std.proofs.lemmas.Bool.{ne_eqb}
+use Rattle.std.proofs.lemmas.Option.{same_Some}
 use Rattle.b3_base.specs.Memory.{byte_address, is_mapped, read_word, write_word}
 use Rattle.b3_base.specs.declared.word.Width.TheVariants.{W64}
 use Rattle.a64_inst.specs.Step.{AreWords, Registers, Stepped, step_of, goes_on, put, access, add_sub_imm}
@@ -153,14 +154,11 @@ far_address sp bytes offset small room aligned whole ends begins = omega arith
 at_or_above : (sp bytes offset i : ℕ) → sp < 2 ^ 64 → bytes ≤ sp → 8 ≤ offset → offset + 16 ≤ bytes → i < 8 → sp - bytes ≤ byte_address (sp - 16 - offset) i
 at_or_above sp bytes offset i small room ends begins lt = omega arith
 
-same_pair : (a b : ℕ × ℕ) → Some a ≡ Some b → a ≡ b
-same_pair a b e = cc
-
 -- an access at an address that is at SP or above
 pub touches_word : (c : Machine) (inst : Inst) (at : ℕ) → ((pc : ℕ) → touched inst (moved_to pc c).registers ≡ Some (at, 8))
     → ((i : ℕ) → i < 8 → c.registers.sp ≤ byte_address at i) → TouchesWell c inst
 touches_word c inst at is above pc other n i some lt =
-    let both : (at, 8) ≡ (other, n) = same_pair (at, 8) (other, n) (sym (is pc) ∙ some) in
+    let both : (at, 8) ≡ (other, n) = same_Some (at, 8) (other, n) (sym (is pc) ∙ some) in
     let first : at ≡ other = ap (λ (p : ℕ × ℕ). p.0) both in
     let count : 8 ≡ n = ap (λ (p : ℕ × ℕ). p.1) both in
     subst (λ (x : ℕ). c.registers.sp ≤ byte_address x i) first (above i (omega (arith, count)))

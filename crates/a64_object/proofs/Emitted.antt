@@ -1,12 +1,11 @@
 -- What is selected is emitted.
 use Rattle.std.proofs.Common.{◌≡◌, ℕ, ◌<◌, Bool, true, false, refl, sym, subst, arith, lt-ltb}
 use Rattle.std.specs.Prelude.{All}
-use Rattle.b3_ir.specs.Procedure.{AllFit, Procedure}
+use Rattle.b3_base.proofs.Lists.{All-from_places}
 use Rattle.b3_ir.specs.declared.opcode.Opcode.TheVariants.{Patchpoint}
 use Rattle.b3_ir.specs.declared.value.Stackmap.{Stackmap}
 use Rattle.b3_ir.specs.declared.value.Value.{Value}
 use Rattle.b3_rules.specs.Rules.{HasSize}
-use Rattle.b3_rules.specs.Valid.{IsValidProcedure}
 use Rattle.air_ir.specs.Expressed.{IsOpOf}
 use Rattle.air_ir.specs.Kinds.{Kind, Calls, Checks, ChecksResult, Patches, Copies, Computes, Loads, Stores, SlotAddresses, FramePointers, Branches, Jumps, Switches, Returns, Fails, kind_of}
 use Rattle.air_ir.specs.WellFormed.{StandsAt}
@@ -18,8 +17,9 @@ use Rattle.air_ir.specs.declared.procedure.AirProc.{AirProc}
 use Rattle.air_spill.specs.Stays.{ComesFromEach}
 use Rattle.air_select.specs.Contract.{AreExpressed, has_stackmap}
 use Rattle.a64_emit.specs.Built.{IsBuilt, is_built, is_built_kind}
-use Rattle.a64_object.proofs.Lists.{all_of}
 use Rattle.a64_object.proofs.Values.{has_size, named_in}
+use Rattle.b3_ir.specs.Procedure.{AllFit, Procedure}
+use Rattle.b3_rules.specs.Valid.{IsValidProcedure}
 
 -- ---- kinds
 kind_built : (k : Kind) (traps : Bool) → is_built_kind k traps ≡ true
@@ -71,8 +71,8 @@ module _ (p : Procedure) (valid : IsValidProcedure p) (fit : AllFit p.blocks) wh
 
   pub built_of : (q r : AirProc) → AreExpressed p q → ComesFromEach q r → IsBuilt r
   built_of q r expressed comes =
-      all_of (λ (b : AirBlock). All (λ (i : AirInst). is_built i.op i.traps ≡ true) b.insts) r.blocks
-      (λ n block block_there. all_of (λ (i : AirInst). is_built i.op i.traps ≡ true) block.insts
+      All-from_places (λ (b : AirBlock). All (λ (i : AirInst). is_built i.op i.traps ≡ true) b.insts) r.blocks
+      (λ n block block_there. All-from_places (λ (i : AirInst). is_built i.op i.traps ≡ true) block.insts
       (λ k j inst_there.
       let from = comes n k j (record { of = block; block_there = block_there; inst_there = inst_there }) in
       let i : AirInst = from.1 in

@@ -4,7 +4,7 @@ use Rattle.std.specs.Prelude.{All, AllPairs, IsSomeAnd, map, slice_get, sum_by}
 use Rattle.std.specs.Option.{option_map}
 use Rattle.std.specs.List.{flat_map}
 use Rattle.std.proofs.lemmas.Bool.{cases_lt}
-use Rattle.std.proofs.lemmas.Option.{get_or_from_slice_get, slice_get-get_or, slice_get-map}
+use Rattle.std.proofs.lemmas.Option.{get_or_from_slice_get, slice_get-get_or, slice_get-map, same_Some}
 use Rattle.std.proofs.lemmas.List.Elements.{All-cons, All-head, All-map, All-nil, All-tail, All-weaker}
 use Rattle.std.proofs.lemmas.List.{length-map}
 use Rattle.std.proofs.lemmas.List.Concat.{flat_map-cons}
@@ -37,7 +37,7 @@ use Rattle.a64_object.proofs.LocalSites.{IsLocal, local_apart, local_row, local_
 use Rattle.a64_object.proofs.SiteLists.{order_behind}
 use Rattle.a64_object.proofs.SiteBytes.{sites_small}
 use Rattle.a64_object.proofs.Making.{small_row, some_words}
-use Rattle.a64_object.proofs.Lists.{one_in, same_some}
+use Rattle.a64_object.proofs.Lists.{one_in}
 
 row_good : (p : Procedure) (x : Part) → IsPartOf p x → IsGoodFrame x.row
 row_good p x of = subst IsGoodFrame (sym of.made.row_is) of.made.is_frame.good
@@ -274,8 +274,8 @@ in_text ps parts taken k p part symbol there part_there its row s within =
     (λ less. let apart = starts_apart parts s.k k s.part s.part_there less in absurd (omega arith))
     (λ ge. ⊎_elim (λ more. let apart = starts_apart parts k s.k own.0 own.1 more in absurd (omega arith)) (λ le. omega arith) (cases_lt k s.k))
     (cases_lt s.k k) in
-    let same_p : s.p ≡ p = same_some s.p p (sym s.p_there ∙ ap (slice_get ps) same ∙ there) in
-    let same_part : s.part ≡ part = same_some s.part part (sym s.part_there ∙ ap (slice_get parts) same ∙ part_there) in
+    let same_p : s.p ≡ p = same_Some s.p p (sym s.p_there ∙ ap (slice_get ps) same ∙ there) in
+    let same_part : s.part ≡ part = same_Some s.part part (sym s.part_there ∙ ap (slice_get parts) same ∙ part_there) in
     record {
       made = subst (λ q. IsPartOf q part) same_p (subst (IsPartOf s.p) same_part s.of);
       j = s.j;
@@ -304,10 +304,10 @@ each_code : (ps : List Procedure) (parts : List Part) → All IsTaken ps → Are
     → IsCodeOfOne p q (object_of parts) symbol frame
 each_code ps parts taken are k p q symbol frame there also its own =
     let stands = each_stands ps parts 0 0 k p symbol frame are refl there its own in
-    let same : p ≡ q = same_some p q (sym there ∙ also) in
+    let same : p ≡ q = same_Some p q (sym there ∙ also) in
     let part = symbol_is 0 parts k symbol its in
     let begins : symbol.offset ≡ 0 + start_in parts k = ap (λ (x : Symbol). x.offset) part.2 in
-    let same_part : part.0 ≡ stands.part = same_some part.0 stands.part (sym part.1 ∙ stands.there) in
+    let same_part : part.0 ≡ stands.part = same_Some part.0 stands.part (sym part.1 ∙ stands.there) in
     let code : HasCode stands.part.words stands.part.sites (object_of parts) symbol = record {
       sites = λ i lt.
           ap (λ n. site_among (n + 4 * i) (sites_from 0 parts)) begins

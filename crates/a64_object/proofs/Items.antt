@@ -2,7 +2,7 @@
 use Rattle.std.proofs.Common.{◌≡◌, ℕ, zero, suc, ◌+◌, ◌*◌, ◌^◌, ◌<◌, ◌≤◌, ◌⊎◌, inl, inr, ⊎_elim, Bool, true, false, if◌then◌else◌, Option, Some, None, List, length, refl, sym, ap, ◌∙◌, subst, arith, get_or}
 use Rattle.std.specs.Prelude.{slice_get}
 use Rattle.std.proofs.lemmas.Bool.{and_parts, cases_lt}
-use Rattle.std.proofs.lemmas.Option.{slice_get_within, slice_get-get_or}
+use Rattle.std.proofs.lemmas.Option.{slice_get_within, slice_get-get_or, none-some}
 use Rattle.b3_base.specs.Run.{iterate}
 use Rattle.b3_base.proofs.Run.{iterate-add, iterate-one, iterate-suc, iterate-suc_last, iterate-zero, moments_joined}
 use Rattle.stackmap.specs.declared.site.Site.{Site}
@@ -32,9 +32,9 @@ use Rattle.a64_emit.specs.Emitted.{IsProper, IsProperAt, IsSafe, IsSafeItem, Log
 use Rattle.a64_emit.specs.Sites.{SuitsItems}
 use Rattle.a64_object.proofs.Lists.{no_some}
 use Rattle.a64_object.proofs.TextWords.{HasWord, has_word, is_jump}
-use Rattle.a64_object.proofs.Sited.{HasSites, before_is, branch_row, plain_row, some_size}
+use Rattle.a64_object.proofs.Sited.{before_is, branch_row, plain_row, some_size, HasSites}
 use Rattle.a64_object.proofs.Stepping.{IsQuiet, begin_of, jump_above, jump_next, jump_x, none_quiet, nothing_there, quiet_proper, same_step, state_of, trap_quiet}
-use Rattle.a64_object.proofs.Subject.{Stands, Subject, as_many_words, at_item, entry, item_step, rows_in, setting}
+use Rattle.a64_object.proofs.Subject.{as_many_words, at_item, entry, item_step, rows_in, setting, Stands, Subject}
 
 -- ---- n steps, each from a proper moment
 abbrev pub Ran : Entry → ℕ → Config → Config → Type 0
@@ -66,11 +66,8 @@ ran_more e n x y z ran step proper =
 pub ran_count : (e : Entry) (m n : ℕ) (x y : Config) → m ≡ n → Ran e n x y → Ran e m x y
 ran_count e m n x y same ran = subst (λ (k : ℕ). Ran e k x y) (sym same) ran
 
-none_done : (done : ℕ × Machine) → None ≡ Some done → ⊥
-none_done done e = cc
-
 pub passes_nothing : (code : List Item) → PassesInstructions code nothing
-passes_nothing code k mark c done there by i lt = absurd (none_done done by)
+passes_nothing code k mark c done there by i lt = absurd (none-some done by)
 
 -- ---- an instruction that goes on
 went_on : (b : Bool) (j k : ℕ) (inst : Inst) (s after : Machine) → run.after j (if b then run.Goes 1 s else run.Ends inst s) ≡ run.At k after → b ≡ true

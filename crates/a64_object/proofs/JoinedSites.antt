@@ -5,6 +5,8 @@ use Rattle.std.specs.List.{flat_map}
 use Rattle.std.proofs.lemmas.List.Concat.{flat_map-cons}
 use Rattle.std.proofs.lemmas.List.Elements.{All-append, All-head, All-map, All-nil, All-tail, All-weaker}
 use Rattle.std.proofs.lemmas.List.Sums.{sum_by-cons}
+use Rattle.std.proofs.lemmas.Option.{same_Some}
+use Rattle.b3_base.proofs.Lists.{get_front, get_behind, All-from_places}
 use Rattle.b3_ir.specs.Procedure.{Procedure}
 use Rattle.exit_table.specs.Good.{AreInOrder}
 use Rattle.exit_table.specs.declared.tables.SiteRow.{SiteRow}
@@ -13,8 +15,6 @@ use Rattle.elf_obj.specs.declared.object.Symbol.{Symbol}
 use Rattle.a64_run.specs.Machine.{site_among}
 use Rattle.a64_object.specs.Joined.{ArePartsOf, IsPartOf, Part, site_from, sites_at, sites_from, symbol_at, symbols_from, words_in}
 use Rattle.a64_object.proofs.Taken.{IsTaken}
-use Rattle.air_fold.proofs.Places.{get_behind, get_front}
-use Rattle.a64_object.proofs.Lists.{all_of, same_some}
 use Rattle.a64_object.proofs.LocalSites.{local_order, local_row}
 use Rattle.a64_object.proofs.SiteLists.{among_here}
 
@@ -42,7 +42,7 @@ start_suc x parts k = sum_by-cons (λ n. n) (size_in x) (take k (sizes parts))
 pub starts_apart : (parts : List Part) (j k : ℕ) (x : Part) → slice_get parts j ≡ Some x → j < k → start_in parts j + size_in x ≤ start_in parts k
 starts_apart [] j k x there less = absurd cc
 starts_apart (y ∷ parts) zero zero x there less = absurd (omega arith)
-starts_apart (y ∷ parts) zero (suc k) x there less = let same : size_in y ≡ size_in x = ap size_in (same_some y x there) in
+starts_apart (y ∷ parts) zero (suc k) x there less = let same : size_in y ≡ size_in x = ap size_in (same_Some y x there) in
     omega (arith, start_suc y parts k, start_zero (y ∷ parts))
 starts_apart (y ∷ parts) (suc j) zero x there less = absurd (omega arith)
 starts_apart (y ∷ parts) (suc j) (suc k) x there less = omega (arith, start_suc y parts j, start_suc y parts k, starts_apart parts j k x there (omega arith))
@@ -52,7 +52,7 @@ pub symbol_is : (offset : ℕ) (parts : List Part) (k : ℕ) (symbol : Symbol) �
 symbol_is offset [] k symbol there = absurd cc
 symbol_is offset (x ∷ parts) zero symbol there =
     let e : offset ≡ offset + start_in (x ∷ parts) 0 = omega (arith, start_zero (x ∷ parts)) in
-    (x, refl, sym (same_some (symbol_at offset x) symbol there) ∙ ap (λ n. symbol_at n x) e)
+    (x, refl, sym (same_Some (symbol_at offset x) symbol there) ∙ ap (λ n. symbol_at n x) e)
 symbol_is offset (x ∷ parts) (suc k) symbol there =
     let rest = symbol_is (offset + 4 * length x.words) parts k symbol there in
     let e : offset + 4 * length x.words + start_in parts k ≡ offset + start_in (x ∷ parts) (suc k) = omega (arith, start_suc x parts k) in
@@ -127,7 +127,7 @@ each_site (p ∷ ps) [] offset are = absurd are
 each_site (p ∷ ps) (x ∷ parts) offset are =
     All-append (IsSiteAt (p ∷ ps) (x ∷ parts) offset) (sites_at offset x) (sites_from (offset + 4 * length x.words) parts)
     (All-map (IsSiteAt (p ∷ ps) (x ∷ parts) offset) (site_from offset) x.sites
-    (all_of (λ local. IsSiteAt (p ∷ ps) (x ∷ parts) offset (site_from offset local)) x.sites
+    (All-from_places (λ local. IsSiteAt (p ∷ ps) (x ∷ parts) offset (site_from offset local)) x.sites
     (λ j local there. first_site ps parts p x offset j local are.0 there)))
     (All-weaker (IsSiteAt ps parts (offset + 4 * length x.words)) (IsSiteAt (p ∷ ps) (x ∷ parts) offset) (λ row s. later_site ps parts p x offset row s)
     (sites_from (offset + 4 * length x.words) parts) (each_site ps parts (offset + 4 * length x.words) are.1))
@@ -147,7 +147,7 @@ rows_in_order (p ∷ ps) (x ∷ parts) offset taken are whole =
 -- ---- the site at a word of a part
 -- the rows of a part stand in it
 part_within : (p : Procedure) (x : Part) → IsTaken p → IsPartOf p x → All (λ (row : SiteRow). row.pc < 4 * length x.words) x.sites
-part_within p x taken of = all_of (λ (row : SiteRow). row.pc < 4 * length x.words) x.sites (λ j row there.
+part_within p x taken of = All-from_places (λ (row : SiteRow). row.pc < 4 * length x.words) x.sites (λ j row there.
     let local = local_row p taken x.words x.row x.sites of.made j row there in
     let ends = local.ends in
     let some = local.some in
@@ -165,7 +165,7 @@ rows_behind offset [] = All-nil _
 rows_behind offset (x ∷ parts) =
     All-append (λ (row : SiteRow). offset ≤ row.pc) (sites_at offset x) (sites_from (offset + 4 * length x.words) parts)
     (All-map (λ (row : SiteRow). offset ≤ row.pc) (site_from offset) x.sites
-    (all_of (λ (row : SiteRow). offset ≤ offset + row.pc) x.sites (λ j row there. omega arith)))
+    (All-from_places (λ (row : SiteRow). offset ≤ offset + row.pc) x.sites (λ j row there. omega arith)))
     (All-weaker (λ (row : SiteRow). offset + 4 * length x.words ≤ row.pc) (λ (row : SiteRow). offset ≤ row.pc) (λ row le. omega arith)
     (sites_from (offset + 4 * length x.words) parts) (rows_behind (offset + 4 * length x.words) parts))
 
@@ -178,7 +178,7 @@ site_in [] [] offset before k i x taken are low there lt = absurd cc
 site_in [] (y ∷ parts) offset before k i x taken are low there lt = absurd are
 site_in (p ∷ ps) [] offset before k i x taken are low there lt = absurd are
 site_in (p ∷ ps) (y ∷ parts) offset before zero i x taken are low there lt =
-    let same : y ≡ x = same_some y x there in
+    let same : y ≡ x = same_Some y x there in
     let short : i < length y.words = subst (λ (a : Part). i < length a.words) (sym same) lt in
     let e : offset + start_in (y ∷ parts) 0 + 4 * i ≡ offset + 4 * i = omega (arith, start_zero (y ∷ parts)) in
     ap (λ n. site_among n (before ++ sites_from offset (y ∷ parts))) e

@@ -6,7 +6,8 @@ use Rattle.std.proofs.lemmas.List.{append-nil, map-append}
 use Rattle.std.proofs.lemmas.List.Concat.{flat_map-cons}
 use Rattle.std.proofs.lemmas.List.Sums.{sum_by-cons, sum_by-take-le}
 use Rattle.std.proofs.lemmas.Grind.{flat_map-append}
-use Rattle.std.proofs.lemmas.Option.{get_or_from_slice_get}
+use Rattle.std.proofs.lemmas.Option.{get_or_from_slice_get, same_Some}
+use Rattle.b3_base.proofs.Lists.{get_front, get_behind}
 use Rattle.b3_ir.specs.Procedure.{Kept, Procedure, empty_kept, total}
 use Rattle.exit_table.specs.declared.tables.FrameRow.{FrameRow}
 use Rattle.exit_table.specs.declared.tables.SiteRow.{SiteRow}
@@ -16,8 +17,7 @@ use Rattle.a64_run.specs.Agrees.{child_count}
 use Rattle.a64_object.specs.Joined.{ArePartsOf, IsJoinedOf, IsPartOf, Part, object_of, row_in, site_from, sites_at, sites_from, symbol_at, symbols_from, with_part, words_in}
 use Rattle.air_select.specs.Contract.{procedure_at}
 use Rattle.a64_object.specs.Made.{IsMadeOf}
-use Rattle.air_fold.proofs.Places.{get_behind, get_front, take_item}
-use Rattle.a64_object.proofs.Lists.{same_some}
+use Rattle.air_fold.proofs.Places.{take_item}
 use Rattle.a64_object.proofs.Making.{few_words}
 
 -- ---- the parts of procedures
@@ -112,9 +112,9 @@ each_stands [] [] offset first k p symbol row are at there its own = absurd cc
 each_stands [] (x ∷ parts) offset first k p symbol row are at there its own = absurd are
 each_stands (q ∷ ps) [] offset first k p symbol row are at there its own = absurd are
 each_stands (q ∷ ps) (x ∷ parts) offset first zero p symbol row are at there its own =
-    let same_p : q ≡ p = same_some q p there in
-    let same_symbol : symbol_at offset x ≡ symbol = same_some (symbol_at offset x) symbol its in
-    let same_row : x.row ≡ row = same_some x.row row own in
+    let same_p : q ≡ p = same_Some q p there in
+    let same_symbol : symbol_at offset x ≡ symbol = same_Some (symbol_at offset x) symbol its in
+    let same_row : x.row ≡ row = same_Some x.row row own in
     subst (λ y. StandsInText (x ∷ parts) first 0 y row symbol) same_p
     (subst (λ y. StandsInText (x ∷ parts) first 0 q y symbol) same_row
     (subst (StandsInText (x ∷ parts) first 0 q x.row) same_symbol (first_stands q x parts offset first at are.0)))

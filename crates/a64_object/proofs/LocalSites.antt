@@ -2,8 +2,7 @@
 use Rattle.std.proofs.Common.{◌≡◌, ◌≢◌, ℕ, ◌+◌, ◌*◌, ◌%◌, ◌^◌, ◌<◌, ◌≤◌, inl, inr, Some, List, ◌++◌, length, refl, sym, ap, ◌∙◌, subst, arith, get_or}
 use Rattle.std.specs.Prelude.{All, IsSomeAnd, map, slice_get}
 use Rattle.std.proofs.lemmas.Bool.{cases_lt}
-use Rattle.std.proofs.lemmas.Option.{get_or_from_slice_get, slice_get_within}
-use Rattle.b3_ir.specs.Procedure.{Procedure}
+use Rattle.std.proofs.lemmas.Option.{get_or_from_slice_get, slice_get_within, same_Some}
 use Rattle.stackmap.specs.declared.site.Place.{Place}
 use Rattle.stackmap.specs.declared.site.Site.{Site}
 use Rattle.stackmap.specs.declared.site.SiteKind.{SiteKind}
@@ -23,14 +22,15 @@ use Rattle.a64_layout.proofs.Words.{words_length}
 use Rattle.a64_run.specs.CodeOf.{HasItsValue}
 use Rattle.a64_emit.specs.Sites.{IsSiteIn, SuitsItems}
 use Rattle.a64_object.specs.Joined.{site_from}
-use Rattle.a64_object.specs.Made.{IsMadeOf}
-use Rattle.a64_object.proofs.Taken.{IsTaken}
-use Rattle.a64_object.proofs.Lists.{one_in, same_some}
+use Rattle.a64_object.proofs.Lists.{one_in}
 use Rattle.a64_object.proofs.TextWords.{plain_at}
 use Rattle.a64_object.proofs.Sited.{HasSites, places_apart, site_places, site_within, some_size}
 use Rattle.a64_object.proofs.SitesOf.{has_its_value, one_few, one_good, one_placed}
 use Rattle.a64_object.proofs.SiteLists.{IsRowOf, order_from, row_is}
 use Rattle.a64_object.proofs.Agreeing.{has_sites, site_is}
+use Rattle.b3_ir.specs.Procedure.{Procedure}
+use Rattle.a64_object.specs.Made.{IsMadeOf}
+use Rattle.a64_object.proofs.Taken.{IsTaken}
 
 -- ---- the words of sites
 link_word : (rn : ℕ) → word (BranchReg Blr rn) ≡ 0xD63F_0000 + 32 * rn
@@ -142,7 +142,7 @@ module _ (p : Procedure) (taken : IsTaken p) (words : List ℕ) (frame : FrameRo
           | inl more ↦ values_differ l k b a other there more (sym same)
           | inr also ↦
               let one : k ≡ l = omega arith in
-              pcs (ap (λ (x : SiteRow). x.pc) (same_some a b (sym there ∙ ap (slice_get rows) one ∙ other)))
+              pcs (ap (λ (x : SiteRow). x.pc) (same_Some a b (sym there ∙ ap (slice_get rows) one ∙ other)))
         ]
       ]
 

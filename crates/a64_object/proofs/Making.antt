@@ -8,6 +8,7 @@ use Rattle.std.proofs.lemmas.List.Filters.{length-filter_both}
 use Rattle.std.proofs.lemmas.List.Sums.{sum_by-cons}
 use Rattle.std.proofs.lemmas.Option.{slice_get-map, slice_get-get_or, slice_get_within}
 use Rattle.std.specs.Option.{option_map}
+use Rattle.b3_base.proofs.Lists.{All-from_places}
 use Rattle.b3_ir.specs.Procedure.{Kept, Procedure, empty_kept, procedures, total}
 use Rattle.b3_ir.specs.declared.procedure.SlotLine.{SlotLine}
 use Rattle.b3_rules.specs.Valid.{IsValidProcedure, SlotAt}
@@ -15,24 +16,23 @@ use Rattle.b3_rules.specs.declared.rule.Rule.TheVariants as rule
 use Rattle.stackmap.specs.declared.site.SavedRow.{SavedRow}
 use Rattle.stackmap.specs.declared.site.SlotRow.{SlotRow}
 use Rattle.exit_table.specs.declared.tables.FrameRow.{FrameRow}
-use Rattle.exit_table.specs.declared.tables.SiteRow.{SiteRow}
 use Rattle.air_ir.specs.declared.procedure.AirProc.{AirProc}
 use Rattle.air_ir.specs.Weight.{weight}
 use Rattle.air_frame.specs.Frames.{HaveRoom, rounded, slot_bytes, slot_rows}
 use Rattle.air_frame.specs.Needs.{callee_saved, spill_count, writes}
 use Rattle.a64_run.specs.Agrees.{child_count}
 use Rattle.air_select.specs.Contract.{IsWithinLimits, procedure_at}
-use Rattle.a64_object.specs.Made.{IsMadeOf, IsPlacedOf}
+use Rattle.a64_object.specs.Made.{IsPlacedOf, IsMadeOf}
 use Rattle.a64_object.specs.Taken.{HasFewSlots, bytes_in}
 use Rattle.a64_object.proofs.Taken.{IsTaken}
 use Rattle.a64_object.proofs.Agreeing.{rows_length, ten_saved}
 use Rattle.a64_layout.proofs.Words.{words_length}
 use Rattle.air_fold.proofs.Places.{take_item}
-use Rattle.a64_object.proofs.Lists.{all_of}
+use Rattle.exit_table.specs.declared.tables.SiteRow.{SiteRow}
 
 -- ---- a procedure of a module
 sizes_of : (p : Procedure) → IsValidProcedure p → All (λ (slot : SlotLine). 1 ≤ slot.bytes) p.slots
-sizes_of p valid = all_of (λ (slot : SlotLine). 1 ≤ slot.bytes) p.slots
+sizes_of p valid = All-from_places (λ (slot : SlotLine). 1 ≤ slot.bytes) p.slots
     (λ k slot there. let keeps : (slot.number ≡ k) × (0 < slot.bytes) = valid rule.Slots (SlotAt k slot) there in omega (arith, keeps.1))
 
 -- the procedure at a place of a module

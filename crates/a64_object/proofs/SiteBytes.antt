@@ -7,6 +7,7 @@ use Rattle.std.proofs.lemmas.Bool.Decides.{nat_tests}
 use Rattle.std.proofs.lemmas.List.Concat.{flat_map-cons}
 use Rattle.std.proofs.lemmas.List.Elements.{All-head, All-tail}
 use Rattle.std.proofs.lemmas.List.Sums.{sum_by-append, sum_by-cons}
+use Rattle.std.proofs.lemmas.Option.{same_Some}
 use Rattle.b3_ir.specs.Fits.{reported_of}
 use Rattle.b3_ir.specs.Naming.{all_values, value_named, with_id}
 use Rattle.b3_ir.specs.Procedure.{Block, Procedure, total}
@@ -15,16 +16,16 @@ use Rattle.b3_ir.specs.declared.table.More.{More}
 use Rattle.b3_ir.specs.declared.table.More.TheVariants.{Reported}
 use Rattle.b3_ir.specs.declared.value.Value.{Value}
 use Rattle.stackmap.specs.declared.site.Site.{Site}
-use Rattle.exit_table.specs.declared.tables.FrameRow.{FrameRow}
 use Rattle.exit_table.specs.declared.tables.SiteRow.{SiteRow}
 use Rattle.a64_run.specs.Agrees.{case_count, child_count}
 use Rattle.a64_emit.specs.Sites.{IsSiteIn}
 use Rattle.a64_object.specs.Joined.{ArePartsOf, Part, site_from, sites_at, sites_from}
-use Rattle.a64_object.specs.Made.{IsMadeOf, site_rows}
+use Rattle.a64_object.specs.Made.{site_rows, IsMadeOf}
 use Rattle.a64_object.proofs.Taken.{IsTaken}
-use Rattle.a64_object.proofs.Lists.{one_in, same_some}
+use Rattle.a64_object.proofs.Lists.{one_in}
 use Rattle.a64_object.proofs.SitesOf.{IsOne, arguments_count, called, mapped, trapped}
 use Rattle.a64_object.proofs.Agreeing.{site_is}
+use Rattle.exit_table.specs.declared.tables.FrameRow.{FrameRow}
 
 -- ---- sums
 sum_less : {X : Type 0} (f g : X → ℕ) (xs : List X) → ((x : X) → f x ≤ g x) → sum_by f xs ≤ sum_by g xs
@@ -147,7 +148,7 @@ module _ (p : Procedure) (taken : IsTaken p) (words : List ℕ) (frame : FrameRo
   one_bytes site (trapped t) v named = omega (arith, ap length t.trap.reports)
   one_bytes site (called t) v named = let few = t.call.operands.few in omega (arith, ap length t.call.reports, arguments_count 0 t.call.operands.widths)
   one_bytes site (mapped m) v named =
-      let same : m.value ≡ v = same_some m.value v (sym m.named ∙ named) in
+      let same : m.value ≡ v = same_Some m.value v (sym m.named ∙ named) in
       let count = m.is.count in
       let few = reported_few (row_of m.value.kind.opcode).more (length m.value.children - length (row_of m.value.kind.opcode).takes) in
       let children : length m.value.children ≡ length v.children = ap (λ (x : Value). length x.children) same in

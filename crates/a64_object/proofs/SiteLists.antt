@@ -4,7 +4,8 @@ use Rattle.std.specs.Prelude.{All, map, slice_get, slice_index}
 use Rattle.std.proofs.lemmas.Bool.Decides.{nat_tests}
 use Rattle.std.proofs.lemmas.List.{length-take, map-append}
 use Rattle.std.proofs.lemmas.List.Elements.{All-head, All-tail}
-use Rattle.std.proofs.lemmas.Option.{get_or_from_slice_get, slice_get_within}
+use Rattle.std.proofs.lemmas.Option.{get_or_from_slice_get, slice_get_within, same_Some}
+use Rattle.b3_base.proofs.Lists.{All-from_places}
 use Rattle.stackmap.specs.declared.site.Site.{Site}
 use Rattle.exit_table.specs.Good.{AreInOrder}
 use Rattle.exit_table.specs.declared.tables.SiteRow.{SiteRow}
@@ -17,7 +18,6 @@ use Rattle.a64_run.specs.Machine.{site_among}
 use Rattle.a64_object.specs.Joined.{site_from}
 use Rattle.a64_object.specs.Made.{site_rows}
 use Rattle.air_fold.proofs.Places.{take_item}
-use Rattle.a64_object.proofs.Lists.{all_of, same_some}
 
 -- ---- the rows of marks and sites
 abbrev pub row_at : ℕ → Site → SiteRow
@@ -74,7 +74,7 @@ row_is (mark ∷ marks) (site ∷ sites) (suc k) row there =
 -- the marks of a text are below 2^24
 pub marks_short : (code : List Item) (text : Text) → IsWellLabelled code → IsShortestText code text → length text.marks ≡ mark_count code
     → All (λ mark. mark < 2 ^ 24) text.marks
-marks_short code text good short count = all_of (λ mark. mark < 2 ^ 24) text.marks (λ k mark there.
+marks_short code text good short count = All-from_places (λ mark. mark < 2 ^ 24) text.marks (λ k mark there.
     let within = slice_get_within text.marks k mark there in
     let at : mark_position_of code k < length code = good.mark_there k (omega arith) in
     let low = place_short code good short.0 (mark_position_of code k) (omega arith) in
@@ -149,7 +149,7 @@ order_from offset from to (mark ∷ marks) (site ∷ sites) rest same whole le f
 order_least : (end : ℕ) (rows : List SiteRow) → AreInOrder end rows → (k : ℕ) (row : SiteRow) → slice_get rows k ≡ Some row → end ≤ row.pc
 order_least end [] order k row there = absurd cc
 order_least end (x ∷ rows) order zero row there =
-    let same : x.pc ≡ row.pc = ap (λ (r : SiteRow). r.pc) (same_some x row there) in
+    let same : x.pc ≡ row.pc = ap (λ (r : SiteRow). r.pc) (same_Some x row there) in
     let least = order.1 in
     omega arith
 order_least end (x ∷ rows) order (suc k) row there =
@@ -162,6 +162,6 @@ pub order_behind : (end : ℕ) (rows : List SiteRow) → AreInOrder end rows →
 order_behind end [] order j k a b less there other = absurd cc
 order_behind end (x ∷ rows) order j zero a b less there other = absurd (omega arith)
 order_behind end (x ∷ rows) order zero (suc k) a b less there other =
-    subst (λ (r : SiteRow). r.pc + 4 * r.site.size ≤ b.pc) (same_some x a there) (order_least (x.pc + 4 * x.site.size) rows order.2 k b other)
+    subst (λ (r : SiteRow). r.pc + 4 * r.site.size ≤ b.pc) (same_Some x a there) (order_least (x.pc + 4 * x.site.size) rows order.2 k b other)
 order_behind end (x ∷ rows) order (suc j) (suc k) a b less there other =
     order_behind (x.pc + 4 * x.site.size) rows order.2 j k a b (omega arith) there other

@@ -4,6 +4,7 @@ use Rattle.std.specs.Prelude.{slice_get, slice_index}
 use Rattle.std.proofs.lemmas.Bool.{cases_lt}
 use Rattle.std.proofs.lemmas.Bool.Decides.{nat_tests}
 use Rattle.std.proofs.lemmas.Option.{slice_get_within}
+use Rattle.b3_base.proofs.Lists.{get_some}
 use Rattle.stackmap.specs.declared.site.Site.{Site}
 use Rattle.stackmap.specs.declared.site.SiteKind.{SiteKind}
 use Rattle.stackmap.specs.declared.site.SiteKind.TheVariants.{Call, Patchpoint, Exit, Trap}
@@ -12,11 +13,10 @@ use Rattle.a64_inst.specs.declared.inst.Inst.{Inst}
 use Rattle.a64_inst.specs.declared.inst.Inst.TheVariants.{BranchReg, Break}
 use Rattle.a64_inst.specs.declared.item.Item.{Item}
 use Rattle.a64_inst.specs.declared.item.Item.TheVariants.{Plain, Mark}
-use Rattle.air_fold.proofs.Places.{get_some}
 use Rattle.a64_layout.specs.Branch.{size_in}
 use Rattle.a64_layout.specs.Layout.{Set, place}
 use Rattle.a64_layout.specs.Run.{IsMarked, IsWellMarked, mark_before}
-use Rattle.a64_layout.specs.Text.{IsWellLabelled, TellsMarks, mark_count, mark_position_of}
+use Rattle.a64_layout.specs.Text.{IsWellLabelled, mark_count, mark_position_of, TellsMarks}
 use Rattle.a64_layout.proofs.Labels.{mark_stands}
 use Rattle.a64_layout.proofs.Least.{place-next, place_mono}
 use Rattle.a64_layout.proofs.Marked.{branch_unmarked, inside_unmarked, instruction_marked, mark_in_is}

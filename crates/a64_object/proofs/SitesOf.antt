@@ -12,10 +12,11 @@ use Rattle.std.proofs.lemmas.List.Sums.{AllPass-from_list_all}
 use Rattle.std.proofs.lemmas.Nat.{pow_pos}
 use Rattle.std.proofs.lemmas.Nat.Bits.{and_pow, bit_at-lt}
 use Rattle.std.proofs.Math.Nat.{le-max_right}
+use Rattle.b3_base.proofs.Lists.{Contains-at}
 use Rattle.b3_base.specs.declared.word.Width.{Width}
 use Rattle.b3_base.specs.declared.word.Width.TheVariants as width
 use Rattle.b3_ir.specs.Naming.{value_named}
-use Rattle.b3_ir.specs.Procedure.{AllFit, Procedure, values_of}
+use Rattle.b3_ir.specs.Procedure.{values_of, AllFit, Procedure}
 use Rattle.b3_ir.specs.declared.opcode.Opcode.TheVariants as opcode
 use Rattle.b3_ir.specs.declared.value.Reg.{Reg as Register}
 use Rattle.b3_ir.specs.declared.value.Stackmap.{Stackmap}
@@ -24,7 +25,6 @@ use Rattle.b3_meaning.specs.Keeps.{is_outward}
 use Rattle.b3_meaning.specs.Roles.{role_of}
 use Rattle.b3_meaning.specs.declared.role.Role.{Role as Role_of}
 use Rattle.b3_meaning.specs.declared.role.Role.TheVariants as role
-use Rattle.b3_rules.specs.Valid.{IsValidProcedure}
 use Rattle.b3_sound.proofs.Distinct.{value_of_id}
 use Rattle.b3_sound.proofs.FromValid.{is_kept}
 use Rattle.stackmap.specs.Obeys.{HasClobbered, IsSiteOf, size_of}
@@ -44,8 +44,6 @@ use Rattle.air_ir.specs.Kinds.{Kind, Calls, Checks, ChecksResult, Loads, Patches
 use Rattle.air_ir.specs.SitesInPlaces.{HasClobbers, kind_by, patch_in, register_at, result_by, size_by}
 use Rattle.air_ir.specs.Weight.{inst_weight, weight, words_by}
 use Rattle.air_ir.specs.WellFormed.{IsGoodBlock, IsGoodInst, MayName, NamesOwn, StandsAt}
-use Rattle.air_ir.specs.declared.assignment.Assignment.{Assignment}
-use Rattle.air_ir.specs.declared.frame.Frame.{Frame}
 use Rattle.air_ir.specs.declared.op.AirOp.{AirOp}
 use Rattle.air_ir.specs.declared.op.AirOp.TheVariants as op
 use Rattle.air_ir.specs.declared.operand.Arg.{Arg}
@@ -56,21 +54,23 @@ use Rattle.air_ir.specs.declared.operand.Role.{Role}
 use Rattle.air_ir.specs.declared.operand.Role.TheVariants.{Clobber, EarlyDef, LateUse, Use}
 use Rattle.air_ir.specs.declared.procedure.AirBlock.{AirBlock}
 use Rattle.air_ir.specs.declared.procedure.AirInst.{AirInst}
-use Rattle.air_ir.specs.declared.procedure.AirProc.{AirProc}
 use Rattle.air_frame.specs.Frames.{IsFrameOf, row_of}
 use Rattle.air_frame.specs.Needs.{arg_names, block_names, inst_names, names}
 use Rattle.a64_run.specs.CodeOf.{HasItsValue, IsSiteOfKind, is_access}
 use Rattle.a64_emit.specs.Sites.{ArePlacesOf, IsCallOf, IsRepIn, IsSiteBy, IsSiteIn, IsStackmapOf, IsTrapOf, argument_places}
-use Rattle.air_spill.specs.Rewritten.{rewritten}
 use Rattle.air_select.specs.Contract.{has_stackmap}
-use Rattle.air_select.specs.Selected.{selected}
-use Rattle.air_select.proofs.Returned.{contains_at}
-use Rattle.a64_object.specs.Made.{IsPlacedOf}
 use Rattle.a64_object.proofs.Lists.{any_among, any_at, one_in, term_least}
 use Rattle.a64_object.proofs.CallSites.{call_site}
 use Rattle.a64_object.proofs.Sited.{IsSized}
 use Rattle.a64_object.proofs.Sources.{IsSourceOf, accesses, calls, source_of}
 use Rattle.a64_object.proofs.Values.{IsNamedIn, has_size, named_in, names_registers}
+use Rattle.b3_rules.specs.Valid.{IsValidProcedure}
+use Rattle.air_ir.specs.declared.assignment.Assignment.{Assignment}
+use Rattle.air_ir.specs.declared.frame.Frame.{Frame}
+use Rattle.air_ir.specs.declared.procedure.AirProc.{AirProc}
+use Rattle.air_spill.specs.Rewritten.{rewritten}
+use Rattle.air_select.specs.Selected.{selected}
+use Rattle.a64_object.specs.Made.{IsPlacedOf}
 
 -- ---- sets of registers
 has_bit : (set r : ℕ) → IsBitSet set r → has set r ≡ true
@@ -316,7 +316,7 @@ module _ (p : Procedure) (valid : IsValidProcedure p) (fit : AllFit p.blocks) (a
     source_named site s from =
         let of = from.selected_for in
         ap (value_named p) (s.value ∙ ap (λ (i : AirInst). i.value) from.is ∙ of.made)
-        ∙ value_of_id p (is_kept p valid fit).distinct of.block of.value (contains_at (values_of p of.block) of.at of.value of.stands)
+        ∙ value_of_id p (is_kept p valid fit).distinct of.block of.value (Contains-at (values_of p of.block) of.at of.value of.stands)
 
     trap_value : (site : Site) (s : IsSiteIn air frame site) → accesses (kind_of s.inst.op) ≡ true → s.inst.traps ≡ true → IsTrapOf s.inst site
         → HasItsValue p site

@@ -1,10 +1,12 @@
 -- The value that a call and an access that traps are selected for, through the rewriting of temporaries.
-use Rattle.std.proofs.Common.{◌≡◌, ℕ, zero, suc, Bool, true, false, Option, Some, None, List, [], ◌∷◌, drop, refl, sym, ap, ◌∙◌, subst}
+use Rattle.std.proofs.Common.{◌≡◌, ℕ, zero, suc, Bool, true, false, Some, List, [], ◌∷◌, drop, refl, sym, ap, ◌∙◌, subst}
 use Rattle.std.specs.Prelude.{All, if◌then◌else◌, slice_get}
 use Rattle.std.specs.List.{flat_map}
-use Rattle.std.specs.Option.{option_map}
 use Rattle.std.proofs.lemmas.List.Elements.{All-append, All-nil, All-weaker}
 use Rattle.std.proofs.lemmas.Option.{get_or_from_slice_get, slice_get-map}
+use Rattle.b3_base.proofs.Lists.{All-one, All-at}
+use Rattle.b3_base.proofs.Booleans.{not_both}
+use Rattle.b3_base.proofs.Options.{mapped}
 use Rattle.b3_ir.specs.Procedure.{Block, Procedure, StandsAt, no_block, values_of}
 use Rattle.b3_ir.specs.Types.{width_of}
 use Rattle.b3_ir.specs.declared.opcode.Opcode.{Opcode}
@@ -33,7 +35,7 @@ use Rattle.air_select.specs.Sited.{touches}
 use Rattle.air_select.proofs.CallCode.{call_all}
 use Rattle.air_select.proofs.MapCode.{map_code_all, pick}
 use Rattle.air_select.proofs.Pieces.{IsFor, flat_found, made_for}
-use Rattle.air_select.proofs.Sites.{All-slice, IsPlain, all_one, before_plain, code_plain, entry_plain, kind_arithmetic}
+use Rattle.air_select.proofs.Sites.{IsPlain, before_plain, code_plain, entry_plain, kind_arithmetic}
 use Rattle.a64_run.specs.CodeOf.{is_access}
 
 -- ---- kinds
@@ -45,9 +47,6 @@ abbrev pub accesses : Kind → Bool
 accesses (Loads extent extends) = true
 accesses (Stores extent) = true
 accesses _ = false
-
-neither : (b : Bool) → b ≡ true → b ≡ false → ⊥
-neither b e f = let bad : true ≡ false = sym e ∙ f in cc
 
 plain_calls : (k : Kind) → is_arithmetic_kind k ≡ true → calls k ≡ false
 plain_calls (Calls typed) e = absurd cc
@@ -68,19 +67,19 @@ pub record IsFrom (t : Tables) (v : Value) (o : Opcode) (i : AirInst) : Type 0 w
 module _ (t : Tables) (v : Value) (o : Opcode) where
   other_from : (i : AirInst) → calls (kind_of i.op) ≡ false → accesses (kind_of i.op) ≡ false → IsFrom t v o i
   other_from i no_call no_access = record {
-    call = λ e. absurd (neither (calls (kind_of i.op)) e no_call);
-    trap = λ e traps. absurd (neither (accesses (kind_of i.op)) e no_access);
+    call = λ e. absurd (not_both (calls (kind_of i.op)) e no_call);
+    trap = λ e traps. absurd (not_both (accesses (kind_of i.op)) e no_access);
   }
 
   plain_from : (i : AirInst) → IsPlain i → IsFrom t v o i
   plain_from i plain = record {
-    call = λ e. absurd (neither (calls (kind_of i.op)) e (plain_calls (kind_of i.op) (kind_arithmetic i.op plain.arithmetic)));
-    trap = λ e traps. absurd (neither i.traps traps plain.traps);
+    call = λ e. absurd (not_both (calls (kind_of i.op)) e (plain_calls (kind_of i.op) (kind_arithmetic i.op plain.arithmetic)));
+    trap = λ e traps. absurd (not_both i.traps traps plain.traps);
   }
 
   access_from : (i : AirInst) → calls (kind_of i.op) ≡ false → is_access (role_of o) ≡ true → i.traps ≡ v.kind.traps → IsFrom t v o i
   access_from i no_call access same = record {
-    call = λ e. absurd (neither (calls (kind_of i.op)) e no_call);
+    call = λ e. absurd (not_both (calls (kind_of i.op)) e no_call);
     trap = λ e traps. (access, sym same ∙ traps);
   }
 
@@ -91,7 +90,7 @@ module _ (t : Tables) (v : Value) (o : Opcode) where
       let bytes = extent_bytes extent (width_of v.ty) in
       All-append (IsFrom t v o) (before_access t v pointer bytes) _
       (All-weaker IsPlain (IsFrom t v o) plain_from (before_access t v pointer bytes) (before_plain t v pointer bytes))
-      (all_one (IsFrom t v o) _ (access_from _ no_call access refl))
+      (All-one (IsFrom t v o) _ (access_from _ no_call access refl))
 
   store_from : (air_op : AirOp) (extent : Extent) → calls (kind_of air_op) ≡ false → is_access (role_of o) ≡ true
       → All (IsFrom t v o) (store_of t v air_op extent)
@@ -100,7 +99,7 @@ module _ (t : Tables) (v : Value) (o : Opcode) where
       let bytes = extent_bytes extent (width_at t.index (child v.children 0)) in
       All-append (IsFrom t v o) (before_access t v pointer bytes) _
       (All-weaker IsPlain (IsFrom t v o) plain_from (before_access t v pointer bytes) (before_plain t v pointer bytes))
-      (all_one (IsFrom t v o) _ (access_from _ no_call access refl))
+      (All-one (IsFrom t v o) _ (access_from _ no_call access refl))
 
   map_from : has_map o ≡ true → All (IsFrom t v o) (code_of t o v)
   map_from e =
@@ -120,8 +119,8 @@ module _ (t : Tables) (v : Value) where
   code_from opcode.CCall =
       call_all t v (IsFrom t v opcode.CCall) (λ k c at. other_from t v opcode.CCall _ refl refl)
       (record { call = λ e. (refl, refl); trap = λ e traps. absurd cc }) (other_from t v opcode.CCall _ refl refl)
-  code_from opcode.FramePointer = all_one (IsFrom t v opcode.FramePointer) _ (other_from t v opcode.FramePointer _ refl refl)
-  code_from opcode.SlotBase = all_one (IsFrom t v opcode.SlotBase) _ (other_from t v opcode.SlotBase _ refl refl)
+  code_from opcode.FramePointer = All-one (IsFrom t v opcode.FramePointer) _ (other_from t v opcode.FramePointer _ refl refl)
+  code_from opcode.SlotBase = All-one (IsFrom t v opcode.SlotBase) _ (other_from t v opcode.SlotBase _ refl refl)
   code_from opcode.Load8Z = load_from t v opcode.Load8Z op.Load8Z Byte refl refl
   code_from opcode.Load8S = load_from t v opcode.Load8S op.Load8S Byte refl refl
   code_from opcode.Load16Z = load_from t v opcode.Load16Z op.Load16Z Half refl refl
@@ -138,9 +137,6 @@ module _ (t : Tables) (v : Value) where
       pick (All (IsFrom t v v.kind.opcode)) (folds t v.id) [] (code_of t v.kind.opcode v) (All-nil (IsFrom t v v.kind.opcode)) (code_from v.kind.opcode)
 
 -- ---- a selected procedure
-mapped : {X Y : Type 0} (f : X → Y) (o : Option X) (y : Y) → option_map f o ≡ Some y → (x : X) × (o ≡ Some x) × (f x ≡ y)
-mapped f (Some x) y e = let same : f x ≡ y = cc in (x, refl, same)
-mapped f None y e = absurd cc
 
 abbrev IsOfKind : AirInst → Type 0
 IsOfKind i = (calls (kind_of i.op) ≡ false → (accesses (kind_of i.op) ≡ true) × (i.traps ≡ true))
@@ -161,8 +157,8 @@ selected_from p zero k i at kind =
     let of : entry_of t.index (values_of p 0) ≡ at.of = (let e = at.block_there in cc) in
     let there : slice_get (entry_of t.index (values_of p 0)).insts k ≡ Some i =
     subst (λ (b : AirBlock). slice_get b.insts k ≡ Some i) (sym of) at.inst_there in
-    let plain = All-slice IsPlain (entry_of t.index (values_of p 0)).insts k i (entry_plain t.index (values_of p 0)) there in
-    absurd (neither i.traps (kind (plain_calls (kind_of i.op) (kind_arithmetic i.op plain.arithmetic))).1 plain.traps)
+    let plain = All-at IsPlain (entry_of t.index (values_of p 0)).insts k i (entry_plain t.index (values_of p 0)) there in
+    absurd (not_both i.traps (kind (plain_calls (kind_of i.op) (kind_arithmetic i.op plain.arithmetic))).1 plain.traps)
 selected_from p (suc b) k i at kind =
     let t = tables p in
     let block = mapped (block_code t) (slice_get p.blocks b) at.of (sym (slice_get-map (block_code t) p.blocks b) ∙ at.block_there) in
@@ -177,8 +173,8 @@ selected_from p (suc b) k i at kind =
       at = piece.at;
       value = v;
       stands = subst (λ (vs : List Value). slice_get vs piece.at ≡ Some v) (sym values) piece.there;
-      made = All-slice (IsFor v.id) (value_code t v) piece.within i (made_for t v) piece.here;
-      from = All-slice (IsFrom t v v.kind.opcode) (value_code t v) piece.within i (value_from t v) piece.here;
+      made = All-at (IsFor v.id) (value_code t v) piece.within i (made_for t v) piece.here;
+      from = All-at (IsFrom t v v.kind.opcode) (value_code t v) piece.within i (value_from t v) piece.here;
     }
 
 -- ---- a procedure that is rewritten
@@ -201,7 +197,7 @@ renamed_by loc i j n there no_copy = by (is_copy i.op) refl n there
     by : (b : Bool) → is_copy i.op ≡ b → (n : ℕ) → slice_get (if b then with_operands i (kept_operands loc i.operands) else rename_inst loc i ∷ []) n ≡ Some j
         → j ≡ rename_inst loc i
     by true copy n there =
-        absurd (neither (is_copy i.op) copy (ap is_copy (sym (with_op i j (kept_operands loc i.operands) n there)) ∙ no_copy))
+        absurd (not_both (is_copy i.op) copy (ap is_copy (sym (with_op i j (kept_operands loc i.operands) n there)) ∙ no_copy))
     by false other zero there = (let same : rename_inst loc i ≡ j = cc in sym same)
     by false other (suc n) there = absurd cc
 

@@ -3,26 +3,26 @@ use Rattle.std.proofs.Common.{◌≡◌, ℕ, ◌+◌, ◌-◌, ◌<◌, inl, in
 use Rattle.std.specs.Prelude.{All, IfSome, slice_get}
 use Rattle.std.proofs.lemmas.Bool.{cases_lt, false≢true, le-leb, le-ltb, lt-ltb}
 use Rattle.std.proofs.lemmas.List.{get_or_default, get_or-map, get_or-take, get_or_past, length-map, length-take-le}
-use Rattle.std.proofs.lemmas.Option.{get_or_from_slice_get, slice_get-get_or, slice_get_within}
+use Rattle.std.proofs.lemmas.Option.{get_or_from_slice_get, slice_get-get_or, slice_get_within, same_Some}
 use Rattle.b3_ir.specs.declared.value.Reg.{Reg as Register}
 use Rattle.stackmap.specs.Rules.{IsAllocatable}
 use Rattle.air_ir.specs.declared.assignment.Assignment.{Assignment}
 use Rattle.air_ir.specs.declared.operand.Home.{Home}
 use Rattle.air_ir.specs.declared.operand.Home.TheVariants.{Tmp, Reg, Spill}
-use Rattle.air_ir.specs.declared.procedure.AirProc.{AirProc}
 use Rattle.air_flow.specs.Interfere.{Interfere}
 use Rattle.air_flow.specs.Proper.{IsProper, register_of}
 use Rattle.air_graph.specs.Edges.{has_edge}
-use Rattle.air_graph.specs.Graph.{IsInterferenceOf}
 use Rattle.air_graph.specs.Homes.{above, edge_between, number_of, place_of, register_at}
 use Rattle.air_graph.specs.declared.interference.Interference.{Interference}
-use Rattle.air_graph.proofs.Numbers.{home_high, home_low, numbered, register_high, register_low, some_is}
+use Rattle.air_graph.proofs.Numbers.{home_high, home_low, numbered, register_high, register_low}
 use Rattle.air_colour.specs.Assigned.{IsBarred, IsColouringOf, as_register, class_of, graph_in, colours, moves_in, stands_in}
 use Rattle.air_colour.specs.Classes.{classes_left, Joined}
 use Rattle.air_colour.specs.Colouring.{IsBarredFrom, IsColouring}
 use Rattle.air_colour.specs.Homes.{register_of as rank_of}
 use Rattle.air_colour.specs.Interference.{IsIn}
 use Rattle.air_colour.specs.Kept.{given_in}
+use Rattle.air_ir.specs.declared.procedure.AirProc.{AirProc}
+use Rattle.air_graph.specs.Graph.{IsInterferenceOf}
 
 -- registers by their places
 place_is : (j k : ℕ) → register_at j ≡ register_at k → j ≡ k
@@ -50,7 +50,7 @@ allocatable k lt =
     ]
 
 given_of : (o : Option ℕ) (reg : Register) → as_register o ≡ Some reg → (k : ℕ) × (o ≡ Some k) × (register_at k ≡ reg.0)
-given_of (Some k) reg e = (k, refl, ap (λ (r : Register). r.0) (some_is (record { 0 = register_at k }) reg e))
+given_of (Some k) reg e = (k, refl, ap (λ (r : Register). r.0) (same_Some (record { 0 = register_at k }) reg e))
 given_of None reg e = absurd (cc)
 
 none_of : (o : Option ℕ) → as_register o ≡ None → o ≡ None
@@ -177,7 +177,7 @@ module _ (g : Interference) (a : Assignment) (is : IsColouringOf g a) (p : AirPr
             let past : get_or a.homes m None ≡ None = get_or_past a.homes m None (omega (arith, le, is.tmps, of.tmps)) in
             absurd (let s : None ≡ Some reg = sym past ∙ f in cc)
       ]
-  itself (Reg r) reg e f = let same : r ≡ reg = some_is r reg f in (ap Reg same, subst (λ (s : Register). number_of p.tmps (Reg s) ≡ None) same e)
+  itself (Reg r) reg e f = let same : r ≡ reg = same_Some r reg f in (ap Reg same, subst (λ (s : Register). number_of p.tmps (Reg s) ≡ None) same e)
   itself (Spill m) reg e f = absurd (cc)
 
   -- one that has a register that values can't stand in is that register
@@ -188,7 +188,7 @@ module _ (g : Interference) (a : Assignment) (is : IsColouringOf g a) (p : AirPr
             absurd (has_number p.tmps reg (is.registers m reg (slice_get-get_or a.homes m None lt ∙ ap (λ (o : Option Register). Some o) f)) none)
         | inr le ↦ absurd (let s : None ≡ Some reg = sym (get_or_past a.homes m None le) ∙ f in cc)
       ]
-  only_itself (Reg r) reg none f = ap Reg (some_is r reg f)
+  only_itself (Reg r) reg none f = ap Reg (same_Some r reg f)
   only_itself (Spill m) reg none f = absurd (cc)
 
   apart : (x y : Home) (reg : Register) (m n : Option ℕ) → number_of p.tmps x ≡ m → number_of p.tmps y ≡ n → Interfere p x y

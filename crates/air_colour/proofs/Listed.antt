@@ -1,36 +1,23 @@
 -- Counting neighbours by their list.
 use Rattle.std.proofs.Common.{◌≡◌, ℕ, zero, suc, ◌+◌, ◌<◌, ◌≤◌, inl, inr, Bool, true, false, cond, not, ◌&&◌, ◌||◌, eqb, List, [], ◌∷◌, take, arith, refl, sym, ◌∙◌, ap, subst}
 use Rattle.std.specs.Prelude.{Contains, count_by}
-use Rattle.std.proofs.lemmas.Bool.{cases_eq, eq-eqb, ne_eqb}
+use Rattle.std.proofs.lemmas.Bool.{cases_eq, eq-eqb, ne_eqb, false_from_ne_true}
 use Rattle.std.proofs.lemmas.List.Sums.{sum_by-cons}
+use Rattle.b3_base.proofs.Lists.{Contains-later}
+use Rattle.b3_base.proofs.Booleans.{same_tests}
+use mathlib.Core.Bool.{and-true, and-false}
 use Rattle.air_graph.specs.Edges.{IsListOf, IsOnce}
 use Rattle.air_graph.specs.Walk.{in_list}
 use Rattle.air_graph.proofs.Adding.{listed}
 use Rattle.air_colour.specs.Interference.{count, one}
 use Rattle.air_colour.proofs.Counting.{but, but_gone, but_same, count_none, count_same, count_without}
-use Rattle.air_colour.proofs.Merging.{same_tests}
-
-and_true : (b : Bool) → (b && true) ≡ b
-and_true true = refl
-and_true false = refl
-
-and_false : (b : Bool) → (b && false) ≡ false
-and_false true = refl
-and_false false = refl
 
 one_cond : (b : Bool) → one b ≡ cond b 1 0
 one_cond true = refl
 one_cond false = refl
 
-pub absent_false : (b : Bool) → (b ≡ true → ⊥) → b ≡ false
-absent_false true h = absurd (h refl)
-absent_false false h = refl
-
 head-in : (y : ℕ) (ys : List ℕ) → Contains (y ∷ ys) y
 head-in y ys = (0, omega arith, refl)
-
-tail_in : (y : ℕ) (ys : List ℕ) (x : ℕ) → Contains ys x → Contains (y ∷ ys) x
-tail_in y ys x (k, lt, e) = (suc k, omega (arith, lt), e)
 
 in_cons : (y : ℕ) (ys : List ℕ) (x : ℕ) → in_list (y ∷ ys) x ≡ (eqb y x || in_list ys x)
 in_cons y ys x = refl
@@ -38,17 +25,17 @@ in_cons y ys x = refl
 once_count : (p : ℕ → Bool) (list : List ℕ) (n : ℕ) → IsOnce list → ((x : ℕ) → Contains list x → x < n)
     → count (λ x. p x && in_list list x) n ≡ count_by p list
 unfolding IsOnce
-once_count p [] n once below = count_none (λ x. p x && false) n (λ x _. and_false (p x))
+once_count p [] n once below = count_none (λ x. p x && false) n (λ x _. and-false (p x))
 once_count p (y ∷ ys) n (first, more) below =
     let P : ℕ → Bool = λ x. p x && (eqb y x || in_list ys x) in
     let lt : y < n = below y (head-in y ys) in
-    let rest = once_count p ys n more (λ x i. below x (tail_in y ys x i)) in
-    let here : P y ≡ p y = ap (λ (b : Bool). p y && (b || in_list ys y)) (eq-eqb y y refl) ∙ and_true (p y) in
-    let none : in_list ys y ≡ false = absent_false (in_list ys y) (λ t. first ((listed ys y).0 t)) in
+    let rest = once_count p ys n more (λ x i. below x (Contains-later y ys x i)) in
+    let here : P y ≡ p y = ap (λ (b : Bool). p y && (b || in_list ys y)) (eq-eqb y y refl) ∙ and-true (p y) in
+    let none : in_list ys y ≡ false = false_from_ne_true (in_list ys y) (λ t. first ((listed ys y).0 t)) in
     let others : count (but P y) n ≡ count (λ x. p x && in_list ys x) n =
     count_same (but P y) (λ x. p x && in_list ys x) n (λ x _. elim (cases_eq x y) [
       | inl e ↦ subst (λ (z : ℕ). but P y z ≡ (p z && in_list ys z)) (sym e)
-          (but_gone P y ∙ sym (ap (λ (b : Bool). p y && b) none ∙ and_false (p y)))
+          (but_gone P y ∙ sym (ap (λ (b : Bool). p y && b) none ∙ and-false (p y)))
       | inr ne ↦ but_same P y x ne ∙ ap (λ (b : Bool). p x && (b || in_list ys x)) (ne_eqb y x (λ e. ne (sym e)))
     ]) in
     count_same (λ x. p x && in_list (y ∷ ys) x) P n (λ x _. ap (λ (b : Bool). p x && b) (in_cons y ys x))

@@ -4,6 +4,7 @@ use Rattle.std.specs.Prelude.{◌==◌, Contains}
 use Rattle.std.proofs.lemmas.Bool.{cases_eq, cases_lt}
 use Rattle.std.proofs.lemmas.List.{get_or_past}
 use Rattle.std.proofs.lemmas.List.Elements.{Contains-append_cases, Contains-append_left, Contains-append_right, Contains-push, Contains-push_cases}
+use Rattle.b3_base.proofs.Lists.{Contains-none}
 use Rattle.air_graph.proofs.Adding.{contains_more}
 use Rattle.air_colour.specs.Classes.{merged}
 use Rattle.air_colour.specs.Members.{AreMembers}
@@ -13,9 +14,6 @@ use Rattle.air_colour.proofs.Merging.{merged_cases}
 -- the list of a home
 abbrev pub list_of : List (List ℕ) → ℕ → List ℕ
 list_of members c = slice_index_or members c []
-
-no_member : (u : ℕ) → Contains [] u → ⊥
-no_member u i = let lt = i.1 in omega (arith, lt)
 
 -- lists that are as they were
 pub members_same : (class : List ℕ) (members members' : List (List ℕ)) (a : ℕ) → length members' ≡ length members
@@ -118,7 +116,7 @@ module _ (class : List ℕ) (members : List (List ℕ)) (a b : ℕ) (going : Lis
 
       in_below : (c u : ℕ) → Contains (list_of members'' c) u → u < length class
       in_below c u i = elim (cases_eq c b) [
-        | inl e ↦ absurd (no_member u (subst (λ (l : List ℕ). Contains l u) (ap (list_of members'') e ∙ emptied) i))
+        | inl e ↦ absurd (Contains-none u (subst (λ (l : List ℕ). Contains l u) (ap (list_of members'') e ∙ emptied) i))
         | inr ne ↦ elim (cases_eq c a) [
           | inl e ↦ elim (Contains-append_cases (list_of members a) going u
               (subst (λ (l : List ℕ). Contains l u) (others' c ne ∙ ap (list_of members') e ∙ grown) i)) [

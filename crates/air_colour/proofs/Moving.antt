@@ -3,18 +3,19 @@ use Rattle.std.proofs.Common.{◌≡◌, ℕ, ◌+◌, ◌<◌, ◌≤◌, ◌�
 use Rattle.std.specs.Prelude.{◌==◌, slice_set}
 use Rattle.std.proofs.lemmas.Bool.{and_from, cases_eq, or_left, or_right, eq-eqb, false≢true}
 use Rattle.std.proofs.lemmas.Grind.{get_or_default_zero}
+use Rattle.b3_base.proofs.Booleans.{same_tests}
 use Rattle.air_graph.specs.Edges.{EdgeSet}
 use Rattle.air_graph.proofs.Beside.{edge_back}
 use Rattle.air_colour.specs.Interference.{Graph, IsIn, IsInterference, one}
 use Rattle.air_colour.specs.Joining.{join, MayJoin}
-use Rattle.air_colour.specs.Classes.{classes_of, merged, stays, goes, MayJoinMove, after_move, after_joins, Moves, JoinsFrom}
+use Rattle.air_colour.specs.Classes.{classes_of, merged, stays, goes, MayJoinMove, after_move, after_joins, JoinsFrom, Moves}
 use Rattle.air_colour.specs.declared.moves.Move.{Move}
 use Rattle.air_colour.specs.Kept.{graph_of, has, HasRoom}
 use Rattle.air_colour.specs.Progress.{IsClassing, IsSame, class_in, IsState, IsKept, IsJoinedSoFar}
 use Rattle.air_colour.proofs.Joins.{join_meets}
 use Rattle.air_colour.proofs.Counting.{but, but_gone, but_same}
 use Rattle.air_colour.proofs.KeptGraph.{is_left, left_taken}
-use Rattle.air_colour.proofs.Merging.{same_tests, class_stands, merged_cases, merged_same, merged_classing}
+use Rattle.air_colour.proofs.Merging.{class_stands, merged_cases, merged_same, merged_classing}
 use Rattle.air_colour.proofs.Same.{same_in, same_sym, same_trans, same_may, same_join}
 use std.Path.{fun_ext}
 

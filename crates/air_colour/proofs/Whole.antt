@@ -1,21 +1,22 @@
 -- From the start to the colouring.
-use Rattle.std.proofs.Common.{◌≡◌, ℕ, ◌+◌, ◌-◌, ◌<◌, inl, inr, Bool, true, false, Option, Some, List, [], ◌∷◌, length, zero, suc, leb, arith, refl, sym, ◌∙◌, ap, subst, slice_index_or}
+use Rattle.std.proofs.Common.{◌≡◌, ℕ, ◌+◌, ◌-◌, ◌<◌, inl, inr, true, false, Some, List, [], ◌∷◌, length, zero, suc, leb, arith, refl, sym, ◌∙◌, ap, subst, slice_index_or, Bool, Option}
 use Rattle.std.proofs.lemmas.Bool.{cases_eq, cases_lt, leb-true, le-leb, false≢true}
 use Rattle.std.proofs.lemmas.List.{get_or_past}
 use Rattle.std.proofs.lemmas.Grind.{get_or_default_zero}
-use Rattle.air_graph.specs.Edges.{EdgeSet}
+use Rattle.b3_base.proofs.Booleans.{same_tests}
 use Rattle.air_colour.specs.Interference.{Graph, IsIn, IsInterference, take_away}
 use Rattle.air_colour.specs.Choosing.{Simplifies, IsChosen}
-use Rattle.air_colour.specs.Classes.{classes_of, Moves, alone, JoinsFrom, after_joins, classes_left}
+use Rattle.air_colour.specs.Classes.{classes_of, alone, JoinsFrom, after_joins, classes_left, Moves}
 use Rattle.air_colour.specs.Colouring.{IsOwn, IsColouring}
 use Rattle.air_colour.specs.Kept.{graph_of, given_in, IsStart}
 use Rattle.air_colour.specs.Progress.{IsSame, IsClassing, class_in, IsState, IsKept}
 use Rattle.air_colour.specs.Homes.{home_graph, register_of, IsStarted}
-use Rattle.air_colour.proofs.Merging.{same_tests, alone_classing, alone_part, member_test, meets_members, members_meet, member_register, class_stands}
+use Rattle.air_colour.proofs.Merging.{alone_classing, alone_part, member_test, meets_members, members_meet, member_register, class_stands}
 use Rattle.air_colour.proofs.Same.{same_in, same_sym, same_trans, same_simplifies, same_chosen}
 use Rattle.air_colour.proofs.Taking.{in_taken}
 use Rattle.air_colour.proofs.Promise.{colouring}
 use std.Path.{fun_ext}
+use Rattle.air_graph.specs.Edges.{EdgeSet}
 
 -- the classes in a graph where each home stands alone
 alone_same : (g : Graph) → IsInterference g → ((u : ℕ) → u < g.names → g.has u ≡ true) → IsSame g (classes_of g alone)

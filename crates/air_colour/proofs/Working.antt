@@ -1,10 +1,11 @@
 -- Degrees and the list of classes that can go, as a class is taken away.
 use Rattle.std.proofs.Common.{◌≡◌, ℕ, zero, suc, ◌+◌, ◌-◌, ◌<◌, ◌≤◌, ◌⊎◌, inl, inr, Bool, true, false, not, ◌&&◌, eqb, List, [], ◌∷◌, ◌++◌, length, get_or, take, arith, refl, sym, ap, ◌∙◌, subst, length-set}
 use Rattle.std.specs.Prelude.{Contains, slice_set, slice_index_or}
-use Rattle.std.proofs.lemmas.Bool.{cases_eq, cases_lt, false≢true}
+use Rattle.std.proofs.lemmas.Bool.{cases_eq, cases_lt, false≢true, false_from_ne_true}
 use Rattle.std.proofs.lemmas.List.{get_or-set_other, get_or-set_same}
 use Rattle.std.proofs.lemmas.List.Elements.{Contains-append_left, Contains-get_or, Contains-push, Contains-push_cases}
-use Rattle.air_graph.specs.Edges.{EdgeSet, IsOnce}
+use Rattle.b3_base.proofs.Booleans.{same_tests}
+use Rattle.air_graph.specs.Edges.{IsOnce, EdgeSet}
 use Rattle.air_graph.specs.Walk.{in_list}
 use Rattle.air_graph.proofs.Adding.{contains_more, listed}
 use Rattle.air_graph.proofs.Beside.{edge_back}
@@ -16,8 +17,6 @@ use Rattle.air_colour.specs.Kept.{graph_of, has, neighbours_left}
 use Rattle.air_colour.specs.Worklist.{AreDegrees, AreLow, HasLow, IsLow, IsPassed, degree_in}
 use Rattle.air_colour.proofs.Counting.{but, count_same, count_without}
 use Rattle.air_colour.proofs.KeptGraph.{left_taken}
-use Rattle.air_colour.proofs.Listed.{absent_false}
-use Rattle.air_colour.proofs.Merging.{same_tests}
 
 -- ---- lists
 
@@ -41,7 +40,7 @@ module _ (near now init : List ℕ) (k : ℕ) (once : IsOnce near) (lt : k < len
   x = get_or near k 0
 
   not_yet : in_list (take k near) x ≡ false
-  not_yet = absent_false (in_list (take k near) x) (λ t. not_before near k once lt ((listed (take k near) x).0 t))
+  not_yet = false_from_ne_true (in_list (take k near) x) (λ t. not_before near k once lt ((listed (take k near) x).0 t))
 
   pub now_same : degree_in now x ≡ degree_in init x
   now_same = let e = so_far x in let z : one (in_list (take k near) x) ≡ 0 = ap one not_yet in omega (arith, e, z)

@@ -1,5 +1,5 @@
 -- Loads and stores, the addresses of slots and the frame pointer.
-use Rattle.std.proofs.Common.{◌≡◌, ℕ, ℤ, pos, ◌+◌, ◌*◌, ◌%◌, ◌^◌, ◌<◌, ◌≤◌, Bool, true, false, ◌||◌, List, [], ◌∷◌, ◌++◌, map, Option, Some, None, refl, sym, ap, ◌∙◌, subst, arith}
+use Rattle.std.proofs.Common.{◌≡◌, ℕ, ℤ, pos, ◌+◌, ◌*◌, ◌%◌, ◌^◌, ◌<◌, Bool, true, false, ◌||◌, List, [], ◌∷◌, ◌++◌, map, Option, Some, None, refl, sym, ap, ◌∙◌, subst, arith, ◌≤◌}
 use Rattle.std.specs.Prelude.{Contains, if◌then◌else◌, is_some, slice_get}
 use Rattle.std.specs.Int.{cast_unsigned, w64}
 use Rattle.b3_base.specs.Arithmetic.{low}
@@ -11,9 +11,9 @@ use Rattle.b3_base.specs.declared.observation.Status.TheVariants.{Trapped}
 use Rattle.b3_base.specs.declared.word.Width.{Width}
 use Rattle.b3_base.specs.declared.word.Width.TheVariants.{W64}
 use Rattle.b3_base.proofs.WordLaws.{read_word-lt}
+use Rattle.b3_base.proofs.Lists.{All-at}
 use Rattle.b3_ir.specs.Fits.{IsOffset, IsSlot}
 use Rattle.b3_ir.specs.Naming.{type_of}
-use Rattle.b3_ir.specs.Procedure.{Procedure}
 use Rattle.b3_ir.specs.Types.{AllowsTypes, AreTaken, width_of}
 use Rattle.b3_ir.specs.declared.opcode.Opcode.{Opcode}
 use Rattle.b3_ir.specs.declared.opcode.Opcode.TheVariants as opcode
@@ -24,7 +24,6 @@ use Rattle.b3_ir.specs.declared.table.Takes.{Takes}
 use Rattle.b3_ir.specs.declared.table.Takes.TheVariants.{This}
 use Rattle.b3_ir.specs.declared.value.Body.{Body}
 use Rattle.b3_ir.specs.declared.value.Body.TheVariants.{Offset, Slot}
-use Rattle.b3_ir.specs.declared.value.Value.{Value}
 use Rattle.b3_meaning.specs.Access.{Accessed, Done, Refused, Trap, access, offset_address}
 use Rattle.b3_meaning.specs.Opcodes.{Gives, Outcome, sum}
 use Rattle.b3_meaning.specs.Roles as roles
@@ -53,12 +52,12 @@ use Rattle.air_fold.specs.Foldable.{pointers, value_fits}
 use Rattle.air_fold.specs.Values.{child, known, offset_in, place, width_at}
 use Rattle.air_fold.specs.declared.known.Known.{Known}
 use Rattle.air_select.specs.Selected as code
-use Rattle.air_select.specs.Selected.{Tables, address_of, arg_of, before_access, def_at, far_sum, folds, frame_of, inst, load_of, move, result_of, slot_in, slot_of, store_of, use_at, use_of, home_address, sum_address}
+use Rattle.air_select.specs.Selected.{address_of, arg_of, before_access, def_at, far_sum, folds, frame_of, inst, load_of, move, result_of, slot_in, slot_of, store_of, use_at, use_of, home_address, sum_address, Tables}
 use Rattle.air_select.specs.Temporaries.{first_extra, home, second_extra}
 use Rattle.air_select.proofs.Addresses.{of_address, sum_word}
 use Rattle.air_select.proofs.Children.{child_word, readable, width_is}
 use Rattle.air_select.proofs.Copied.{moved, row_of_role}
-use Rattle.air_select.proofs.Does.{Does, Here, allows, are_words, at, below_is, gives_does, here, named, puts, words_here}
+use Rattle.air_select.proofs.Does.{Does, allows, are_words, at, below_is, gives_does, here, named, puts, words_here, Here}
 use Rattle.air_select.proofs.Facts.{child_ran}
 use Rattle.air_select.proofs.Instructions.{at_home, of_immediate, one_end, one_quiet, one_word, reads_def, reads_none, reads_use, steps_first, steps_last, with_home, writes_def, writes_none, writes_use}
 use Rattle.air_select.proofs.Plain.{computing}
@@ -66,7 +65,8 @@ use Rattle.air_select.proofs.Pointers.{PointerAt}
 use Rattle.air_select.proofs.Related.{Related, extra_related, holds_word, put_here}
 use Rattle.air_select.proofs.Rotations.{reads_two, writes_two}
 use Rattle.air_select.proofs.Shapes.{one_child, one_here, two_children, two_here}
-use Rattle.air_select.proofs.Sites.{All-slice}
+use Rattle.b3_ir.specs.Procedure.{Procedure}
+use Rattle.b3_ir.specs.declared.value.Value.{Value}
 
 -- ---- words
 
@@ -135,7 +135,7 @@ module _ (p : Procedure) (t : Tables) (start : Start) (v : Value) (h : Here p t 
       gives_does p t start v h junk (b3.slot_of start v.body) (steps (meaning start) (slot_of t v ∷ []) h.s junk)
       (λ w e.
       let address = slot_is v.body w row.1 e in
-      let small : w < 2 ^ 64 = All-slice (λ x. x < 2 ^ 64) start.slots number w h.ranged.slots address in
+      let small : w < 2 ^ 64 = All-at (λ x. x < 2 ^ 64) start.slots number w h.ranged.slots address in
       puts p t start v h junk w h.s (steps (meaning start) (slot_of t v ∷ []) h.s junk) (wide row.0 w small) h.related
       (steps_last start (slot_of t v) h.s junk (Goes None (with_home h.s to width w), junk)
       (one_word start (slot_of t v) h.s junk ((W64, number) ∷ []) to width w

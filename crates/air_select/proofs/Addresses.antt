@@ -2,15 +2,15 @@
 use Rattle.std.proofs.Common.{◌≡◌, ℕ, ℤ, pos, negsuc, zero, suc, ◌+◌, ◌*◌, ◌%◌, ◌^◌, inl, inr, Bool, true, false, ◌&&◌, List, ◌∷◌, ◌++◌, Some, nat_eq, refl, sym, ap, ◌∙◌, subst, arith}
 use Rattle.std.specs.Prelude.{Contains, not, if◌then◌else◌, slice_get}
 use Rattle.std.specs.Int.{cast_signed, cast_unsigned, w64}
-use Rattle.std.proofs.lemmas.Bool.{eqb-true}
+use Rattle.std.proofs.lemmas.Bool.{eqb-true, and_parts}
 use Rattle.std.proofs.lemmas.Int.{of_z-to_z}
 use Rattle.std.proofs.lemmas.List.{append_assoc}
 use Rattle.std.proofs.lemmas.List.Elements.{Contains-append_left}
-use Rattle.b3_base.specs.Observed.{Start}
+use Rattle.std.proofs.lemmas.Option.{same_Some}
 use Rattle.b3_base.specs.declared.word.Width.{Width}
 use Rattle.b3_base.specs.declared.word.Width.TheVariants.{W64}
 use Rattle.b3_ir.specs.Naming.{type_of}
-use Rattle.b3_ir.specs.Procedure.{Procedure, values_of}
+use Rattle.b3_ir.specs.Procedure.{values_of, Procedure}
 use Rattle.b3_ir.specs.Types.{AllowsTypes, width_of}
 use Rattle.b3_ir.specs.declared.opcode.Opcode.{Opcode}
 use Rattle.b3_ir.specs.declared.opcode.Opcode.TheVariants as opcode
@@ -34,14 +34,15 @@ use Rattle.air_ir.specs.declared.operand.Home.{Home}
 use Rattle.air_fold.specs.Foldable.{constant_fits, is_add, is_constant, is_index, is_pointer, is_shl, is_three, is_zero, pointer_fits, pointers, reaches, second_fits, sum_fits, value_fits, whole}
 use Rattle.air_fold.specs.Values.{child, known, known_in, offset_in}
 use Rattle.air_fold.specs.declared.known.Known.{Known}
-use Rattle.air_select.specs.Selected.{Tables, folds, indexed_by, sum_address}
+use Rattle.air_select.specs.Selected.{folds, indexed_by, sum_address, Tables}
 use Rattle.air_select.specs.Temporaries.{home}
 use Rattle.air_select.proofs.Children.{fit_cases, known_word, unfolded}
 use Rattle.air_select.proofs.Deciding.{d_allows, d_here, d_known, earlier}
-use Rattle.air_select.proofs.Does.{Here, at, here}
+use Rattle.air_select.proofs.Does.{at, here, Here}
 use Rattle.air_select.proofs.Facts.{grandchild_ran}
-use Rattle.air_select.proofs.Pointers.{PointerAt, and_parts, is_sum}
+use Rattle.air_select.proofs.Pointers.{PointerAt, is_sum}
 use Rattle.air_select.proofs.Shapes.{two_children, two_here}
+use Rattle.b3_base.specs.Observed.{Start}
 
 -- ---- words
 
@@ -68,9 +69,6 @@ zero_is : (offset : ℤ) → is_zero offset ≡ true → offset ≡ pos 0
 zero_is (pos zero) e = refl
 zero_is (pos (suc n)) e = absurd cc
 zero_is (negsuc n) e = absurd cc
-
-some_is : (a b : ℕ) → Some a ≡ Some b → a ≡ b
-some_is a b e = cc
 
 gives_is : (a b : ℕ) → Gives a ≡ Gives b → a ≡ b
 gives_is a b e = cc
@@ -145,7 +143,7 @@ module _ (p : Procedure) (t : Tables) (start : Start) (v : Value) (h : Here p t 
         gives_is (shifted_left W64 two.wx 3) w
         (ap (λ n. Gives (shifted_left W64 two.wx n)) (sym amount) ∙ ap (λ (ty : Ty). Gives (shifted_left (width_of ty) two.wx two.wy)) (sym own_type)
         ∙ ap (λ (l : List ℕ). result opcode.Shl d.kind.chill d.ty l (types_of p d)) (sym two.words)
-        ∙ ap (λ (q : Opcode). result q d.kind.chill d.ty r.words (types_of p d)) (sym ed) ∙ r.gives ∙ ap Gives (some_is r.word w (sym r.has ∙ now))) in
+        ∙ ap (λ (q : Opcode). result q d.kind.chill d.ty r.words (types_of p d)) (sym ed) ∙ r.gives ∙ ap Gives (same_Some r.word w (sym r.has ∙ now))) in
         of_index h.s width base (home t.index z) 3 x two.wx reads (whole_word z two.wx (two.x_taken ∙ alike) un two.x_now)
         ∙ ap Some (shifted_index x two.wx ∙ ap (λ n. (x + n) % 2 ^ 64) is)
 
@@ -204,7 +202,7 @@ module _ (p : Procedure) (t : Tables) (start : Start) (v : Value) (h : Here p t 
         gives_is ((two.wx + two.wy) % 2 ^ 64) w
         (ap (λ (ty : Ty). Gives (sum (width_of ty) two.wx two.wy)) (sym (own_type d early w now typed))
         ∙ ap (λ (l : List ℕ). result opcode.Add d.kind.chill d.ty l (types_of p d)) (sym two.words)
-        ∙ ap (λ (q : Opcode). result q d.kind.chill d.ty r.words (types_of p d)) (sym ed) ∙ r.gives ∙ ap Gives (some_is r.word w (sym r.has ∙ now))) in
+        ∙ ap (λ (q : Opcode). result q d.kind.chill d.ty r.words (types_of p d)) (sym ed) ∙ r.gives ∙ ap Gives (same_Some r.word w (sym r.has ∙ now))) in
         let un = first_unfolded d early w now typed opcode.Add ed x two.x_at (λ k. refl) (λ k n. refl) refl in
         let base : read W64 (h.s.homes (home t.index x)) ≡ Some two.wx = whole_word x two.wx (two.x_taken ∙ alike) un two.x_now in
         sum_by width bytes is_word x y two.wx two.wy offset base is two.y_at two.y_in two.y_now (two.y_taken ∙ alike)

@@ -2,19 +2,17 @@
 -- and takes an answer.
 use Rattle.std.proofs.Common.{◌≡◌, ℕ, zero, suc, ◌-◌, ◌^◌, ◌<◌, inl, inr, List, [], ◌∷◌, ◌++◌, Some, None, length, map, drop, refl, sym, ap, ◌∙◌, subst, arith, length-append}
 use Rattle.std.specs.Prelude.{if◌then◌else◌}
+use Rattle.b3_base.proofs.Widths.{low-lt}
 use Rattle.b3_base.specs.Arithmetic.{low}
 use Rattle.b3_base.specs.Observed.{Answer, Event, Give, Leave, Memory, Observation, Start}
 use Rattle.b3_base.specs.Word.{bits}
-use Rattle.b3_base.specs.declared.event.EventKind.{EventKind}
 use Rattle.b3_base.specs.declared.observation.Status.{Status}
 use Rattle.b3_base.specs.declared.observation.Status.TheVariants.{Left, Waiting}
 use Rattle.b3_base.specs.declared.word.Width.{Width}
 use Rattle.b3_base.specs.declared.word.Width.TheVariants.{W32, W64}
-use Rattle.b3_ir.specs.Procedure.{Procedure}
 use Rattle.b3_ir.specs.Types.{has_word, width_of}
 use Rattle.b3_ir.specs.declared.opcode.Ty.{Ty}
 use Rattle.b3_ir.specs.declared.opcode.Ty.TheVariants.{Void, Int32, Int64}
-use Rattle.b3_ir.specs.declared.value.Value.{Value}
 use Rattle.b3_meaning.specs.Run as b3
 use Rattle.air_ir.specs.Blocks.{seen_as}
 use Rattle.air_ir.specs.Meaning.{Over, World, answered, asks, ends, gives, meaning, operation}
@@ -26,13 +24,16 @@ use Rattle.air_ir.specs.declared.operand.Home.{Home}
 use Rattle.air_ir.specs.declared.operand.Home.TheVariants.{Tmp}
 use Rattle.air_ir.specs.declared.procedure.AirInst.{AirInst}
 use Rattle.air_ir.proofs.Writing.{put_all-other}
-use Rattle.air_select.specs.Selected.{Tables, move, register, result_from}
+use Rattle.air_select.specs.Selected.{move, register, result_from, Tables}
 use Rattle.air_select.specs.Temporaries.{home}
 use Rattle.air_fold.specs.Values.{width_at}
 use Rattle.air_select.proofs.Copied.{moved}
-use Rattle.air_select.proofs.Does.{DoesSome, Here, is_known, named}
+use Rattle.air_select.proofs.Does.{DoesSome, is_known, named, Here}
 use Rattle.air_select.proofs.Instructions.{at_home, one_end, one_giving, steps_gone, steps_last, steps_next, with_home}
 use Rattle.air_select.proofs.Related.{Related, holds_word, kept_related, register_here, word_related}
+use Rattle.b3_base.specs.declared.event.EventKind.{EventKind}
+use Rattle.b3_ir.specs.Procedure.{Procedure}
+use Rattle.b3_ir.specs.declared.value.Value.{Value}
 
 -- ---- what is written
 
@@ -72,10 +73,6 @@ pub no_tmp_register : (r : ℕ) (width : Width) (ts : List Target) → WritesNoT
 unfolding IsTarget
 no_tmp_register r width ts none n (inl e) = cc
 no_tmp_register r width ts none n (inr more) = none n more
-
-low_less : (width : Width) (word : ℕ) → low width word < 2 ^ bits width
-low_less W32 word = omega arith
-low_less W64 word = omega arith
 
 reads_low : (width : Width) (word : ℕ) → read width (Holds width word) ≡ Some (low width word)
 unfolding read
@@ -187,7 +184,7 @@ module _ (p : Procedure) (t : Tables) (start : Start) (v : Value) (h : Here p t 
                 ∙ moved p t start v h next (drop n junk) width (At (register reg)) to word
                 (at_home next.homes width (register reg) word (ap (read width) held ∙ reads_low width value)),
             word_related p t h.sound start st' next r' v.id v (named p t start v h) word (Holds width word)
-                (ap (λ (k : Width). read k (Holds width word)) known ∙ holds_word width word (low_less width value)),
+                (ap (λ (k : Width). read k (Holds width word)) known ∙ holds_word width word (low-lt width value)),
           ),
         )
 

@@ -1,12 +1,11 @@
 -- Calls: the arguments are put into registers, and the callee is asked.
 use Rattle.std.proofs.Common.{◌≡◌, ℕ, suc, ◌<◌, Bool, true, false, List, [], ◌∷◌, ◌++◌, Some, None, map, drop, append-nil, refl, sym, ap, ◌∙◌, subst, arith}
 use Rattle.std.specs.Prelude.{Contains, if◌then◌else◌}
-use Rattle.b3_base.specs.Observed.{Start}
+use Rattle.b3_base.proofs.Lists.{Contains-first, Contains-later}
 use Rattle.b3_base.specs.declared.event.EventKind.TheVariants as event
 use Rattle.b3_base.specs.declared.word.Width.{Width}
 use Rattle.b3_base.specs.declared.word.Width.TheVariants.{W32, W64}
 use Rattle.b3_ir.specs.Naming.{type_of}
-use Rattle.b3_ir.specs.Procedure.{Procedure}
 use Rattle.b3_ir.specs.Types.{AllowsTypes, AreTaken, has_word, width_of}
 use Rattle.b3_ir.specs.declared.opcode.Opcode.{Opcode}
 use Rattle.b3_ir.specs.declared.opcode.Opcode.TheVariants as opcode
@@ -14,11 +13,9 @@ use Rattle.b3_ir.specs.declared.opcode.Ty.{Ty}
 use Rattle.b3_ir.specs.declared.opcode.Ty.TheVariants.{Void, Int32, Int64}
 use Rattle.b3_ir.specs.declared.table.More.TheVariants.{Arguments}
 use Rattle.b3_ir.specs.declared.table.Takes.TheVariants.{This}
-use Rattle.b3_ir.specs.declared.value.Value.{Value}
 use Rattle.b3_meaning.specs.Opcodes.{CallIntoCode}
 use Rattle.b3_meaning.specs.Run as b3
 use Rattle.b3_rules.specs.Rules.{types_of}
-use Rattle.b3_sound.proofs.Lists.{contains_head, contains_tail}
 use Rattle.air_ir.specs.Forms.{call_clobbers, operand_in}
 use Rattle.air_ir.specs.Meaning.{World, asks, meaning}
 use Rattle.air_ir.specs.Operands.{Held, Holds, Homes, Read, Target, read, targets, word_of, words}
@@ -36,11 +33,14 @@ use Rattle.air_fold.specs.Values.{child, width_at}
 use Rattle.air_select.proofs.Asking.{WritesNoTmp, asks_does, no_tmp_none, no_tmp_register, target_in}
 use Rattle.air_select.proofs.Children.{child_word, readable, width_is, word_small, words_cons, words_nil}
 use Rattle.air_select.proofs.Copied.{moved}
-use Rattle.air_select.proofs.Does.{DoesSome, Here, allows, are_words, at, here, words_here}
+use Rattle.air_select.proofs.Does.{DoesSome, allows, are_words, at, here, words_here, Here}
 use Rattle.air_select.proofs.Facts.{child_ran}
 use Rattle.air_select.proofs.Instructions.{at_home, reads_def, reads_none, reads_use, steps_first, with_home, writes_def, writes_none, writes_use}
 use Rattle.air_select.proofs.Plain.{child_place, no_value, reads, reads_words, takes_values}
 use Rattle.air_select.proofs.Related.{Related, holds_word, kept_related, put_register, register_here, register_there}
+use Rattle.b3_base.specs.Observed.{Start}
+use Rattle.b3_ir.specs.Procedure.{Procedure}
+use Rattle.b3_ir.specs.declared.value.Value.{Value}
 
 -- ---- operands
 
@@ -129,8 +129,8 @@ module _ (p : Procedure) (t : Tables) (start : Start) (v : Value) (h : Here p t 
         kept_related p t start h.st h.st s after rel (λ n. put_register s.homes r n held) refl refl rel.memory rel.events rel.answers in
         let copied : step (meaning start) copy s junk ≡ (Goes None after, junk) =
         sym (steps-one (meaning start) copy s junk)
-        ∙ moved p t start v h s junk width (arg_of t c) (register r) one.0 (child_at s rel c one.0 (among c (contains_head c cs)) one.3) in
-        let rest = loaded cs one.1 (suc r) after rel' (λ id has. among id (contains_tail c cs id has)) one.4 in
+        ∙ moved p t start v h s junk width (arg_of t c) (register r) one.0 (child_at s rel c one.0 (among c (Contains-first c cs)) one.3) in
+        let rest = loaded cs one.1 (suc r) after rel' (λ id has. among id (Contains-later c cs id has)) one.4 in
         let there : rest.next.homes (register r) ≡ held = rest.below r (omega arith) ∙ register_here s.homes r held in
         record {
           next = rest.next;
@@ -156,7 +156,7 @@ module _ (p : Procedure) (t : Tables) (start : Start) (v : Value) (h : Here p t 
         → DoesSome p t start v (b3.calls_out h.st v (b3.event_of h.st (event.Call callee) (map (type_of p) cs) ws))
         (steps (meaning start) (arguments_into t v 0 cs ++ call_to t v c cs ∷ result_from t v 0) h.s junk)
     asked c cs ws callee among now e free =
-        let put = loaded cs ws 0 h.s h.related (λ id has. among id (contains_tail c cs id has)) e in
+        let put = loaded cs ws 0 h.s h.related (λ id has. among id (Contains-later c cs id has)) e in
         let i = call_to t v c cs in
         let late : List Operand = map (operand_in Clobber W64) call_clobbers ++ result_into v 0 in
         let x = width_at t.index c in
@@ -166,7 +166,7 @@ module _ (p : Procedure) (t : Tables) (start : Start) (v : Value) (h : Here p t 
         reads_changed put.next.homes call_clobbers (result_into v 0) ∙ reads_into put.next.homes (width_of v.ty) (register 0) (has_word v.ty) in
         let read_all : words put.next.homes i.operands ≡ Some ((x, callee) ∷ shown) =
         reads_use put.next.homes x (arg_of t c) (arguments_at t 0 cs ++ late) callee shown
-        (child_at put.next put.related c callee (among c (contains_head c cs)) now)
+        (child_at put.next put.related c callee (among c (Contains-first c cs)) now)
         (put.read_there late [] quiet ∙ ap Some (append-nil shown)) in
         let writes : targets i.operands ≡ ts ++ target_in v.ty 0 =
         writes_use x (arg_of t c) (arguments_at t 0 cs ++ late) ∙ writes_arguments t 0 cs late ∙ writes_changed call_clobbers (result_into v 0)

@@ -1,14 +1,16 @@
 -- What a value's instructions read of its children.
 use Rattle.std.proofs.Common.{◌≡◌, ℕ, ◌^◌, ◌<◌, ◌⊎◌, inl, inr, Bool, true, false, ◌&&◌, ◌||◌, List, [], ◌∷◌, ◌++◌, map, Option, Some, None, nat_eq, refl, sym, ap, ◌∙◌, subst}
 use Rattle.std.specs.Prelude.{Contains, if◌then◌else◌, nat_lt, slice_get}
-use Rattle.std.proofs.lemmas.Bool.{eqb-true}
+use Rattle.std.proofs.lemmas.Bool.{eqb-true, and_parts, or_cases}
+use Rattle.std.proofs.lemmas.Option.{same_Some}
+use Rattle.b3_base.proofs.Lists.{Contains-first, Contains-later}
+use Rattle.b3_base.proofs.Widths.{low-same}
 use Rattle.b3_base.specs.Arithmetic.{low}
-use Rattle.b3_base.specs.Observed.{Start}
 use Rattle.b3_base.specs.Word.{bits}
 use Rattle.b3_base.specs.declared.word.Width.{Width}
 use Rattle.b3_ir.specs.Fits.{reported_count}
 use Rattle.b3_ir.specs.Naming.{type_of}
-use Rattle.b3_ir.specs.Procedure.{Procedure, values_of}
+use Rattle.b3_ir.specs.Procedure.{values_of, Procedure}
 use Rattle.b3_ir.specs.Types.{width_of}
 use Rattle.b3_ir.specs.declared.opcode.Opcode.{Opcode}
 use Rattle.b3_ir.specs.declared.opcode.Ty.{Ty}
@@ -19,9 +21,6 @@ use Rattle.b3_rules.specs.Paths.{HasRun}
 use Rattle.b3_rules.specs.Rules.{types_of}
 use Rattle.b3_sound.proofs.Distinct.{stands}
 use Rattle.b3_sound.proofs.Keeping.{ran_in_block}
-use Rattle.b3_sound.proofs.Kept.{IsKept}
-use Rattle.b3_sound.proofs.Lists.{contains_head, contains_tail}
-use Rattle.b3_sound.proofs.Reached.{IsReached}
 use Rattle.b3_sound.proofs.Rows.{IsRow, row_by_role}
 use Rattle.air_ir.specs.Operands.{Read, word_of, words}
 use Rattle.air_ir.specs.Steps.{State}
@@ -34,7 +33,10 @@ use Rattle.air_fold.specs.Values.{known, width_at, word_in}
 use Rattle.air_fold.specs.declared.known.Known.{Known}
 use Rattle.air_select.proofs.Facts.{Ran, body_below, constant_role}
 use Rattle.air_select.proofs.Instructions.{at_home, of_immediate, reads_use}
-use Rattle.air_select.proofs.Related.{Related, low_word}
+use Rattle.air_select.proofs.Related.{Related}
+use Rattle.b3_base.specs.Observed.{Start}
+use Rattle.b3_sound.proofs.Kept.{IsKept}
+use Rattle.b3_sound.proofs.Reached.{IsReached}
 use Rattle.air_select.proofs.Setting.{IsSound}
 
 -- ---- words of children
@@ -77,15 +79,6 @@ pub record FitsAsValue (t : Tables) (f : List Bool) (b : ℕ) (op : Opcode) (i u
   pub block : b ≡ (known t.index id).block
   pub fits : value_fits t.index f op i user (known t.index id) ≡ true
 
-and_parts : (a b : Bool) → (a && b) ≡ true → (a ≡ true) × (b ≡ true)
-and_parts true true e = (refl, refl)
-and_parts true false e = absurd (cc)
-and_parts false b e = absurd (cc)
-
-pub or_parts : (a b : Bool) → (a || b) ≡ true → (a ≡ true) ⊎ (b ≡ true)
-or_parts true b e = inl refl
-or_parts false b e = inr e
-
 pub fit_cases : (t : Tables) (f : List Bool) (b : ℕ) (op : Opcode) (i user id : ℕ)
     → fits t.index f (record { id = id; block = b; user = user; opcode = op; at = i }) ≡ true
     → FitsAsConstant t op i id ⊎ (FitsInSum t f op i user id ⊎ FitsAsValue t f b op i user id)
@@ -95,7 +88,7 @@ fit_cases t f b op i user id e = go (is_constant (known t.index id).opcode) refl
         → (if c then (constant_fits op i (width_at t.index id) (known t.index id).word || sum_fits t.index f op i user) else
         (nat_eq b (known t.index id).block && value_fits t.index f op i user (known t.index id))) ≡ true
         → FitsAsConstant t op i id ⊎ (FitsInSum t f op i user id ⊎ FitsAsValue t f b op i user id)
-    go true ec e = elim (or_parts (constant_fits op i (width_at t.index id) (known t.index id).word) (sum_fits t.index f op i user) e) [
+    go true ec e = elim (or_cases (constant_fits op i (width_at t.index id) (known t.index id).word) (sum_fits t.index f op i user) e) [
       | inl constant ↦ inl (record { constant = ec; fits = constant })
       | inr sum ↦ inr (inl (record { constant = ec; fits = sum }))
     ]
@@ -142,9 +135,6 @@ module _ (p : Procedure) (valid : IsKept p) (t : Tables) (sound : IsSound p t) (
     pub word_small : (id w : ℕ) → st.words id ≡ Some w → w < 2 ^ bits (width_at t.index id)
     word_small id w now = subst (λ (k : Width). w < 2 ^ bits k) (sym (width_is id)) (reached.ranged.words id w now)
 
-    some_is : (a c : ℕ) → Some a ≡ Some c → a ≡ c
-    some_is a c e = cc
-
     -- the word of a constant that has run
     constant_word : (d : Value) (w : ℕ) → HasRun p passed before d → (c : ℕ) → Contains (values_of p c) d → is_constant d.kind.opcode ≡ true
         → st.words d.id ≡ Some w → (known t.index d.id).word ≡ w
@@ -155,7 +145,7 @@ module _ (p : Procedure) (valid : IsKept p) (t : Tables) (sound : IsSound p t) (
         let row = row_by_role d.kind.opcode d.ty (types_of p d) (reported_count d) d.body (allowed d.kind.opcode d.ty (types_of p d) rules.typed)
         rules.fits.body in
         let body = body_below (2 ^ bits (width_of d.ty)) d.body (subst (λ q. IsRow q d.ty (types_of p d) d.body) role row) in
-        ap (λ (k : Known). k.word) (sound.is_known c d in_c) ∙ some_is (word_in d.body) w (sym (reached.constants d (word_in d.body) ran role body.0) ∙ now)
+        ap (λ (k : Known). k.word) (sound.is_known c d in_c) ∙ same_Some (word_in d.body) w (sym (reached.constants d (word_in d.body) ran role body.0) ∙ now)
 
     -- what is known of a constant that has run is its word
     pub known_word : (id w : ℕ) → Ran p valid passed before id → is_constant (known t.index id).opcode ≡ true → st.words id ≡ Some w
@@ -175,7 +165,7 @@ module _ (p : Procedure) (valid : IsKept p) (t : Tables) (sound : IsSound p t) (
         go true e =
             of_immediate s.homes (width_at t.index id) (known t.index id).word
             ∙ ap (λ n. Some (low (width_at t.index id) n)) (known_word id w ran (reads e) now)
-            ∙ ap Some (low_word (width_at t.index id) w (word_small id w now))
+            ∙ ap Some (low-same (width_at t.index id) w (word_small id w now))
 
     -- the words that the uses of some ids read
     abbrev pub typed : List ℕ → List ℕ → List Read
@@ -191,5 +181,5 @@ module _ (p : Procedure) (valid : IsKept p) (t : Tables) (sound : IsSound p t) (
         let one = words_cons (type_of p) st.words c cs ws now in
         subst (λ (l : List ℕ). words s.homes (map (use_of t) (c ∷ cs) ++ os) ≡ Some (typed (c ∷ cs) l ++ more)) (sym one.2)
         (reads_use s.homes (width_at t.index c) (arg_of t c) (map (use_of t) cs ++ os) one.0 (typed cs one.1 ++ more)
-        (child_word c one.0 (ran c (contains_head c cs)) (reads c (contains_head c cs)) one.3)
-        (children_words cs one.1 os more (λ id has. ran id (contains_tail c cs id has)) (λ id has. reads id (contains_tail c cs id has)) one.4 others))
+        (child_word c one.0 (ran c (Contains-first c cs)) (reads c (Contains-first c cs)) one.3)
+        (children_words cs one.1 os more (λ id has. ran id (Contains-later c cs id has)) (λ id has. reads id (Contains-later c cs id has)) one.4 others))

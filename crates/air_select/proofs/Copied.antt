@@ -1,14 +1,14 @@
 -- The values that copy a word.
 use Rattle.std.proofs.Common.{◌≡◌, ℕ, ◌^◌, ◌<◌, false, List, [], ◌∷◌, Option, Some, None, refl, sym, ap, ◌∙◌, subst}
 use Rattle.std.specs.Prelude.{Contains, slice_get}
+use Rattle.b3_base.proofs.Lists.{Contains-first}
+use Rattle.b3_base.proofs.Widths.{low-same}
 use Rattle.b3_base.specs.Arithmetic.{low}
-use Rattle.b3_base.specs.Observed.{Start}
 use Rattle.b3_base.specs.Word.{bits}
 use Rattle.b3_base.specs.declared.word.Width.{Width}
 use Rattle.b3_base.specs.declared.word.Width.TheVariants.{W64}
 use Rattle.b3_ir.specs.Fits.{IsArgument, IsConstantBelow, reported_count}
 use Rattle.b3_ir.specs.Naming.{type_of}
-use Rattle.b3_ir.specs.Procedure.{Procedure}
 use Rattle.b3_ir.specs.Types.{AllowsTypes, width_of}
 use Rattle.b3_ir.specs.declared.opcode.Opcode.{Opcode}
 use Rattle.b3_ir.specs.declared.opcode.Opcode.TheVariants as opcode
@@ -16,12 +16,10 @@ use Rattle.b3_ir.specs.declared.table.Takes.TheVariants.{Alike}
 use Rattle.b3_ir.specs.declared.value.Body.{Body}
 use Rattle.b3_ir.specs.declared.value.Body.TheVariants.{Argument, Constant}
 use Rattle.b3_ir.specs.declared.value.Reg.{Reg}
-use Rattle.b3_ir.specs.declared.value.Value.{Value}
 use Rattle.b3_meaning.specs.Opcodes.{Gives, result}
 use Rattle.b3_meaning.specs.Roles.{role_of}
 use Rattle.b3_meaning.specs.Run as b3
 use Rattle.b3_rules.specs.Rules.{types_of}
-use Rattle.b3_sound.proofs.Lists.{contains_head}
 use Rattle.b3_sound.proofs.Rows.{IsRow, row_by_role}
 use Rattle.air_ir.specs.Meaning.{gives, meaning}
 use Rattle.air_ir.specs.Operands.{read, word_of}
@@ -31,17 +29,19 @@ use Rattle.air_ir.specs.declared.operand.Arg.{Arg}
 use Rattle.air_ir.specs.declared.operand.Arg.TheVariants.{At, Imm}
 use Rattle.air_ir.specs.declared.operand.Home.{Home}
 use Rattle.air_fold.specs.Foldable.{pointers, value_fits}
-use Rattle.air_select.specs.Selected.{Tables, arg_of, computes, def_at, move, register_in}
+use Rattle.air_select.specs.Selected.{arg_of, computes, def_at, move, register_in, Tables}
 use Rattle.air_select.specs.Temporaries.{argument, home, location}
 use Rattle.air_fold.specs.Values.{width_at, word_in}
 use Rattle.air_fold.specs.declared.known.Known.{Known}
 use Rattle.air_select.proofs.Children.{child_word, readable, width_is}
-use Rattle.air_select.proofs.Does.{Does, Here, allows, are_words, at, gives_does, here, is_known, puts, result_small, rules, words_here}
+use Rattle.air_select.proofs.Does.{Does, allows, are_words, at, gives_does, here, is_known, puts, result_small, rules, words_here, Here}
 use Rattle.air_select.proofs.Facts.{child_ran}
 use Rattle.air_select.proofs.Instructions.{at_home, of_immediate, one_word, reads_def, reads_use, steps_last, with_home, writes_def, writes_use}
 use Rattle.air_select.proofs.Plain.{copying, no_value, over_does, reads, reads_words}
-use Rattle.air_select.proofs.Related.{low_word}
 use Rattle.air_select.proofs.Shapes.{one_child}
+use Rattle.b3_base.specs.Observed.{Start}
+use Rattle.b3_ir.specs.Procedure.{Procedure}
+use Rattle.b3_ir.specs.declared.value.Value.{Value}
 
 -- ---- a move
 
@@ -78,7 +78,7 @@ module _ (p : Procedure) (t : Tables) (start : Start) (v : Value) (h : Here p t 
       let is = constant_gives (2 ^ bits (width_of v.ty)) v.body w below e in
       puts p t start v h junk w h.s (steps (meaning start) (move v (width_of v.ty) (Imm (word_in v.body)) (home t.index v.id) ∷ []) h.s junk) is.1 h.related
       (moved h.s junk (width_of v.ty) (Imm (word_in v.body)) (home t.index v.id) w
-      (of_immediate h.s.homes (width_of v.ty) (word_in v.body) ∙ ap (λ n. Some (low (width_of v.ty) n)) is.0 ∙ ap Some (low_word (width_of v.ty) w is.1))))
+      (of_immediate h.s.homes (width_of v.ty) (word_in v.body) ∙ ap (λ n. Some (low (width_of v.ty) n)) is.0 ∙ ap Some (low-same (width_of v.ty) w is.1))))
 
   -- ---- arguments
 
@@ -137,7 +137,7 @@ module _ (p : Procedure) (t : Tables) (start : Start) (v : Value) (h : Here p t 
   place_of_child cs c more e = ap (λ (l : List ℕ). slice_get l 0) e
 
   pub first_child : (c : ℕ) (more : List ℕ) → v.children ≡ c ∷ more → Contains v.children c
-  first_child c more e = subst (λ (l : List ℕ). Contains l c) (sym e) (contains_head c more)
+  first_child c more e = subst (λ (l : List ℕ). Contains l c) (sym e) (Contains-first c more)
 
   -- the word of a child, in a use that isn't a condition
   pub child_here : (i c w : ℕ) → slice_get v.children i ≡ Some c → Contains v.children c → h.st.words c ≡ Some w

@@ -1,16 +1,16 @@
 -- A condition: the test of a Branch, a Check or a Select passes exactly where the word of its child isn't 0.
-use Rattle.std.proofs.Common.{◌≡◌, ◌≢◌, ℕ, zero, suc, ◌*◌, ◌^◌, ◌<◌, ◌⊎◌, inl, inr, Bool, true, false, ◌&&◌, ◌||◌, List, [], ◌∷◌, ◌++◌, map, Some, nat_eq, refl, sym, ap, ◌∙◌, subst, arith, ⊎_elim}
+use Rattle.std.proofs.Common.{◌≡◌, ◌≢◌, ℕ, zero, suc, ◌*◌, ◌^◌, ◌<◌, ◌⊎◌, inl, inr, Bool, true, false, ◌&&◌, List, [], ◌∷◌, ◌++◌, map, Some, nat_eq, refl, sym, ap, ◌∙◌, subst, arith, ⊎_elim}
 use Rattle.std.specs.Prelude.{Contains, if◌then◌else◌, not, slice_get}
 use Rattle.std.specs.Int.{bit_at}
 use Rattle.std.specs.Int.Bits.{bit_and}
-use Rattle.std.proofs.lemmas.Bool.{eqb-true, ne_eqb}
+use Rattle.std.proofs.lemmas.Bool.{eqb-true, ne_eqb, and_parts}
 use Rattle.std.proofs.lemmas.List.Elements.{All-contains, Contains-append_left}
 use Rattle.std.proofs.lemmas.Nat.{pow_pos}
 use Rattle.std.proofs.lemmas.Nat.Bits.{and_pow, bit_at-lt}
-use Rattle.b3_base.specs.Observed.{Start}
+use Rattle.std.proofs.lemmas.Option.{same_Some}
 use Rattle.b3_base.specs.declared.word.Width.{Width}
 use Rattle.b3_ir.specs.Naming.{type_of}
-use Rattle.b3_ir.specs.Procedure.{Procedure, values_of}
+use Rattle.b3_ir.specs.Procedure.{values_of, Procedure}
 use Rattle.b3_ir.specs.Types.{AllowsTypes, AreTaken, width_of}
 use Rattle.b3_ir.specs.declared.opcode.Opcode.{Opcode}
 use Rattle.b3_ir.specs.declared.opcode.Opcode.TheVariants as opcode
@@ -37,16 +37,17 @@ use Rattle.air_ir.specs.declared.op.Test.TheVariants.{Bit, Compare, NonZero}
 use Rattle.air_ir.specs.declared.operand.Operand.{Operand}
 use Rattle.air_ir.proofs.Conditions.{compares}
 use Rattle.air_fold.specs.Foldable.{bit_of, constant_fits, is_and, is_bit, is_bit_test, is_comparison, is_constant, pointers, sum_fits, value_fits}
-use Rattle.air_select.specs.Selected.{Condition, Tables, arg_of, condition, condition_of, folded_condition, folds, op_of, use_of}
+use Rattle.air_select.specs.Selected.{Condition, arg_of, condition, condition_of, folded_condition, folds, op_of, use_of, Tables}
 use Rattle.air_fold.specs.Values.{child, known, known_in, width_at}
 use Rattle.air_fold.specs.declared.known.Known.{Known}
 use Rattle.air_select.proofs.Children.{child_word, fit_cases, known_word, readable, width_is, words_cons, words_nil}
-use Rattle.air_select.proofs.Does.{Here, at, here}
+use Rattle.air_select.proofs.Does.{at, here, Here}
 use Rattle.air_select.proofs.Facts.{child_ran, grandchild_ran}
 use Rattle.air_select.proofs.Instructions.{reads_use, writes_use}
 use Rattle.air_select.proofs.OneOp.{first_width, is_one_op, one_op_right}
 use Rattle.air_select.proofs.Plain.{takes_values, no_value}
 use Rattle.air_select.proofs.Shapes.{two_children, two_here}
+use Rattle.b3_base.specs.Observed.{Start}
 
 -- the operands of a condition read some words, of which its test says whether a word isn't 0
 pub record Decides (homes : Homes) (c : Condition) (word : ℕ) : Type 0 where
@@ -116,18 +117,6 @@ bit_tells x k = bit_cases (bit_at x k) k (bit_at-lt x k) ∙ ap (λ n. not (nat_
 and_is : (o : Opcode) → is_and o ≡ true → o ≡ opcode.BitAnd
 and_is opcode.BitAnd e = refl
 and_is _ e = absurd (cc)
-
-or_cases : (a b : Bool) → (a || b) ≡ true → (a ≡ true) ⊎ (b ≡ true)
-or_cases true b e = inl refl
-or_cases false b e = inr e
-
-and_parts : (a b : Bool) → (a && b) ≡ true → (a ≡ true) × (b ≡ true)
-and_parts true true e = (refl, refl)
-and_parts true false e = absurd (cc)
-and_parts false b e = absurd (cc)
-
-some_is : (a b : ℕ) → Some a ≡ Some b → a ≡ b
-some_is a b e = cc
 
 gives_some : (a b : ℕ) → Gives a ≡ Gives b → a ≡ b
 gives_some a b e = cc
@@ -207,7 +196,7 @@ module _ (p : Procedure) (t : Tables) (start : Start) (v : Value) (h : Here p t 
         let two = two_here (type_of p) h.st.words d_allows.alike Alike Alike d.children done.words
         (two_children (type_of p) h.st.words d_allows.alike Alike Alike d.children done.words (comparison_takes d.kind.opcode d.ty (types_of p d) is d_allows)
         done.children) in
-        let same : done.word ≡ w = some_is done.word w (sym done.has ∙ now) in
+        let same : done.word ≡ w = same_Some done.word w (sym done.has ∙ now) in
         let typed : AreWordsOf (types_of p d) done.words = typed_words d.children done.words done.children in
         let right : computed (op_of d.kind.opcode) (first_width (types_of p d)) done.words ≡ Some w =
         one_op_right d.kind.opcode (comparison_op d.kind.opcode is).0 d.kind.chill d.ty (types_of p d) done.words w d_allows typed
@@ -241,7 +230,7 @@ module _ (p : Procedure) (t : Tables) (start : Start) (v : Value) (h : Here p t 
         let allows = subst (λ (q : Opcode). AllowsTypes q d.ty (types_of p d)) ed d_allows in
         let two = two_here (type_of p) h.st.words allows.alike Alike Alike d.children done.words
         (two_children (type_of p) h.st.words allows.alike Alike Alike d.children done.words allows.children done.children) in
-        let same : done.word ≡ w = some_is done.word w (sym done.has ∙ now) in
+        let same : done.word ≡ w = same_Some done.word w (sym done.has ∙ now) in
         let k = (known t.index y).word in
         let y_is : k ≡ two.wy =
         known_word p h.valid t h.sound start h.passed h.block h.before (v ∷ h.rest) h.stands h.st h.reached h.s h.related y two.wy

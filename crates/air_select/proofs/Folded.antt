@@ -1,15 +1,18 @@
 -- Folded values: no instruction is made for one, and the instruction of its use carries it.
-use Rattle.std.proofs.Common.{◌≡◌, ℕ, zero, suc, ◌+◌, ◌^◌, ◌<◌, inl, inr, Bool, true, false, ◌&&◌, ◌||◌, List, [], ◌∷◌, ◌++◌, Option, Some, None, length, map, take, refl, sym, ap, ◌∙◌, subst, arith}
+use Rattle.std.proofs.Common.{◌≡◌, ℕ, zero, suc, ◌+◌, ◌^◌, ◌<◌, inl, inr, Bool, true, false, ◌&&◌, ◌||◌, List, [], ◌∷◌, ◌++◌, Some, length, map, take, refl, sym, ap, ◌∙◌, subst, arith}
 use Rattle.std.specs.Prelude.{Contains, not, if◌then◌else◌, slice_get, slice_index_or}
 use Rattle.std.specs.List.{flat_map}
 use Rattle.std.specs.Option.{option_map}
 use Rattle.std.proofs.lemmas.Bool.{eqb-true}
 use Rattle.std.proofs.lemmas.List.{length-map}
 use Rattle.std.proofs.lemmas.Option.{get_or_from_slice_get, slice_get-get_or, slice_get-map, slice_get_within}
+use Rattle.b3_base.proofs.Lists.{get_front, get_behind, Contains-at, All-at}
+use Rattle.b3_base.proofs.Booleans.{not_both, and_first, and_second}
+use Rattle.b3_base.proofs.Options.{mapped}
 use Rattle.b3_base.specs.declared.word.Width.{Width}
 use Rattle.b3_base.specs.declared.word.Width.TheVariants.{W32}
 use Rattle.b3_ir.specs.Naming.{all_values, type_of}
-use Rattle.b3_ir.specs.Procedure.{AllFit, Block, Procedure, StandsAt, no_block, place_among, values_of}
+use Rattle.b3_ir.specs.Procedure.{AllFit, Block, StandsAt, no_block, place_among, values_of, Procedure}
 use Rattle.b3_ir.specs.Table.{is_terminal}
 use Rattle.b3_ir.specs.Types.{AllowsTypes, AreTaken, width_of}
 use Rattle.b3_ir.specs.declared.opcode.Opcode.{Opcode}
@@ -21,7 +24,6 @@ use Rattle.b3_ir.specs.declared.table.Takes.TheVariants.{Alike}
 use Rattle.b3_ir.specs.declared.value.Value.{Value}
 use Rattle.b3_ir.proofs.Typing.{allowed}
 use Rattle.b3_rules.specs.Rules.{types_of}
-use Rattle.b3_rules.specs.Valid.{IsValidProcedure}
 use Rattle.b3_sound.proofs.FromValid.{is_kept}
 use Rattle.b3_sound.proofs.Kept.{EndsBlock}
 use Rattle.b3_meaning.specs.declared.role.Extent.{Extent}
@@ -36,16 +38,16 @@ use Rattle.air_ir.specs.declared.procedure.AirBlock.{AirBlock}
 use Rattle.air_ir.specs.declared.procedure.AirInst.{AirInst}
 use Rattle.air_select.specs.Contract.{CarriesBits, CarriesComparisons, CarriesConstants, CarriesStored, CarriesSums, HasAddress, HasFirst, HasSecond, IsFolded, IsMade, NoneIsMade, TestsBit, TestsComparison, carried_word, test_in}
 use Rattle.air_fold.specs.Foldable.{access_bytes, bit_of, first_fits, first_immediates, is_add, is_and, is_bit, is_bit_test, is_comparison, is_constant, is_foldable, is_immediate, is_index, is_pointer, is_shl, is_store, is_three, pointer_of, pointers, reaches, second_fits, second_immediates, sum_fits, uses, value_fits}
-use Rattle.air_select.specs.Selected.{Condition, Tables, access, address_of, arg_of, before_access, block_code, branch_on, check_on, code_of, computes, condition, condition_of, entry_of, folds, inst, last_id, load_of, negative_amount, op_of, reported_behind, result_of, rotate_by, select_on, selected, selected_by, store_of, sum_address, tables, turned, use_at, use_of, value_code}
+use Rattle.air_select.specs.Selected.{Condition, access, address_of, arg_of, before_access, block_code, branch_on, check_on, code_of, computes, condition, condition_of, entry_of, folds, inst, last_id, load_of, negative_amount, op_of, reported_behind, result_of, rotate_by, select_on, selected, selected_by, store_of, sum_address, tables, turned, use_at, use_of, value_code, Tables}
 use Rattle.air_select.specs.Temporaries.{first_extra}
 use Rattle.air_stackmap.specs.SiteCode.{child_moves, site_inst}
 use Rattle.air_fold.specs.Values.{Index, child, ids_of, index_of, known, known_in, width_at, word_in}
 use Rattle.air_fold.specs.declared.known.Known.{Known}
 use Rattle.air_select.proofs.Children.{fit_cases}
-use Rattle.air_fold.proofs.Places.{at_place, get_behind, get_front, in_blocks, known_is, place_is, row_get, split_at}
+use Rattle.air_fold.proofs.Places.{at_place, in_blocks, known_is, place_is, row_get, split_at}
 use Rattle.air_select.proofs.Pieces.{IsFor, code_is, entry_for, flat_found, flat_get, made_for, unfolded_by}
-use Rattle.air_select.proofs.Sites.{All-slice}
-use Rattle.air_select.proofs.Sound.{both_first, both_second, foldable_kind, sound}
+use Rattle.air_select.proofs.Sound.{foldable_kind, sound}
+use Rattle.b3_rules.specs.Valid.{IsValidProcedure}
 
 -- ---- opcodes
 
@@ -101,10 +103,6 @@ and_no_add : (o : Opcode) → is_and o ≡ true → is_add o ≡ true → ⊥
 and_no_add opcode.BitAnd e c = cc
 and_no_add _ e c = cc
 
-add_no_shl : (o : Opcode) → is_add o ≡ true → is_shl o ≡ true → ⊥
-add_no_shl opcode.Add e c = cc
-add_no_shl _ e c = cc
-
 and_no_comparison : (o : Opcode) → is_and o ≡ true → is_comparison o ≡ false
 and_no_comparison opcode.BitAnd e = refl
 and_no_comparison _ e = absurd cc
@@ -116,9 +114,6 @@ record HasNoKind (o : Opcode) : Type 0 where
   conjunction : is_and o ≡ false
   sum : is_add o ≡ false
   shift : is_shl o ≡ false
-
-not_both : (b : Bool) → b ≡ true → b ≡ false → ⊥
-not_both b e f = let bad : true ≡ false = sym e ∙ f in cc
 
 -- which conditions fit
 abbrev condition_fits : Index → Opcode → ℕ → Known → Bool
@@ -136,7 +131,7 @@ user_kind x _ i k e = absurd cc
 -- what fits and is no sum and no shift is a condition
 no_sum_fits : (x : Index) (user : ℕ) (o : Opcode) (w : Bool) (k : Known) → pointer_of x user o w k ≡ true → (is_add k.opcode ≡ true → ⊥) → ⊥
 no_sum_fits x user o w k e other =
-    other (both_first (is_add k.opcode) (reaches (access_bytes x o (known x user)) w (known x user).offset (known x k.second)) e)
+    other (and_first (is_add k.opcode) (reaches (access_bytes x o (known x user)) w (known x user).offset (known x k.second)) e)
 
 only_first : (x : Index) (o : Opcode) (user : ℕ) (k : Known) → first_fits x o user k ≡ true → (is_add k.opcode ≡ true → ⊥) → condition_fits x o 0 k ≡ true
 only_first x opcode.Branch user k e other = e
@@ -155,8 +150,8 @@ no_second_fits x f opcode.Store8 user k e other also = no_sum_fits x user opcode
 no_second_fits x f opcode.Store16 user k e other also = no_sum_fits x user opcode.Store16 false k e other
 no_second_fits x f opcode.Store user k e other also = no_sum_fits x user opcode.Store true k e other
 no_second_fits x f opcode.Add user k e other also =
-    also (both_first (is_shl k.opcode) (is_three (known x k.second) && not (is_constant (known x k.first).opcode))
-    (both_second (is_pointer x f user) (is_index x k) e))
+    also (and_first (is_shl k.opcode) (is_three (known x k.second) && not (is_constant (known x k.first).opcode))
+    (and_second (is_pointer x f user) (is_index x k) e))
 no_second_fits x f _ user k e other also = cc
 
 only_condition : (x : Index) (f : List Bool) (o : Opcode) (i user : ℕ) (k : Known) → value_fits x f o i user k ≡ true → (is_add k.opcode ≡ true → ⊥)
@@ -200,7 +195,7 @@ add_facts opcode.Add e = (refl, refl, refl, refl)
 add_facts _ e = absurd cc
 
 no_test : (x : Index) (k : Known) → is_and k.opcode ≡ false → is_bit_test x k ≡ true → ⊥
-no_test x k none e = not_both (is_and k.opcode) (both_first (is_and k.opcode) (is_constant (known x k.second).opcode && is_bit (known x k.second).word) e) none
+no_test x k none e = not_both (is_and k.opcode) (and_first (is_and k.opcode) (is_constant (known x k.second).opcode && is_bit (known x k.second).word) e) none
 
 add_no_condition : (x : Index) (k : Known) → (is_comparison k.opcode || is_bit_test x k) ≡ true → is_add k.opcode ≡ true → ⊥
 add_no_condition x k e add =
@@ -223,8 +218,8 @@ add_second x f opcode.Store16 user k e add = refl
 add_second x f opcode.Store user k e add = refl
 add_second x f opcode.Add user k e add =
     absurd (not_both (is_shl k.opcode)
-    (both_first (is_shl k.opcode) (is_three (known x k.second) && not (is_constant (known x k.first).opcode))
-    (both_second (is_pointer x f user) (is_index x k) e)) (add_facts k.opcode add).2)
+    (and_first (is_shl k.opcode) (is_three (known x k.second) && not (is_constant (known x k.first).opcode))
+    (and_second (is_pointer x f user) (is_index x k) e)) (add_facts k.opcode add).2)
 add_second x f _ user k e add = absurd cc
 
 -- a store stores 0 alone of constants
@@ -444,8 +439,8 @@ module _ (t : Tables) (v : Value) (id : ℕ) (folded : folds t id ≡ true) wher
       let other : is_comparison k.opcode ≡ false = and_no_comparison k.opcode is in
       let test : is_bit_test t.index k ≡ true = sym (ap (λ b. b || is_bit_test t.index k) other) ∙ e in
       let second : (is_constant (known t.index k.second).opcode && is_bit (known t.index k.second).word) ≡ true =
-      both_second (is_and k.opcode) (is_constant (known t.index k.second).opcode && is_bit (known t.index k.second).word) test in (
-        both_second (is_constant (known t.index k.second).opcode) (is_bit (known t.index k.second).word) second,
+      and_second (is_and k.opcode) (is_constant (known t.index k.second).opcode && is_bit (known t.index k.second).word) test in (
+        and_second (is_constant (known t.index k.second).opcode) (is_bit (known t.index k.second).word) second,
         ap (condition_of t) (child_is v.children 0 id at) ∙ tests_bit other,
       )
 
@@ -496,13 +491,6 @@ last_stands [] ends = absurd ends
 last_stands (v ∷ []) ends = (0, v, refl, refl, ends)
 last_stands (v ∷ w ∷ vs) ends = let more = last_stands (w ∷ vs) ends.1 in (suc more.0, more.1, more.2, more.3, more.4)
 
-contains_at : {X : Type 0} (xs : List X) (k : ℕ) (x : X) → slice_get xs k ≡ Some x → Contains xs x
-contains_at xs k x there = (k, slice_get_within xs k x there, get_or_from_slice_get xs k x x there)
-
-mapped : {X Y : Type 0} (f : X → Y) (o : Option X) (y : Y) → option_map f o ≡ Some y → (x : X) × (o ≡ Some x) × (f x ≡ y)
-mapped f (Some x) y e = let same : f x ≡ y = cc in (x, refl, same)
-mapped f None y e = absurd cc
-
 module _ (p : Procedure) (valid : IsValidProcedure p) (fit : AllFit p.blocks) where
   folds_at : (b j : ℕ) (v : Value) → StandsAt p b j v → folds (tables p) v.id ≡ is_foldable p v.id
   folds_at b j v at =
@@ -524,7 +512,7 @@ module _ (p : Procedure) (valid : IsValidProcedure p) (fit : AllFit p.blocks) wh
               | inl comparison ↦ ending_no_comparison v.kind.opcode ends comparison
               | inr (inl bit) ↦
                   ending_no_and v.kind.opcode ends
-                  (both_first (is_and v.kind.opcode)
+                  (and_first (is_and v.kind.opcode)
                   (is_constant (known (index_of p) (child v.children 1)).opcode && is_bit (known (index_of p) (child v.children 1)).word) bit)
               | inr (inr (inl sum)) ↦ ending_no_add v.kind.opcode ends sum
               | inr (inr (inr shift)) ↦ ending_no_shl v.kind.opcode ends shift
@@ -538,7 +526,7 @@ module _ (p : Procedure) (valid : IsValidProcedure p) (fit : AllFit p.blocks) wh
       let there : slice_get (entry_of (index_of p) (values_of p 0)).insts place ≡ Some i =
       subst (λ (b : AirBlock). slice_get b.insts place ≡ Some i) (sym of) at.inst_there in
       let value : i.value ≡ last_id (values_of p 0) =
-      All-slice (IsFor (last_id (values_of p 0))) (entry_of (index_of p) (values_of p 0)).insts place i (entry_for (index_of p) (values_of p 0)) there in
+      All-at (IsFor (last_id (values_of p 0))) (entry_of (index_of p) (values_of p 0)).insts place i (entry_for (index_of p) (values_of p 0)) there in
       let kept = is_kept p valid fit in
       let last = last_stands (values_of p 0) (kept.ends 0 kept.some) in
       ap (is_foldable p) (value ∙ sym last.3) ∙ ending_unfolded 0 last.0 last.1 last.2 last.4
@@ -552,7 +540,7 @@ module _ (p : Procedure) (valid : IsValidProcedure p) (fit : AllFit p.blocks) wh
       let v : Value = piece.part in
       let values : values_of p b ≡ of.values = ap (λ (x : Block). x.values) (get_or_from_slice_get p.blocks b of no_block block.1) in
       let stands_at : StandsAt p b piece.at v = subst (λ (vs : List Value). slice_get vs piece.at ≡ Some v) (sym values) piece.there in
-      let value : i.value ≡ v.id = All-slice (IsFor v.id) (value_code t v) piece.within i (made_for t v) piece.here in
+      let value : i.value ≡ v.id = All-at (IsFor v.id) (value_code t v) piece.within i (made_for t v) piece.here in
       ap (is_foldable p) value ∙ sym (folds_at b piece.at v stands_at) ∙ unfolded_by t v piece.within i piece.here
 
   -- an instruction of a value's code stands in the block
@@ -571,7 +559,7 @@ module _ (p : Procedure) (valid : IsValidProcedure p) (fit : AllFit p.blocks) wh
           block_there = slice_get-map (block_code t) p.blocks b ∙ ap (option_map (block_code t)) there;
           inst_there = flat_get (value_code t) (values_of p b) j v has.0 has.1 at here;
         },
-        All-slice (IsFor v.id) (value_code t v) has.0 has.1 (made_for t v) here,
+        All-at (IsFor v.id) (value_code t v) has.0 has.1 (made_for t v) here,
         has.3,
       )
 
@@ -592,12 +580,12 @@ module _ (p : Procedure) (valid : IsValidProcedure p) (fit : AllFit p.blocks) wh
       let t = tables p in
       let k_folds : folds t k.id ≡ true = folds_at c m k at_k ∙ folded in
       let is = known_is p valid c m k at_k in
-      let fit = (sound p valid).uses_fit b 1 k.id v (contains_at (values_of p b) j v at) child_at k_folds in
+      let fit = (sound p valid).uses_fit b 1 k.id v (Contains-at (values_of p b) j v at) child_at k_folds in
       let has : HasInst (code_of t v.kind.opcode v) (HasSecond (carried_word v.kind.opcode v.ty (known index k.id).word)) =
       elim (fit_cases t (pointers p) b v.kind.opcode 1 v.id k.id fit) [
         | inl h ↦ carries_second t v k.id k_folds v.kind.opcode (width_of (known index k.id).ty) (known index k.id).word h.fits child_at
         | inr (inl h) ↦
-            absurd (in_no_sum v.kind.opcode v.id (λ add. (sound p valid).pointer b v (contains_at (values_of p b) j v at) add ∙ folds_at b j v at
+            absurd (in_no_sum v.kind.opcode v.id (λ add. (sound p valid).pointer b v (Contains-at (values_of p b) j v at) add ∙ folds_at b j v at
             ∙ unfolded) h.fits)
         | inr (inr h) ↦ absurd (not_both (is_constant (known index k.id).opcode) (ap (λ (w : Known). is_constant w.opcode) is ∙ constant) h.constant)
       ] in
@@ -611,7 +599,7 @@ module _ (p : Procedure) (valid : IsValidProcedure p) (fit : AllFit p.blocks) wh
       by : (c : Bool) → folds (tables p) v.id ≡ c → folds (tables p) v.id ≡ false
       by false e = e
       by true e =
-          absurd (elim ((sound p valid).kinds b v (contains_at (values_of p b) j v at) e) [
+          absurd (elim ((sound p valid).kinds b v (Contains-at (values_of p b) j v at) e) [
             | inl constant ↦ not_both (is_constant v.kind.opcode) constant h.constant
             | inr other ↦ elim other [
               | inl comparison ↦ not_both (is_comparison v.kind.opcode) comparison h.comparison
@@ -619,7 +607,7 @@ module _ (p : Procedure) (valid : IsValidProcedure p) (fit : AllFit p.blocks) wh
               | inr (inr (inr shift)) ↦ not_both (is_shl v.kind.opcode) shift h.shift
               | inr (inl bit) ↦
                   not_both (is_and v.kind.opcode)
-                  (both_first (is_and v.kind.opcode)
+                  (and_first (is_and v.kind.opcode)
                   (is_constant (known (index_of p) (child v.children 1)).opcode && is_bit (known (index_of p) (child v.children 1)).word) bit) h.conjunction
             ]
           ])
@@ -629,7 +617,7 @@ module _ (p : Procedure) (valid : IsValidProcedure p) (fit : AllFit p.blocks) wh
       let t = tables p in
       let k_folds : folds t k.id ≡ true = folds_at c m k at_k ∙ folded in
       let is = known_is p valid c m k at_k in
-      let fit = (sound p valid).uses_fit b 0 k.id v (contains_at (values_of p b) j v at) child_at k_folds in
+      let fit = (sound p valid).uses_fit b 0 k.id v (Contains-at (values_of p b) j v at) child_at k_folds in
       let has : HasInst (code_of t v.kind.opcode v) (HasFirst 0) =
       elim (fit_cases t (pointers p) b v.kind.opcode 0 v.id k.id fit) [
         | inl h ↦
@@ -644,7 +632,7 @@ module _ (p : Procedure) (valid : IsValidProcedure p) (fit : AllFit p.blocks) wh
   as_value : (b j c m i : ℕ) (v k : Value) → StandsAt p b j v → StandsAt p c m k → (is_constant k.kind.opcode ≡ true → ⊥)
       → folds (tables p) k.id ≡ true → slice_get v.children i ≡ Some k.id → value_fits index (pointers p) v.kind.opcode i v.id (known index k.id) ≡ true
   as_value b j c m i v k at at_k other folded child_at =
-      let fit = (sound p valid).uses_fit b i k.id v (contains_at (values_of p b) j v at) child_at folded in
+      let fit = (sound p valid).uses_fit b i k.id v (Contains-at (values_of p b) j v at) child_at folded in
       let is = ap (λ (w : Known). is_constant w.opcode) (known_is p valid c m k at_k) in
       elim (fit_cases (tables p) (pointers p) b v.kind.opcode i v.id k.id fit) [
         | inl h ↦ absurd (other (sym is ∙ h.constant))

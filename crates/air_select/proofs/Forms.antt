@@ -169,10 +169,3 @@ module _ (p : Procedure) (kept : IsKept p) (t : Tables) (sound : IsSound p t) wh
                 (subst (λ (c : ℕ). Fits (Word (width_of a) NoImmediate) (use_of t c)) (sym second)
                 (subst (λ (m : Immediates). Fits (Word (width_of a) m) (use_of t cs.1)) never both.1));
           }
-
--- what a value's own temporaries hold fits
-pub home_fits : (width : Width) (n : ℕ) → Fits (Word width NoImmediate) (use_at width (At (Tmp n)))
-home_fits width n = (refl, refl, tt)
-
-pub result_fits : (width : Width) (n : ℕ) → Fits (Result width) (def_at width (Tmp n))
-result_fits width n = (refl, refl, tt)

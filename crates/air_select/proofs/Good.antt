@@ -4,15 +4,16 @@ use Rattle.std.specs.Prelude.{All, AllPairs, Contains, if◌then◌else◌, slic
 use Rattle.std.specs.Int.{cast_unsigned, w64}
 use Rattle.std.proofs.lemmas.Int.{ints}
 use Rattle.std.proofs.Math.ListN.{drop_of_length-le}
-use Rattle.std.proofs.lemmas.Bool.{lt-ltb}
+use Rattle.std.proofs.lemmas.Bool.{lt-ltb, or_cases}
 use Rattle.std.proofs.lemmas.List.{append-nil, append_assoc, length-map}
 use Rattle.std.proofs.lemmas.List.Elements.{All-append, All-nil}
+use Rattle.b3_base.proofs.Lists.{Contains-none, Contains-cases, Contains-at, All-one, All-two}
 use Rattle.b3_base.specs.Word.{bits}
 use Rattle.b3_base.specs.declared.word.Width.{Width}
 use Rattle.b3_base.specs.declared.word.Width.TheVariants.{W32, W64}
 use Rattle.b3_ir.specs.Fits.{IsConstantBelow, IsOffset, reported_count}
 use Rattle.b3_ir.specs.Naming.{all_values, type_of}
-use Rattle.b3_ir.specs.Procedure.{AllFit as ValuesFit, Procedure, StandsAt, values_of}
+use Rattle.b3_ir.specs.Procedure.{values_of, AllFit as ValuesFit, Procedure, StandsAt}
 use Rattle.b3_ir.specs.Types.{AllowsTypes, AreMore, AreTaken, IsTaken, width_of}
 use Rattle.b3_ir.specs.declared.opcode.Opcode.{Opcode}
 use Rattle.b3_ir.specs.declared.opcode.Opcode.TheVariants as opcode
@@ -27,13 +28,12 @@ use Rattle.b3_ir.specs.declared.value.Value.{Value}
 use Rattle.b3_ir.proofs.Typing.{allowed}
 use Rattle.b3_ir.specs.Table.{row_of}
 use Rattle.b3_rules.specs.Rules.{AreCasesOf, first_return, first_type, if_return, types_of}
-use Rattle.b3_sound.proofs.Lists.{contains_cases, contains_none}
 use Rattle.b3_meaning.specs.Roles.{role_of}
 use Rattle.b3_meaning.specs.declared.role.Extent.{Extent}
 use Rattle.b3_meaning.specs.declared.role.Extent.TheVariants.{Byte, Half, Whole}
 use Rattle.b3_meaning.specs.declared.role.Role.{Role}
 use Rattle.b3_meaning.specs.declared.role.Role.TheVariants as role
-use Rattle.b3_rules.specs.Valid.{IsValidProcedure, ValueAt}
+use Rattle.b3_rules.specs.Valid.{ValueAt, IsValidProcedure}
 use Rattle.b3_rules.specs.declared.rule.Rule.TheVariants as rule
 use Rattle.b3_sound.proofs.Distinct.{stands}
 use Rattle.b3_sound.proofs.FromValid.{is_kept}
@@ -59,14 +59,14 @@ use Rattle.air_fold.specs.declared.known.Known.{Known}
 use Rattle.air_select.proofs.CallCode.{behind_count, behind_first, call_all}
 use Rattle.air_select.proofs.Facts.{body_below}
 use Rattle.air_select.proofs.Forms as forms
-use Rattle.air_select.proofs.Forms.{any_fits, fit_four, fit_none, fit_one, fit_three, fit_two, home_fits, result_fits}
+use Rattle.air_select.proofs.Forms.{any_fits, fit_four, fit_none, fit_one, fit_three, fit_two}
 use Rattle.air_select.proofs.Operands.{one_of, three_of, two_of}
 use Rattle.air_select.proofs.Pointers.{PointerAt, load16s_at, load16z_at, load8s_at, load8z_at, load_at, store16_at, store8_at, store_at, sum_is_address}
-use Rattle.air_select.proofs.Returned.{contains_at, in_all}
-use Rattle.air_select.proofs.Setting.{IsSound}
+use Rattle.air_select.proofs.Returned.{in_all}
 use Rattle.air_select.proofs.SiteForms.{site_child}
-use Rattle.air_select.proofs.Sites.{all_one, all_three, all_two}
+use Rattle.air_select.proofs.Sites.{all_three}
 use Rattle.air_select.proofs.Tested.{IsTested, condition_tested}
+use Rattle.air_select.proofs.Setting.{IsSound}
 
 -- the operands of a call, as its form lists them
 joined : (a c s r : List Operand) → s ≡ [] → a ++ (c ++ r) ≡ a ++ c ++ s ++ r
@@ -119,17 +119,13 @@ returned_is x c ty some is same =
 
 -- a Return among some values is found
 first_there : (vs : List Value) (v : Value) → Contains vs v → v.kind.opcode ≡ opcode.Return → first_return vs ≡ None → ⊥
-first_there [] v has is e = contains_none v has
-first_there (w ∷ vs) v has is e = by w.kind.opcode refl e (contains_cases w vs v has) (λ more. first_there vs v more is)
+first_there [] v has is e = Contains-none v has
+first_there (w ∷ vs) v has is e = by w.kind.opcode refl e (Contains-cases w vs v has) (λ more. first_there vs v more is)
   where
     by : (o : Opcode) → w.kind.opcode ≡ o → if_return o w (first_return vs) ≡ None → (w ≡ v) ⊎ Contains vs v → (Contains vs v → first_return vs ≡ None → ⊥) → ⊥
     by opcode.Return is' e' cases rest = cc
     by _ is' e' (inr more) rest = rest more e'
     by _ is' e' (inl same) rest = let bad = sym is' ∙ ap (λ (x : Value). x.kind.opcode) same ∙ is in cc
-
-either : (a b : Bool) → (a || b) ≡ true → (a ≡ true) ⊎ (b ≡ true)
-either true b e = inl refl
-either false b e = inr e
 
 -- what is moved may be any word
 moved : (width : Width) (os : List Operand) (z : Operand) → AllFit (Word width NoImmediate ∷ Result width ∷ []) (os ++ z ∷ [])
@@ -178,7 +174,7 @@ module _ (p : Procedure) (valid : IsValidProcedure p) (fit : ValuesFit p.blocks)
 
   module _ (b j : ℕ) (v : Value) (at : StandsAt p b j v) where
     here : Contains (values_of p b) v
-    here = contains_at (values_of p b) j v at
+    here = Contains-at (values_of p b) j v at
 
     -- no value fits as child i, and no constant as a part of a sum
     abbrev NoneFits : Opcode → ℕ → Type 0
@@ -196,7 +192,7 @@ module _ (p : Procedure) (valid : IsValidProcedure p) (fit : ValuesFit p.blocks)
     )
 
     one_move : (width : Width) (from : Arg) (to : Home) → IsWord AnyWord width from → All Has (inst v op.Move (use_at width from ∷ def_at width to ∷ []) ∷ [])
-    one_move width from to is = all_one Has (inst v op.Move (use_at width from ∷ def_at width to ∷ [])) (move_has width from to is)
+    one_move width from to is = All-one Has (inst v op.Move (use_at width from ∷ def_at width to ∷ [])) (move_has width from to is)
 
     module _ (o : Opcode) (is : v.kind.opcode ≡ o) where
       row : AllowsTypes o v.ty (types_of p v)
@@ -259,7 +255,7 @@ module _ (p : Procedure) (valid : IsValidProcedure p) (fit : ValuesFit p.blocks)
         all_three Has (quotient_of t v op) (rest_into t v (second_extra t.index v.id)) (chosen_rest t v)
         (quotient_has op (width_of v.ty) (has (width_of v.ty)) refl x y) (rest_has (second_extra t.index v.id) x y) (chosen_has y)
     remainder_has op has x y false =
-        all_two Has (quotient_of t v op) (rest_into t v (home t.index v.id))
+        All-two Has (quotient_of t v op) (rest_into t v (home t.index v.id))
         (quotient_has op (width_of v.ty) (has (width_of v.ty)) refl x y) (rest_has (home t.index v.id) x y)
 
     -- ---- rotations
@@ -278,9 +274,9 @@ module _ (p : Procedure) (valid : IsValidProcedure p) (fit : ValuesFit p.blocks)
         else negative_amount t v ∷ rotate_by t v (At (first_extra t.index v.id)) ∷ [])
     rotate_left_has w e x amount true f =
         let turn : Arg = Imm (turned (width_of v.ty) (known t.index (child v.children 1)).word) in
-        all_one Has (rotate_by t v turn) (rotate_has w e turn (turned_small (width_of v.ty) (known t.index (child v.children 1)).word, tt) x)
+        All-one Has (rotate_by t v turn) (rotate_has w e turn (turned_small (width_of v.ty) (known t.index (child v.children 1)).word, tt) x)
     rotate_left_has w e x amount false f =
-        all_two Has (negative_amount t v) (rotate_by t v (At (first_extra t.index v.id))) (
+        All-two Has (negative_amount t v) (rotate_by t v (At (first_extra t.index v.id))) (
           W32,
           W32,
           fit_two (Word W32 NoImmediate) (Result W32) (use_of t (child v.children 1)) (def_at W32 (first_extra t.index v.id)) (amount f)
@@ -311,13 +307,13 @@ module _ (p : Procedure) (valid : IsValidProcedure p) (fit : ValuesFit p.blocks)
 
     return_has : v.kind.opcode ≡ opcode.Return → (cs : List ℕ) → v.children ≡ cs → All Has (return_of t v cs)
     return_has is [] e =
-        all_one Has (inst v op.Return []) (ap returned (same_returns is [] e))
+        All-one Has (inst v op.Return []) (ap returned (same_returns is [] e))
     return_has is (c ∷ cs) e =
         let w = width_at t.index c in
         let row' = subst (λ (l : List ℕ). AreMore (row_of opcode.Return).more (map (type_of p) l)) e (row opcode.Return is).children in
         let typed = more_typed (type_of p) c cs row' in
         let x = forms.child_as p kept t sound b v here opcode.Return is 0 c (type_of p c) (ap (λ (l : List ℕ). slice_get l 0) e) (λ k. refl) refl refl typed in
-        all_two Has (inst v op.Move (use_at w (arg_of t c) ∷ def_at w (register 0) ∷ [])) (inst v op.Return (use_at w (At (register 0)) ∷ []))
+        All-two Has (inst v op.Move (use_at w (arg_of t c) ∷ def_at w (register 0) ∷ [])) (inst v op.Return (use_at w (At (register 0)) ∷ []))
         (move_has w (arg_of t c) (register 0) (home_word (width_of (type_of p c)) c x AnyWord w))
         (returned_is t.index c (type_of p c) typed (sound.types c) (same_returns is (c ∷ cs) e))
 
@@ -325,7 +321,7 @@ module _ (p : Procedure) (valid : IsValidProcedure p) (fit : ValuesFit p.blocks)
     -- one op over the children
     one_has : (o : AirOp) → HasOperands r o (map (use_of t) v.children ++ result_of t v ∷ [])
         → All Has (inst v o (map (use_of t) v.children ++ result_of t v ∷ []) ∷ [])
-    one_has o has = all_one Has (inst v o (map (use_of t) v.children ++ result_of t v ∷ [])) has
+    one_has o has = All-one Has (inst v o (map (use_of t) v.children ++ result_of t v ∷ [])) has
 
     module _ (o : Opcode) (is : v.kind.opcode ≡ o) (none_first : first_immediates o ≡ NoImmediate)
         (none : NoneFits o 0)
@@ -378,7 +374,7 @@ module _ (p : Procedure) (valid : IsValidProcedure p) (fit : ValuesFit p.blocks)
 
     branch_allows : v.kind.opcode ≡ opcode.Branch → (k : Known) → value_fits t.index (pointers p) v.kind.opcode 0 v.id k ≡ true
         → (is_comparison k.opcode ≡ true) ⊎ (is_bit_test t.index k ≡ true)
-    branch_allows is k fits = either (is_comparison k.opcode) (is_bit_test t.index k) (sym (ap (λ q. value_fits t.index (pointers p) q 0 v.id k) is) ∙ fits)
+    branch_allows is k fits = or_cases (is_comparison k.opcode) (is_bit_test t.index k) (sym (ap (λ q. value_fits t.index (pointers p) q 0 v.id k) is) ∙ fits)
 
     select_allows : v.kind.opcode ≡ opcode.Select → (k : Known) → value_fits t.index (pointers p) v.kind.opcode 0 v.id k ≡ true
         → (is_comparison k.opcode ≡ true) ⊎ (is_bit_test t.index k ≡ true)
@@ -481,7 +477,7 @@ module _ (p : Procedure) (valid : IsValidProcedure p) (fit : ValuesFit p.blocks)
           let k : Arg = Imm (cast_unsigned w64 (offset_in v.body)) in
           let first = first_extra t.index v.id in
           let second = second_extra t.index v.id in
-          all_two Has (inst v op.Move (use_at W64 k ∷ def_at W64 first ∷ []))
+          All-two Has (inst v op.Move (use_at W64 k ∷ def_at W64 first ∷ []))
           (inst v op.Add (use_of t pointer ∷ use_at W64 (At first) ∷ def_at W64 second ∷ []))
           (move_has W64 k first (offset_small v.body in_range, tt)) (
             W64,
@@ -532,7 +528,7 @@ module _ (p : Procedure) (valid : IsValidProcedure p) (fit : ValuesFit p.blocks)
         let counted : here_bytes ≡ bytes = ap (extent_bytes extent) width ∙ count in
         All-append Has (before_access t v pointer here_bytes) (last ∷ [])
         (before_has o is 0 here_bytes pointed pointer there typed in_range)
-        (all_one Has last (has last.operands (fit_two (Address (width_of ty) bytes) (Result (width_of ty)) (use_at (width_of v.ty) at) (result_of t v)
+        (All-one Has last (has last.operands (fit_two (Address (width_of ty) bytes) (Result (width_of ty)) (use_at (width_of v.ty) at) (result_of t v)
         (refl, width, subst (λ n. IsAddress n at) counted (address_is o is 0 here_bytes pointed pointer there typed in_range)) (refl, width, tt))))
 
     -- a store of a word of a type
@@ -564,7 +560,7 @@ module _ (p : Procedure) (valid : IsValidProcedure p) (fit : ValuesFit p.blocks)
         let last : AirInst = access v air_op (use_of t from ∷ use_at (width_at t.index from) at ∷ []) in
         let counted : bytes ≡ extent_bytes extent (width_of ty) = ap (extent_bytes extent) width in
         All-append Has (before_access t v pointer bytes) (last ∷ []) (before_has o is 1 bytes pointed pointer there typed in_range)
-        (all_one Has last (has h.alike ty cs.3 last.operands
+        (All-one Has last (has h.alike ty cs.3 last.operands
         (fit_two (Word (width_of ty) OnlyZero) (Address (width_of ty) (extent_bytes extent (width_of ty))) (use_of t from) (use_at (width_at t.index from) at)
         stored (refl, width, subst (λ n. IsAddress n at) counted (address_is o is 1 bytes pointed pointer there typed in_range)))))
 
@@ -623,10 +619,10 @@ module _ (p : Procedure) (valid : IsValidProcedure p) (fit : ValuesFit p.blocks)
           (width_at t.index (child v.children 0)))
       code_has opcode.Phi is plain = one_move (width_of v.ty) (At (location t.index v.id)) (home t.index v.id) tt
       code_has opcode.FramePointer is plain =
-          all_one Has (frame_of t v)
+          All-one Has (frame_of t v)
           (W64, W64, fit_one (Result W64) (result_of t v) (refl, ap width_of (role_row opcode.FramePointer is), tt))
       code_has opcode.SlotBase is plain =
-          all_one Has (slot_of t v) (
+          All-one Has (slot_of t v) (
             W64,
             W64,
             fit_two Slot (Result W64) (use_at W64 (FrameSlot (slot_in v.body))) (result_of t v) (refl, refl, tt)
@@ -668,16 +664,16 @@ module _ (p : Procedure) (valid : IsValidProcedure p) (fit : ValuesFit p.blocks)
       code_has opcode.RotL is plain = rotated (row opcode.RotL is) is
       code_has opcode.Select is plain =
           let h = row opcode.Select is in
-          all_one Has (inst v (op.SelectIf (condition_of t (child v.children 0)).test)
+          All-one Has (inst v (op.SelectIf (condition_of t (child v.children 0)).test)
           ((condition_of t (child v.children 0)).over ++ use_of t (child v.children 1) ∷ use_of t (child v.children 2) ∷ result_of t v ∷ []))
           (select_has is h.alike h.typed h.gives h.children)
-      code_has opcode.Jump is plain = all_one Has (inst v op.Jump []) (W64, W64, fit_none)
-      code_has opcode.Oops is plain = all_one Has (inst v op.Oops []) (W64, W64, fit_none)
+      code_has opcode.Jump is plain = All-one Has (inst v op.Jump []) (W64, W64, fit_none)
+      code_has opcode.Oops is plain = All-one Has (inst v op.Oops []) (W64, W64, fit_none)
       code_has opcode.Branch is plain =
-          all_one Has (inst v (op.BranchIf (condition_of t (child v.children 0)).test) (condition_of t (child v.children 0)).over)
+          All-one Has (inst v (op.BranchIf (condition_of t (child v.children 0)).test) (condition_of t (child v.children 0)).over)
           (branch_has is (any_child (row opcode.Branch is).alike (row opcode.Branch is).children))
       code_has opcode.Switch is plain =
-          all_one Has (inst v (op.Switch (cases_in v.body)) (use_of t (child v.children 0) ∷ []))
+          All-one Has (inst v (op.Switch (cases_in v.body)) (use_of t (child v.children 0) ∷ []))
           (switch_has is (any_child (row opcode.Switch is).alike (row opcode.Switch is).children))
       code_has opcode.Return is plain = return_has is v.children refl
       code_has opcode.Add is plain =

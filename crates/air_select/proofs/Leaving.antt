@@ -1,8 +1,10 @@
 -- Select, and the values that end a block.
-use Rattle.std.proofs.Common.{◌≡◌, ℕ, zero, suc, ◌+◌, ◌^◌, ◌<◌, ◌⊎◌, inl, inr, Bool, true, false, ◌||◌, List, [], ◌∷◌, ◌++◌, map, length, Option, Some, None, nat_eq, refl, sym, ap, ◌∙◌, subst, arith, append-nil}
+use Rattle.std.proofs.Common.{◌≡◌, ℕ, zero, suc, ◌+◌, ◌^◌, ◌<◌, inl, inr, Bool, true, false, List, [], ◌∷◌, ◌++◌, map, length, Option, Some, None, nat_eq, refl, sym, ap, ◌∙◌, subst, arith, append-nil}
 use Rattle.std.specs.Prelude.{Contains, if◌then◌else◌, not, slice_get}
 use Rattle.std.specs.Option.{option_map}
 use Rattle.std.proofs.lemmas.Option.{slice_get-map}
+use Rattle.std.proofs.lemmas.Bool.{or_cases}
+use Rattle.b3_base.proofs.Lists.{Contains-first}
 use Rattle.b3_base.specs.Arithmetic.{low}
 use Rattle.b3_base.specs.Observed.{Event, Memory, Start}
 use Rattle.b3_base.specs.Word.{bits}
@@ -11,7 +13,6 @@ use Rattle.b3_base.specs.declared.observation.Status.TheVariants.{Returned}
 use Rattle.b3_base.specs.declared.word.Width.{Width}
 use Rattle.b3_ir.specs.Fits.{HasCases, HasTargets}
 use Rattle.b3_ir.specs.Naming.{type_of}
-use Rattle.b3_ir.specs.Procedure.{Procedure}
 use Rattle.b3_ir.specs.Types.{AllowsTypes, AreTaken, width_of}
 use Rattle.b3_ir.specs.declared.opcode.Opcode.{Opcode}
 use Rattle.b3_ir.specs.declared.opcode.Opcode.TheVariants as opcode
@@ -21,16 +22,14 @@ use Rattle.b3_ir.specs.declared.table.Takes.TheVariants.{Alike, Any}
 use Rattle.b3_ir.specs.declared.table.More.TheVariants.{One}
 use Rattle.b3_ir.specs.declared.value.Body.{Body}
 use Rattle.b3_ir.specs.declared.value.Body.TheVariants.{Cases, Targets}
-use Rattle.b3_ir.specs.declared.value.Value.{Value}
 use Rattle.b3_meaning.specs.Opcodes.{Gives, result}
 use Rattle.b3_meaning.specs.Roles.{role_of}
 use Rattle.b3_meaning.specs.Run as b3
 use Rattle.b3_rules.specs.Rules.{types_of}
 use Rattle.b3_rules.specs.Paths.{successors_in}
-use Rattle.b3_sound.proofs.Lists.{contains_head}
 use Rattle.air_ir.specs.Blocks.{seen_as}
 use Rattle.air_ir.specs.Meaning as air
-use Rattle.air_ir.specs.Meaning.{Over, To, World, case_number, leaves, meaning, operation}
+use Rattle.air_ir.specs.Meaning.{Over, To, World, case_number, leaves, meaning}
 use Rattle.air_ir.specs.Operands.{Holds, Read, read, targets, word_of, words}
 use Rattle.air_ir.specs.Steps.{Goes, Outcome as Ran, steps}
 use Rattle.air_ir.specs.Words.{Tested, select_if, test}
@@ -40,24 +39,22 @@ use Rattle.air_ir.specs.declared.operand.Arg.TheVariants.{At}
 use Rattle.air_ir.specs.declared.procedure.AirInst.{AirInst}
 use Rattle.air_ir.proofs.Stepping.{steps-one}
 use Rattle.air_fold.specs.Foldable.{constant_fits, is_bit_test, is_comparison, pointers, sum_fits, value_fits}
-use Rattle.air_select.specs.Selected.{Tables, arg_of, branch_on, cases_in, condition_of, inst, move, register, result_of, return_of, select_on, targets_of, use_at, use_of}
+use Rattle.air_select.specs.Selected.{arg_of, branch_on, cases_in, condition_of, inst, move, register, result_of, return_of, select_on, targets_of, use_at, use_of, Tables}
 use Rattle.air_select.specs.Temporaries.{home}
 use Rattle.air_fold.specs.Values.{Index, child, width_at}
 use Rattle.air_fold.specs.declared.known.Known.{Known}
 use Rattle.air_select.proofs.Children.{child_word, readable, width_is, word_small, words_cons, words_nil}
 use Rattle.air_select.proofs.Copied.{moved, row_of_role}
 use Rattle.air_select.proofs.Deciding.{Decides, decides}
-use Rattle.air_select.proofs.Does.{Does, Here, allows, are_words, at, gives_does, here, puts, result_small, words_here}
+use Rattle.air_select.proofs.Does.{Does, allows, are_words, at, gives_does, here, puts, result_small, words_here, Here}
 use Rattle.air_select.proofs.Facts.{child_ran}
 use Rattle.air_select.proofs.Instructions.{at_home, one_leave, one_word, reads_def, reads_none, reads_use, steps_first, steps_last, with_home, writes_def, writes_none, writes_use}
 use Rattle.air_select.proofs.Plain.{computing}
 use Rattle.air_select.proofs.Related.{holds_word, register_here}
 use Rattle.air_select.proofs.Remainders.{child_in}
 use Rattle.air_select.proofs.Shapes.{one_child, one_here, three_children, three_here}
-
-or_cases : (a b : Bool) → (a || b) ≡ true → (a ≡ true) ⊎ (b ≡ true)
-or_cases true b e = inl refl
-or_cases false b e = inr e
+use Rattle.b3_ir.specs.Procedure.{Procedure}
+use Rattle.b3_ir.specs.declared.value.Value.{Value}
 
 gives_is : (a b : ℕ) → Gives a ≡ Gives b → a ≡ b
 gives_is a b e = cc
@@ -321,7 +318,7 @@ module _ (p : Procedure) (t : Tables) (start : Start) (v : Value) (h : Here p t 
   returned (c ∷ []) ws taken e reads =
       let one = words_cons (type_of p) h.st.words c [] ws e in
       returns_one c one.0 ws (one.2 ∙ ap (λ (l : List ℕ). one.0 ∷ l) (words_nil (type_of p) h.st.words one.1 one.4))
-      (reads c one.0 refl (contains_head c []) one.3)
+      (reads c one.0 refl (Contains-first c []) one.3)
       (word_small p h.valid t h.sound start h.passed h.block h.before (v ∷ h.rest) h.stands h.st h.reached h.s h.related c one.0 one.3)
 
   pub return_does : v.kind.opcode ≡ opcode.Return

@@ -34,7 +34,6 @@ pub mod Rests
 pub mod Returned
 pub mod Rotations
 pub mod SameBlocks
-pub mod Sample
 pub mod Selecting
 pub mod Setting
 pub mod Shapes

@@ -5,13 +5,14 @@ use Rattle.std.proofs.lemmas.List.{length-map}
 use Rattle.std.proofs.lemmas.List.Elements.{All-append, All-map, All-nil, All-weaker}
 use Rattle.std.proofs.lemmas.List.Sums.{sum_by-append}
 use Rattle.std.proofs.lemmas.Option.{get_or_from_slice_get}
-use Rattle.b3_ir.specs.Procedure.{AllFit as ValuesFit, Block, Procedure, StandsAt, no_block, values_of}
+use Rattle.b3_base.proofs.Lists.{Contains-at, All-from_places, All-one, All-two}
+use Rattle.b3_ir.specs.Procedure.{Block, Procedure, StandsAt, no_block, values_of, AllFit as ValuesFit}
 use Rattle.b3_ir.specs.Types.{width_of}
 use Rattle.b3_ir.specs.declared.opcode.Opcode.{Opcode}
 use Rattle.b3_ir.specs.declared.opcode.Opcode.TheVariants as opcode
 use Rattle.b3_ir.specs.declared.value.Reg.{Reg as Register}
 use Rattle.b3_ir.specs.declared.value.Value.{Value}
-use Rattle.b3_rules.specs.Valid.{IsValidProcedure, ValueAt}
+use Rattle.b3_rules.specs.Valid.{ValueAt, IsValidProcedure}
 use Rattle.b3_rules.specs.declared.rule.Rule.TheVariants as rule
 use Rattle.b3_sound.proofs.FromValid.{is_kept}
 use Rattle.b3_sound.proofs.Kept.{IsKept}
@@ -30,7 +31,6 @@ use Rattle.air_ir.specs.declared.operand.Arg.TheVariants.{At}
 use Rattle.air_ir.specs.declared.operand.Home.TheVariants.{Reg}
 use Rattle.air_ir.specs.declared.operand.Operand.{Operand}
 use Rattle.air_ir.specs.declared.procedure.AirInst.{AirInst}
-use Rattle.air_ir.specs.declared.procedure.AirProc.{AirProc}
 use Rattle.air_stackmap.specs.Described.{AreReported, ComputesWith, HasWords, IsSmall, NamesTemporary, Sums}
 use Rattle.air_stackmap.specs.SiteCode.{child_moves, patch_by, patch_op, patch_results, site_code, site_inst}
 use Rattle.air_stackmap.specs.declared.child.Child.{Child}
@@ -40,7 +40,7 @@ use Rattle.air_stackmap.proofs.Kept as sites_kept
 use Rattle.air_stackmap.proofs.Weights.{code_light}
 use Rattle.air_fold.specs.Values.{child, place}
 use Rattle.air_select.specs.Contract.{has_stackmap}
-use Rattle.air_select.specs.Selected.{Tables, checked_of, child_of, code_of, condition_of, def_at, move, patched_from, reported_behind, result_of, use_at, use_of}
+use Rattle.air_select.specs.Selected.{checked_of, child_of, code_of, condition_of, def_at, move, patched_from, reported_behind, result_of, use_at, use_of, Tables}
 use Rattle.air_stackmap.specs.Laws.{has_stackmap as has_map}
 use Rattle.air_select.specs.Sited.{SuitsSite, computed_count}
 use Rattle.air_select.specs.Temporaries.{home, tmp_count}
@@ -48,11 +48,11 @@ use Rattle.air_select.proofs.CallCode.{fewer_behind}
 use Rattle.air_select.proofs.Forms.{fit_two}
 use Rattle.air_select.proofs.MapCode.{IsUse, child_moves_all, condition_uses, two_uses}
 use Rattle.air_select.proofs.Named.{home_below, use_own}
-use Rattle.air_select.proofs.Returned.{contains_at}
-use Rattle.air_select.proofs.Setting.{IsSound}
-use Rattle.air_select.proofs.SiteForms.{all_at, all_small, constraints_counted, reported_here, sums_of, tests_here, value_fits_here}
-use Rattle.air_select.proofs.Sites.{all_of, all_one, all_two}
+use Rattle.air_select.proofs.SiteForms.{all_small, constraints_counted, reported_here, sums_of, tests_here, value_fits_here}
+use Rattle.air_select.proofs.Sites.{all_of}
 use Rattle.air_select.proofs.Weights.{allowance}
+use Rattle.air_ir.specs.declared.procedure.AirProc.{AirProc}
+use Rattle.air_select.proofs.Setting.{IsSound}
 
 -- ---- what is asked of a value
 
@@ -61,7 +61,7 @@ module _ (p : Procedure) (valid : IsValidProcedure p) (fit : ValuesFit p.blocks)
   kept = is_kept p valid fit
 
   here : Contains (values_of p b) v
-  here = contains_at (values_of p b) j v at
+  here = Contains-at (values_of p b) j v at
 
   pub placeable_of : has_map v.kind.opcode ≡ true → IsPlaceable v
   placeable_of has = (sites_kept.kept p b j v valid at (value_fits_here p kept b v here) has).0
@@ -170,7 +170,7 @@ module _ (p : Procedure) (valid : IsValidProcedure p) (fit : ValuesFit p.blocks)
     more_plain more (inr moved) = subst (All Expresses) (sym moved) (by (result_register v))
       where
         by : (r : Option Register) → All Expresses (patched_from t v r)
-        by (Some reg) = all_one Expresses _ (λ e. absurd cc)
+        by (Some reg) = All-one Expresses _ (λ e. absurd cc)
         by None = All-nil Expresses
 
     pub site_expressed : All Expresses (code_of t v.kind.opcode v)
@@ -182,7 +182,7 @@ module _ (p : Procedure) (valid : IsValidProcedure p) (fit : ValuesFit p.blocks)
         All-append Expresses (site_code v o inputs (cs n) results) more
         (All-append Expresses (child_moves v (cs n)) (i ∷ [])
         (child_moves_all v (λ c. Unit {0}) Expresses (λ c reg q e. absurd cc) (cs n) (all_of (λ (c : Child). Unit {0}) (λ c. tt) (cs n)))
-        (all_one Expresses i (λ e. expressed v placeable.stackmap placeable.carries placeable p o inputs (cs n) results fits site.is site.computes are)))
+        (All-one Expresses i (λ e. expressed v placeable.stackmap placeable.carries placeable p o inputs (cs n) results fits site.is site.computes are)))
         (more_plain more follows))
 
     -- ---- it is light
@@ -217,7 +217,7 @@ module _ (p : Procedure) (valid : IsValidProcedure p) (fit : ValuesFit p.blocks)
       named_use o is = subst (Named q) (sym is.1) (use_own q t tmps is.0)
 
       named_results : (results : List Operand) → (results ≡ result_of t v ∷ []) ⊎ ((results ≡ []) ⊎ (results ≡ patch_results v)) → All (Named q) results
-      named_results results (inl own) = subst (All (Named q)) (sym own) (all_one (Named q) (result_of t v) (home_below q t tmps v.id))
+      named_results results (inl own) = subst (All (Named q)) (sym own) (All-one (Named q) (result_of t v) (home_below q t tmps v.id))
       named_results results (inr (inl none)) = subst (All (Named q)) (sym none) (All-nil (Named q))
       named_results results (inr (inr patch)) =
           subst (All (Named q)) (sym patch) (patch_results_named q v placeable.stackmap placeable.carries placeable)
@@ -231,9 +231,9 @@ module _ (p : Procedure) (valid : IsValidProcedure p) (fit : ValuesFit p.blocks)
               let w = width_of v.ty in
               let from = use_at w (At (Reg reg)) in
               let to = def_at w (home t.index v.id) in
-              all_one (IsGoodInst q) (move v w (At (Reg reg)) (home t.index v.id)) (record {
+              All-one (IsGoodInst q) (move v w (At (Reg reg)) (home t.index v.id)) (record {
                 operands = (w, w, fit_two (Word w AnyWord) (Result w) from to (refl, refl, tt) (refl, refl, tt));
-                names = all_two (Named q) from to ((places_obey v placeable.stackmap placeable.carries placeable).result reg e).0 (home_below q t tmps v.id);
+                names = All-two (Named q) from to ((places_obey v placeable.stackmap placeable.carries placeable).result reg e).0 (home_below q t tmps v.id);
               })
           by None e = All-nil (IsGoodInst q)
 
@@ -245,7 +245,7 @@ module _ (p : Procedure) (valid : IsValidProcedure p) (fit : ValuesFit p.blocks)
           All-append (IsGoodInst q) (site_code v o inputs (cs n) results) more
           (All-append (IsGoodInst q) (child_moves v (cs n)) (i ∷ [])
           (good_moves q v map placeable.carries placeable (cs n) (small n site.count) (names n))
-          (all_one (IsGoodInst q) i (good_site q v map placeable.carries placeable o inputs (cs n) results site.is site.computes (small n site.count) (names n)
+          (All-one (IsGoodInst q) i (good_site q v map placeable.carries placeable o inputs (cs n) results site.is site.computes (small n site.count) (names n)
           (All-weaker (IsUse t) (Named q) named_use inputs site.inputs_used) (named_results results site.results_are))))
           (more_good more follows))
 
@@ -253,6 +253,6 @@ module _ (p : Procedure) (valid : IsValidProcedure p) (fit : ValuesFit p.blocks)
 
 pub each_standing : (p : Procedure) (P : Value → Type 0) → ((b j : ℕ) (v : Value) → StandsAt p b j v → P v) → All (λ (b : Block). All P b.values) p.blocks
 each_standing p P each =
-    all_at (λ (b : Block). All P b.values) p.blocks (λ k block there.
+    All-from_places (λ (b : Block). All P b.values) p.blocks (λ k block there.
     let same : values_of p k ≡ block.values = ap (λ (x : Block). x.values) (get_or_from_slice_get p.blocks k block no_block there) in
-    all_at P block.values (λ j v at. each k j v (ap (λ (l : List Value). slice_get l j) same ∙ at)))
+    All-from_places P block.values (λ j v at. each k j v (ap (λ (l : List Value). slice_get l j) same ∙ at)))

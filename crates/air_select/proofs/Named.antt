@@ -6,6 +6,7 @@ use Rattle.std.specs.List.{list_all}
 use Rattle.std.proofs.lemmas.Bool.{and_parts, leb-true}
 use Rattle.std.proofs.lemmas.List.Elements.{All-append, All-cons, All-map, All-nil}
 use Rattle.std.proofs.lemmas.Option.{slice_get_within}
+use Rattle.b3_base.proofs.Lists.{All-one, All-two}
 use Rattle.b3_base.specs.declared.word.Width.{Width}
 use Rattle.b3_base.specs.declared.word.Width.TheVariants.{W32, W64}
 use Rattle.b3_ir.specs.Procedure.{place_among}
@@ -26,17 +27,17 @@ use Rattle.air_ir.specs.declared.operand.Arg.TheVariants.{Addr, At, FrameSlot, I
 use Rattle.air_ir.specs.declared.operand.Home.TheVariants.{Tmp}
 use Rattle.air_ir.specs.declared.operand.Operand.{Operand}
 use Rattle.air_ir.specs.declared.procedure.AirInst.{AirInst}
-use Rattle.air_ir.specs.declared.procedure.AirProc.{AirProc}
 use Rattle.air_ir.specs.WellFormed.{NamesOwn}
 use Rattle.air_fold.specs.Foldable.{bit_of, is_comparison, is_constant, whole}
 use Rattle.air_fold.specs.declared.known.Known.{Known}
-use Rattle.air_select.specs.Selected.{Condition, Tables, access, address_of, arg_of, argument_move, argument_moves, before_access, call_of, cases_in, chosen_rest, code_of, computes, condition, condition_of, def_at, entry_of, far_sum, folded_condition, folds, frame_of, home_address, indexed_by, inst, last_id, load_of, names_argument, negative_amount, op_of, phi_in, quotient_of, register, register_in, rest_into, result_of, return_of, rotate_by, select_on, slot_in, slot_of, store_of, sum_address, turned, use_at, use_of, value_code}
+use Rattle.air_select.specs.Selected.{Condition, access, address_of, arg_of, argument_move, argument_moves, before_access, call_of, cases_in, chosen_rest, code_of, computes, condition, condition_of, def_at, entry_of, far_sum, folded_condition, folds, frame_of, home_address, indexed_by, inst, last_id, load_of, names_argument, negative_amount, op_of, phi_in, quotient_of, register, register_in, rest_into, result_of, return_of, rotate_by, select_on, slot_in, slot_of, store_of, sum_address, turned, use_at, use_of, value_code, Tables}
 use Rattle.air_select.specs.Temporaries.{argument, first_extra, home, second_extra, tmp_count}
 use Rattle.air_fold.specs.Values.{child, known, offset_in, place, width_at}
 use Rattle.air_stackmap.specs.Laws.{has_stackmap as has_map}
 use Rattle.air_select.proofs.CallCode.{behind_count, call_all, operands_all}
 use Rattle.air_select.proofs.MapCode.{pick}
-use Rattle.air_select.proofs.Sites.{all_of, all_one, all_three, all_two}
+use Rattle.air_select.proofs.Sites.{all_of, all_three}
+use Rattle.air_ir.specs.declared.procedure.AirProc.{AirProc}
 
 place_most : (ids : List ℕ) (id : ℕ) → place_among ids id ≤ length ids
 place_most [] id = omega arith
@@ -85,7 +86,7 @@ module _ (q : AirProc) (t : Tables) (tmps : q.tmps ≡ tmp_count t.index) where
   use_own id = arg_own (width_at t.index id) id
 
   one_own : (id : ℕ) → All IsOwn (use_of t id ∷ [])
-  one_own id = all_one IsOwn (use_of t id) (use_own id)
+  one_own id = All-one IsOwn (use_of t id) (use_own id)
 
   abbrev IsOwnCondition : Condition → Type 0
   IsOwnCondition c = All IsOwn c.over
@@ -96,7 +97,7 @@ module _ (q : AirProc) (t : Tables) (tmps : q.tmps ≡ tmp_count t.index) where
       pick IsOwnCondition (is_comparison k.opcode)
       (record { test = Compare (condition k.opcode); over = use_of t k.first ∷ use_of t k.second ∷ [] })
       (record { test = Bit (bit_of (known t.index k.second).word); over = use_of t k.first ∷ [] })
-      (all_two IsOwn (use_of t k.first) (use_of t k.second) (use_own k.first) (use_own k.second))
+      (All-two IsOwn (use_of t k.first) (use_of t k.second) (use_own k.first) (use_own k.second))
       (one_own k.first)
 
   condition_own : (id : ℕ) → IsOwnCondition (condition_of t id)
@@ -120,10 +121,10 @@ module _ (q : AirProc) (t : Tables) (tmps : q.tmps ≡ tmp_count t.index) where
 
     computes_own : (op : AirOp) → All IsOwnInst (computes t v op)
     computes_own op =
-        all_one IsOwnInst (inst v op (map (use_of t) v.children ++ result_of t v ∷ []))
+        All-one IsOwnInst (inst v op (map (use_of t) v.children ++ result_of t v ∷ []))
         (All-append IsOwn (map (use_of t) v.children) (result_of t v ∷ [])
         (All-map IsOwn (use_of t) v.children (all_of (λ id. IsOwn (use_of t id)) use_own v.children))
-        (all_one IsOwn (result_of t v) (home_below v.id)))
+        (All-one IsOwn (result_of t v) (home_below v.id)))
 
     quotient_own : (op : AirOp) → IsOwnInst (quotient_of t v op)
     quotient_own op =
@@ -153,7 +154,7 @@ module _ (q : AirProc) (t : Tables) (tmps : q.tmps ≡ tmp_count t.index) where
         all_three IsOwnInst (quotient_of t v op) (rest_into t v (second_extra t.index v.id)) (chosen_rest t v)
         (quotient_own op) (rest_own (3 * place t.index v.id + 2) (below v.id 2 (omega arith))) chosen_own
     remainder_own op false =
-        all_two IsOwnInst (quotient_of t v op) (rest_into t v (home t.index v.id)) (quotient_own op)
+        All-two IsOwnInst (quotient_of t v op) (rest_into t v (home t.index v.id)) (quotient_own op)
         (rest_own (3 * place t.index v.id) (home_below v.id))
 
     rotate_own : (amount : Arg) → IsOwn (use_at W32 amount) → IsOwnInst (rotate_by t v amount)
@@ -165,16 +166,16 @@ module _ (q : AirProc) (t : Tables) (tmps : q.tmps ≡ tmp_count t.index) where
         else negative_amount t v ∷ rotate_by t v (At (first_extra t.index v.id)) ∷ [])
     rotate_left_own true =
         let amount : Arg = Imm (turned (width_of v.ty) (known t.index (child v.children 1)).word) in
-        all_one IsOwnInst (rotate_by t v amount) (rotate_own amount tt)
+        All-one IsOwnInst (rotate_by t v amount) (rotate_own amount tt)
     rotate_left_own false =
-        all_two IsOwnInst (negative_amount t v) (rotate_by t v (At (first_extra t.index v.id)))
-        (all_two IsOwn (use_of t (child v.children 1)) (def_at W32 (first_extra t.index v.id)) (use_own (child v.children 1)) (below v.id 1 (omega arith)))
+        All-two IsOwnInst (negative_amount t v) (rotate_by t v (At (first_extra t.index v.id)))
+        (All-two IsOwn (use_of t (child v.children 1)) (def_at W32 (first_extra t.index v.id)) (use_own (child v.children 1)) (below v.id 1 (omega arith)))
         (rotate_own (At (first_extra t.index v.id)) (below v.id 1 (omega arith)))
 
     select_own : (c : Condition) → IsOwnCondition c → All IsOwnInst (select_on t v c)
     select_own c own =
         let rest : List Operand = use_of t (child v.children 1) ∷ use_of t (child v.children 2) ∷ result_of t v ∷ [] in
-        all_one IsOwnInst (inst v (op.SelectIf c.test) (c.over ++ rest))
+        All-one IsOwnInst (inst v (op.SelectIf c.test) (c.over ++ rest))
         (All-append IsOwn c.over rest own
         (all_three IsOwn (use_of t (child v.children 1)) (use_of t (child v.children 2)) (result_of t v)
         (use_own (child v.children 1)) (use_own (child v.children 2)) (home_below v.id)))
@@ -182,15 +183,15 @@ module _ (q : AirProc) (t : Tables) (tmps : q.tmps ≡ tmp_count t.index) where
     move_own : (width : Width) (from : Arg) (to : ℕ) → IsOwn (use_at width from) → to < q.tmps
         → All IsOwnInst (inst v op.Move (use_at width from ∷ def_at width (Tmp to) ∷ []) ∷ [])
     move_own width from to a b =
-        all_one IsOwnInst (inst v op.Move (use_at width from ∷ def_at width (Tmp to) ∷ [])) (all_two IsOwn (use_at width from) (def_at width (Tmp to)) a b)
+        All-one IsOwnInst (inst v op.Move (use_at width from ∷ def_at width (Tmp to) ∷ [])) (All-two IsOwn (use_at width from) (def_at width (Tmp to)) a b)
 
     return_own : (cs : List ℕ) → All IsOwnInst (return_of t v cs)
-    return_own [] = all_one IsOwnInst (inst v op.Return []) (All-nil IsOwn)
+    return_own [] = All-one IsOwnInst (inst v op.Return []) (All-nil IsOwn)
     return_own (c ∷ cs) =
         let width = width_at t.index c in
-        all_two IsOwnInst (inst v op.Move (use_at width (arg_of t c) ∷ def_at width (register 0) ∷ [])) (inst v op.Return (use_at width (At (register 0)) ∷ []))
-        (all_two IsOwn (use_at width (arg_of t c)) (def_at width (register 0)) (arg_own width c) (inl (omega arith)))
-        (all_one IsOwn (use_at width (At (register 0))) (inl (omega arith)))
+        All-two IsOwnInst (inst v op.Move (use_at width (arg_of t c) ∷ def_at width (register 0) ∷ [])) (inst v op.Return (use_at width (At (register 0)) ∷ []))
+        (All-two IsOwn (use_at width (arg_of t c)) (def_at width (register 0)) (arg_own width c) (inl (omega arith)))
+        (All-one IsOwn (use_at width (At (register 0))) (inl (omega arith)))
 
     argument_below : register_in v.body < 8 → 3 * length t.index.ids + register_in v.body < q.tmps
     argument_below lt = omega (arith, tmps, lt)
@@ -205,8 +206,8 @@ module _ (q : AirProc) (t : Tables) (tmps : q.tmps ≡ tmp_count t.index) where
         let put : AirInst = inst v op.Move (use_at W64 k ∷ def_at W64 first ∷ []) in
         let add : AirInst = inst v op.Add (use_of t pointer ∷ use_at W64 (At first) ∷ def_at W64 second ∷ []) in
         pick (All IsOwnInst) (folds t pointer || is_offset bytes (offset_in v.body)) [] (far_sum t v pointer) (All-nil IsOwnInst)
-        (all_two IsOwnInst put add
-        (all_two IsOwn (use_at W64 k) (def_at W64 first) tt (below v.id 1 (omega arith)))
+        (All-two IsOwnInst put add
+        (All-two IsOwn (use_at W64 k) (def_at W64 first) tt (below v.id 1 (omega arith)))
         (all_three IsOwn (use_of t pointer) (use_at W64 (At first)) (def_at W64 second) (use_own pointer) (below v.id 1 (omega arith))
         (below v.id 2 (omega arith))))
 
@@ -232,7 +233,7 @@ module _ (q : AirProc) (t : Tables) (tmps : q.tmps ≡ tmp_count t.index) where
         let at = use_at width (address_of t v pointer bytes) in
         let last : AirInst = access v air_op (at ∷ result_of t v ∷ []) in
         All-append IsOwnInst (before_access t v pointer bytes) (last ∷ []) (before_own pointer bytes)
-        (all_one IsOwnInst last (all_two IsOwn at (result_of t v) (address_own width pointer bytes) (home_below v.id)))
+        (All-one IsOwnInst last (All-two IsOwn at (result_of t v) (address_own width pointer bytes) (home_below v.id)))
 
     store_own : (air_op : AirOp) (extent : Extent) → All IsOwnInst (store_of t v air_op extent)
     store_own air_op extent =
@@ -243,7 +244,7 @@ module _ (q : AirProc) (t : Tables) (tmps : q.tmps ≡ tmp_count t.index) where
         let at = use_at width (address_of t v pointer bytes) in
         let last : AirInst = access v air_op (use_of t from ∷ at ∷ []) in
         All-append IsOwnInst (before_access t v pointer bytes) (last ∷ []) (before_own pointer bytes)
-        (all_one IsOwnInst last (all_two IsOwn (use_of t from) at (use_own from) (address_own width pointer bytes)))
+        (All-one IsOwnInst last (All-two IsOwn (use_of t from) at (use_own from) (address_own width pointer bytes)))
 
     -- ---- calls
 
@@ -253,11 +254,11 @@ module _ (q : AirProc) (t : Tables) (tmps : q.tmps ≡ tmp_count t.index) where
         let few = behind_count v.children 8 le in
         call_all t v IsOwnInst
         (λ k c at. let lt = slice_get_within cs k c at in
-        all_two IsOwn (use_at (width_at t.index c) (arg_of t c)) (def_at (width_at t.index c) (register (0 + k)))
+        All-two IsOwn (use_at (width_at t.index c) (arg_of t c)) (def_at (width_at t.index c) (register (0 + k)))
         (arg_own (width_at t.index c) c) (inl (omega (arith, lt, few))))
         (operands_all t v IsOwn (child v.children 0) cs (use_own (child v.children 0))
         (λ k c at. let lt = slice_get_within cs k c at in inl (omega (arith, lt, few))) clobbers_own (inl (omega arith)))
-        (all_two IsOwn (use_at (width_of v.ty) (At (register 0))) (def_at (width_of v.ty) (home t.index v.id)) (inl (omega arith)) (home_below v.id))
+        (All-two IsOwn (use_at (width_of v.ty) (At (register 0))) (def_at (width_of v.ty) (home t.index v.id)) (inl (omega arith)) (home_below v.id))
 
     has_none : (o : Opcode) → v.kind.opcode ≡ o → has_map o ≡ true → ⊥
     has_none o is has = let bad : false ≡ true = sym plain ∙ ap has_map is ∙ has in cc
@@ -274,9 +275,9 @@ module _ (q : AirProc) (t : Tables) (tmps : q.tmps ≡ tmp_count t.index) where
         (arg_own (width_at t.index (child v.children 0)) (child v.children 0)) (below (phi_in v.body) 1 (omega arith))
     code_own opcode.Phi is =
         move_own (width_of v.ty) (At (first_extra t.index v.id)) (3 * place t.index v.id) (below v.id 1 (omega arith)) (home_below v.id)
-    code_own opcode.FramePointer is = all_one IsOwnInst (frame_of t v) (all_one IsOwn (result_of t v) (home_below v.id))
+    code_own opcode.FramePointer is = All-one IsOwnInst (frame_of t v) (All-one IsOwn (result_of t v) (home_below v.id))
     code_own opcode.SlotBase is =
-        all_one IsOwnInst (slot_of t v) (all_two IsOwn (use_at W64 (FrameSlot (slot_in v.body))) (result_of t v) (slotted is) (home_below v.id))
+        All-one IsOwnInst (slot_of t v) (All-two IsOwn (use_at W64 (FrameSlot (slot_in v.body))) (result_of t v) (slotted is) (home_below v.id))
     code_own opcode.Load8Z is = load_own op.Load8Z Byte
     code_own opcode.Load8S is = load_own op.Load8S Byte
     code_own opcode.Load16Z is = load_own op.Load16Z Half
@@ -295,12 +296,12 @@ module _ (q : AirProc) (t : Tables) (tmps : q.tmps ≡ tmp_count t.index) where
     code_own opcode.UMod is = remainder_own op.UDiv v.kind.chill
     code_own opcode.RotL is = rotate_left_own (folds t (child v.children 1))
     code_own opcode.Select is = select_own (condition_of t (child v.children 0)) (condition_own (child v.children 0))
-    code_own opcode.Jump is = all_one IsOwnInst (inst v op.Jump []) (All-nil IsOwn)
-    code_own opcode.Oops is = all_one IsOwnInst (inst v op.Oops []) (All-nil IsOwn)
+    code_own opcode.Jump is = All-one IsOwnInst (inst v op.Jump []) (All-nil IsOwn)
+    code_own opcode.Oops is = All-one IsOwnInst (inst v op.Oops []) (All-nil IsOwn)
     code_own opcode.Branch is =
         let c = condition_of t (child v.children 0) in
-        all_one IsOwnInst (inst v (op.BranchIf c.test) c.over) (condition_own (child v.children 0))
-    code_own opcode.Switch is = all_one IsOwnInst (inst v (op.Switch (cases_in v.body)) (use_of t (child v.children 0) ∷ [])) (one_own (child v.children 0))
+        All-one IsOwnInst (inst v (op.BranchIf c.test) c.over) (condition_own (child v.children 0))
+    code_own opcode.Switch is = All-one IsOwnInst (inst v (op.Switch (cases_in v.body)) (use_of t (child v.children 0) ∷ [])) (one_own (child v.children 0))
     code_own opcode.Return is = return_own v.children
     code_own o is = computes_own (op_of o)
 
@@ -314,8 +315,8 @@ module _ (q : AirProc) (t : Tables) (tmps : q.tmps ≡ tmp_count t.index) where
       All-append IsOwnInst (argument_moves t.index vs value r) (if names_argument vs r then argument_move t.index value r ∷ [] else [])
       (moves_own vs value r (omega (arith, le)))
       (pick (All IsOwnInst) (names_argument vs r) (argument_move t.index value r ∷ []) []
-      (all_one IsOwnInst (argument_move t.index value r)
-      (all_two IsOwn (use_at W64 (At (register r))) (def_at W64 (argument t.index r)) (inl (omega (arith, le))) (omega (arith, tmps, le))))
+      (All-one IsOwnInst (argument_move t.index value r)
+      (All-two IsOwn (use_at W64 (At (register r))) (def_at W64 (argument t.index r)) (inl (omega (arith, le))) (omega (arith, tmps, le))))
       (All-nil IsOwnInst))
 
   pub entry_own : (vs : List Value) → All IsOwnInst (entry_of t.index vs).insts
@@ -323,4 +324,4 @@ module _ (q : AirProc) (t : Tables) (tmps : q.tmps ≡ tmp_count t.index) where
   entry_own vs =
       let jump : AirInst = record { op = op.Jump; operands = []; value = last_id vs; traps = false } in
       All-append IsOwnInst (argument_moves t.index vs (last_id vs) 8) (jump ∷ []) (moves_own vs (last_id vs) 8 (omega arith))
-      (all_one IsOwnInst jump (All-nil IsOwn))
+      (All-one IsOwnInst jump (All-nil IsOwn))

@@ -1,9 +1,9 @@
 -- The opcodes that are one op over their children: the op computes the word that the opcode gives.
-use Rattle.std.proofs.Common.{◌≡◌, ℕ, ◌-◌, ◌/◌, ◌^◌, ◌<◌, Bool, true, false, List, [], ◌∷◌, ◌&&◌, Some, refl, sym, ap, ◌∙◌, subst, nat_eq}
+use Rattle.std.proofs.Common.{◌≡◌, ℕ, ◌-◌, ◌/◌, ◌^◌, ◌<◌, Bool, true, false, List, [], ◌∷◌, Some, refl, sym, ap, ◌∙◌, subst, nat_eq}
 use Rattle.std.specs.Prelude.{if◌then◌else◌, nat_lt, not}
 use Rattle.std.specs.Int.RustNames.{int_div}
 use Rattle.std.specs.Int.Bits.{bit_and, bit_or, bit_xor}
-use Rattle.std.proofs.lemmas.Bool.{eqb-true}
+use Rattle.std.proofs.lemmas.Bool.{eqb-true, and_parts}
 use Rattle.b3_base.specs.Arithmetic.{leading_zeros, low, rotate_right, sign_extended}
 use Rattle.b3_base.specs.Signed.{shifted_right_signed, signed, unsigned}
 use Rattle.b3_base.specs.Word.{bits}
@@ -55,16 +55,6 @@ by_two P alike a b [] ws taken words h = absurd taken
 by_two P alike a b (t ∷ types) [] taken words h = absurd words
 by_two P alike a b (t ∷ types) (x ∷ ws) taken words h =
     by_one (λ ts xs. P (t ∷ ts) (x ∷ xs)) alike b types ws taken.1 words.1 (λ u y is lt. h t u x y taken.0 is words.0 lt)
-
-pub by_three : (P : List Ty → List ℕ → Type 0) (alike : Ty) (a b c : Takes) (types : List Ty) (ws : List ℕ) → AreTaken alike (a ∷ b ∷ c ∷ []) NoMore types
-    → AreWordsOf types ws
-    → ((t u v : Ty) (x y z : ℕ) → IsTaken alike a t → IsTaken alike b u → IsTaken alike c v → x < 2 ^ bits (width_of t) → y < 2 ^ bits (width_of u)
-    → z < 2 ^ bits (width_of v)
-    → P (t ∷ u ∷ v ∷ []) (x ∷ y ∷ z ∷ [])) → P types ws
-by_three P alike a b c [] ws taken words h = absurd taken
-by_three P alike a b c (t ∷ types) [] taken words h = absurd words
-by_three P alike a b c (t ∷ types) (x ∷ ws) taken words h =
-    by_two (λ ts xs. P (t ∷ ts) (x ∷ xs)) alike b c types ws taken.1 words.1 (λ u v y z iu iv lty ltz. h t u v x y z taken.0 iu iv words.0 lty ltz)
 
 given : (a b : ℕ) → Gives a ≡ Gives b → Some a ≡ Some b
 given a b e = cc
@@ -118,14 +108,9 @@ least_quotient : (width : Width) → quotient width true (least width) (2 ^ bits
 least_quotient W32 = refl
 least_quotient W64 = refl
 
-pub both : (a b : Bool) → (a && b) ≡ true → (a ≡ true) × (b ≡ true)
-both true true e = (refl, refl)
-both true false e = absurd (cc)
-both false b e = absurd (cc)
-
 least_is : (width : Width) (x y : ℕ) → is_least_by_minus_one width x y ≡ true → quotient width true x y ≡ x
 least_is width x y e =
-    let parts = both (nat_eq x (least width)) (nat_eq y (2 ^ bits width - 1)) e in
+    let parts = and_parts (nat_eq x (least width)) (nat_eq y (2 ^ bits width - 1)) e in
     let ex : x ≡ least width = eqb-true x (least width) parts.0 in
     let ey : y ≡ 2 ^ bits width - 1 = eqb-true y (2 ^ bits width - 1) parts.1 in
     ap (λ n. quotient width true n y) ex ∙ ap (quotient width true (least width)) ey ∙ least_quotient width ∙ sym ex
@@ -140,13 +125,6 @@ divided_is width chill x y w e = go (nat_eq y 0) refl (is_least_by_minus_one wid
     go true ez extreme ee e = rw ez (chilled_is chill 0 w DivisionByZero e)
     go false ez true ee e = least_is width x y ee ∙ chilled_is chill x w LeastByMinusOne e
     go false ez false ee e = rw ez (let same : Gives (unsigned width (int_div (signed width x) (signed width y))) ≡ Gives w = e in cc)
-
-pub unsigned_is : (width : Width) (x y w word : ℕ) → unless_zero y word ≡ Gives w → word ≡ w
-unsigned_is width x y w word e = go (nat_eq y 0) e
-  where
-    go : (zero : Bool) → (if zero then Undefines DivisionByZero else Gives word) ≡ Gives w → word ≡ w
-    go true e = absurd (undefined_gives DivisionByZero w e)
-    go false e = cc
 
 unsigned_quotient : (width : Width) (x y w : ℕ) → unless_zero y (x / y) ≡ Gives w → quotient width false x y ≡ w
 unsigned_quotient width x y w e = go (nat_eq y 0) refl e

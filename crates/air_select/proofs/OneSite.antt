@@ -3,12 +3,14 @@
 use Rattle.std.proofs.Common.{◌≡◌, ℕ, zero, suc, ◌+◌, ◌-◌, inl, inr, Bool, true, false, List, [], ◌∷◌, ◌++◌, Option, Some, None, drop, length, take, refl, sym, ap, ◌∙◌, subst, arith, append_assoc}
 use Rattle.std.specs.Prelude.{All, if◌then◌else◌, slice_get}
 use Rattle.std.specs.List.{flat_map}
-use Rattle.std.specs.Option.{option_map}
 use Rattle.std.proofs.lemmas.Bool.{cases_lt}
 use Rattle.std.proofs.lemmas.List.Elements.{All-append, All-nil, All-weaker}
-use Rattle.std.proofs.lemmas.Option.{get_or_from_slice_get, slice_get-map}
+use Rattle.std.proofs.lemmas.Option.{get_or_from_slice_get, slice_get-map, same_Some}
+use Rattle.b3_base.proofs.Lists.{get_behind, Contains-at, All-one, All-at}
+use Rattle.b3_base.proofs.Booleans.{not_both}
+use Rattle.b3_base.proofs.Options.{mapped}
 use Rattle.b3_ir.specs.Naming.{value_named}
-use Rattle.b3_ir.specs.Procedure.{AllFit as ValuesFit, Block, Procedure, StandsAt, no_block, values_of}
+use Rattle.b3_ir.specs.Procedure.{AllFit as ValuesFit, Block, StandsAt, no_block, values_of, Procedure}
 use Rattle.b3_ir.specs.Types.{width_of}
 use Rattle.b3_ir.specs.declared.opcode.Opcode.{Opcode}
 use Rattle.b3_ir.specs.declared.opcode.Opcode.TheVariants as opcode
@@ -17,11 +19,10 @@ use Rattle.b3_ir.specs.declared.value.Value.{Value}
 use Rattle.stackmap.specs.Placing.{result_register}
 use Rattle.b3_meaning.specs.declared.role.Extent.{Extent}
 use Rattle.b3_meaning.specs.declared.role.Extent.TheVariants.{Byte, Half, Whole}
-use Rattle.b3_rules.specs.Valid.{IsValidProcedure, ValueAt}
+use Rattle.b3_rules.specs.Valid.{ValueAt, IsValidProcedure}
 use Rattle.b3_rules.specs.declared.rule.Rule.TheVariants as rule
 use Rattle.b3_sound.proofs.Distinct.{value_of_id}
 use Rattle.b3_sound.proofs.FromValid.{is_kept}
-use Rattle.air_select.proofs.Returned.{contains_at}
 use Rattle.air_ir.specs.Expressed.{IsExpressed}
 use Rattle.air_ir.specs.Kinds.{Kind, Checks, ChecksResult, Patches, extent_bytes, kind_of, makes_site}
 use Rattle.air_ir.specs.WellFormed as air
@@ -32,9 +33,9 @@ use Rattle.air_ir.specs.declared.operand.Operand.{Operand}
 use Rattle.air_ir.specs.declared.procedure.AirInst.{AirInst}
 use Rattle.air_stackmap.specs.SiteCode.{child_moves, patch_op, patch_results, site_code, site_inst}
 use Rattle.air_fold.specs.Values.{child, width_at}
-use Rattle.air_fold.proofs.Places.{get_behind, get_within}
+use Rattle.air_fold.proofs.Places.{get_within}
 use Rattle.air_select.specs.Selected as code
-use Rattle.air_select.specs.Selected.{Tables, address_of, arguments_into, before_access, block_code, call_of, call_to, code_of, entry_of, folds, load_of, condition_of, patched_from, patchpoint_of, reported_behind, result_from, result_of, selected, selected_by, store_of, tables, use_at, use_of, value_code}
+use Rattle.air_select.specs.Selected.{address_of, arguments_into, before_access, block_code, call_of, call_to, code_of, entry_of, folds, load_of, condition_of, patched_from, patchpoint_of, reported_behind, result_from, result_of, selected, selected_by, store_of, tables, use_at, use_of, value_code, Tables}
 use Rattle.air_select.specs.Contract.{AreExpressed, AreMadeFor, has_stackmap, is_arithmetic_kind}
 use Rattle.air_stackmap.specs.Laws.{has_stackmap as has_map}
 use Rattle.air_select.specs.Sited.{touches}
@@ -42,7 +43,7 @@ use Rattle.air_select.proofs.CallCode.{call_all}
 use Rattle.air_select.proofs.MapCode.{IsChildOf, are_children, child_moves_all, pick}
 use Rattle.air_select.proofs.MapFacts.{site_expressed}
 use Rattle.air_select.proofs.Pieces.{IsFor, flat_found, made_for}
-use Rattle.air_select.proofs.Sites.{All-slice, IsPlain, IsQuiet, all_one, arguments_plain, before_plain, code_plain, entry_plain, kind_arithmetic, makes_none, result_plain}
+use Rattle.air_select.proofs.Sites.{IsPlain, IsQuiet, arguments_plain, before_plain, code_plain, entry_plain, kind_arithmetic, makes_none, result_plain}
 use Rattle.air_select.proofs.Sound.{sound}
 
 -- no two instructions of a list make a site
@@ -50,11 +51,8 @@ abbrev pub HasOneSite : List AirInst → Type 0
 HasOneSite is = (k l : ℕ) (i j : AirInst) → slice_get is k ≡ Some i → slice_get is l ≡ Some j
     → makes_site (kind_of i.op) i.traps ≡ true → makes_site (kind_of j.op) j.traps ≡ true → k ≡ l
 
-not_both : (b : Bool) → b ≡ true → b ≡ false → ⊥
-not_both b e f = let bad : true ≡ false = sym e ∙ f in cc
-
 quiet_one : (is : List AirInst) → All IsQuiet is → HasOneSite is
-quiet_one is quiet k l i j at other made also = absurd (not_both (makes_site (kind_of i.op) i.traps) made (All-slice IsQuiet is k i quiet at))
+quiet_one is quiet k l i j at other made also = absurd (not_both (makes_site (kind_of i.op) i.traps) made (All-at IsQuiet is k i quiet at))
 
 -- where all but one make none
 at_middle : (is js : List AirInst) (one : AirInst) → All IsQuiet is → All IsQuiet js → (k : ℕ) (i : AirInst) → slice_get (is ++ one ∷ js) k ≡ Some i
@@ -62,7 +60,7 @@ at_middle : (is js : List AirInst) (one : AirInst) → All IsQuiet is → All Is
 at_middle is js one quiet behind k i at made =
     elim (cases_lt k (length is)) [
       | inl less ↦
-          absurd (not_both (makes_site (kind_of i.op) i.traps) made (All-slice IsQuiet is k i quiet (get_within is (one ∷ js) k i less at)))
+          absurd (not_both (makes_site (kind_of i.op) i.traps) made (All-at IsQuiet is k i quiet (get_within is (one ∷ js) k i less at)))
       | inr past ↦
           let m : ℕ = k - length is in
           let split : length is + m ≡ k = omega arith in
@@ -71,7 +69,7 @@ at_middle is js one quiet behind k i at made =
   where
     by : (m : ℕ) → length is + m ≡ k → slice_get (one ∷ js) m ≡ Some i → k ≡ length is
     by zero split there = omega (arith, split)
-    by (suc m) split there = absurd (not_both (makes_site (kind_of i.op) i.traps) made (All-slice IsQuiet js m i behind there))
+    by (suc m) split there = absurd (not_both (makes_site (kind_of i.op) i.traps) made (All-at IsQuiet js m i behind there))
 
 middle_one : (is js : List AirInst) (one : AirInst) → All IsQuiet is → All IsQuiet js → HasOneSite (is ++ one ∷ js)
 middle_one is js one quiet behind k l i j at other made also =
@@ -115,7 +113,7 @@ module _ (t : Tables) (v : Value) where
   map_one o inputs n results = last_one (child_moves v (reported_behind t n v)) (site_inst v o inputs (reported_behind t n v) results) (moves_quiet n)
 
   patched_quiet : (r : Option Register) → All IsQuiet (patched_from t v r)
-  patched_quiet (Some reg) = all_one IsQuiet _ refl
+  patched_quiet (Some reg) = All-one IsQuiet _ refl
   patched_quiet None = All-nil IsQuiet
 
   patch_one : HasOneSite (patchpoint_of t v)
@@ -130,8 +128,8 @@ module _ (t : Tables) (v : Value) where
   weakly o plain = quiet_one (code_of t o v) (All-weaker IsPlain IsQuiet makes_none (code_of t o v) plain)
 
   code_one : (o : Opcode) → HasOneSite (code_of t o v)
-  code_one opcode.FramePointer = quiet_one (code_of t opcode.FramePointer v) (all_one IsQuiet _ refl)
-  code_one opcode.SlotBase = quiet_one (code_of t opcode.SlotBase v) (all_one IsQuiet _ refl)
+  code_one opcode.FramePointer = quiet_one (code_of t opcode.FramePointer v) (All-one IsQuiet _ refl)
+  code_one opcode.SlotBase = quiet_one (code_of t opcode.SlotBase v) (All-one IsQuiet _ refl)
   code_one opcode.Load8Z = load_one op.Load8Z Byte
   code_one opcode.Load8S = load_one op.Load8S Byte
   code_one opcode.Load16Z = load_one op.Load16Z Half
@@ -180,13 +178,13 @@ module _ (t : Tables) (v : Value) where
   load_mapless air_op extent is =
       let pointer = child v.children 0 in
       let bytes = extent_bytes extent (width_of v.ty) in
-      All-append IsMapless (before_access t v pointer bytes) _ (before_mapless pointer bytes) (all_one IsMapless _ is)
+      All-append IsMapless (before_access t v pointer bytes) _ (before_mapless pointer bytes) (All-one IsMapless _ is)
 
   store_mapless : (air_op : AirOp) (extent : Extent) → has_stackmap (kind_of air_op) ≡ false → All IsMapless (store_of t v air_op extent)
   store_mapless air_op extent is =
       let pointer = child v.children 1 in
       let bytes = extent_bytes extent (width_at t.index (child v.children 0)) in
-      All-append IsMapless (before_access t v pointer bytes) _ (before_mapless pointer bytes) (all_one IsMapless _ is)
+      All-append IsMapless (before_access t v pointer bytes) _ (before_mapless pointer bytes) (All-one IsMapless _ is)
 
   plainly : (o : Opcode) → touches o ≡ false → All IsMapless (code_of t o v)
   plainly o e = All-weaker IsPlain IsMapless plain_mapless (code_of t o v) (code_plain t v o e)
@@ -199,8 +197,8 @@ module _ (t : Tables) (v : Value) where
   code_mapless opcode.CheckSub e = absurd cc
   code_mapless opcode.CheckMul e = absurd cc
   code_mapless opcode.CCall e = call_all t v IsMapless (λ k c at. refl) refl refl
-  code_mapless opcode.FramePointer e = all_one IsMapless _ refl
-  code_mapless opcode.SlotBase e = all_one IsMapless _ refl
+  code_mapless opcode.FramePointer e = All-one IsMapless _ refl
+  code_mapless opcode.SlotBase e = All-one IsMapless _ refl
   code_mapless opcode.Load8Z e = load_mapless op.Load8Z Byte refl
   code_mapless opcode.Load8S e = load_mapless op.Load8S Byte refl
   code_mapless opcode.Load16Z e = load_mapless op.Load16Z Half refl
@@ -210,10 +208,6 @@ module _ (t : Tables) (v : Value) where
   code_mapless opcode.Store16 e = store_mapless op.Store16 Half refl
   code_mapless opcode.Store e = store_mapless op.Store Whole refl
   code_mapless o e = plainly o refl
-
-mapped : {X Y : Type 0} (f : X → Y) (o : Option X) (y : Y) → option_map f o ≡ Some y → (x : X) × (o ≡ Some x) × (f x ≡ y)
-mapped f (Some x) y e = let same : f x ≡ y = cc in (x, refl, same)
-mapped f None y e = absurd cc
 
 module _ (p : Procedure) (valid : IsValidProcedure p) where
   -- an instruction that makes a site is one of a value's, and stands behind those of the values before it
@@ -236,7 +230,7 @@ module _ (p : Procedure) (valid : IsValidProcedure p) where
       let there : slice_get (entry_of t.index (values_of p 0)).insts k ≡ Some i =
       subst (λ (b : AirBlock). slice_get b.insts k ≡ Some i) (sym of) at.inst_there in
       absurd (not_both (makes_site (kind_of i.op) i.traps) made
-      (makes_none i (All-slice IsPlain (entry_of t.index (values_of p 0)).insts k i (entry_plain t.index (values_of p 0)) there)))
+      (makes_none i (All-at IsPlain (entry_of t.index (values_of p 0)).insts k i (entry_plain t.index (values_of p 0)) there)))
   made_at (suc b) k i at made =
       let t = tables p in
       let block = mapped (block_code t) (slice_get p.blocks b) at.of (sym (slice_get-map (block_code t) p.blocks b) ∙ at.block_there) in
@@ -252,7 +246,7 @@ module _ (p : Procedure) (valid : IsValidProcedure p) where
         at = piece.at;
         value = v;
         stands = subst (λ (vs : List Value). slice_get vs piece.at ≡ Some v) (sym values) piece.there;
-        made = All-slice (IsFor v.id) (value_code t v) piece.within i (made_for t v) piece.here;
+        made = All-at (IsFor v.id) (value_code t v) piece.within i (made_for t v) piece.here;
         within = piece.within;
         here = piece.here;
         is = piece.is ∙ ap (λ (vs : List Value). length (flat_map (value_code t) (take piece.at vs)) + piece.within) (sym values);
@@ -286,8 +280,8 @@ module _ (p : Procedure) (valid : IsValidProcedure p) where
         let v = x.value in
         let all = value_expressed x.block x.at v x.stands in (
           v,
-          ap (value_named p) x.made ∙ value_of_id p (is_kept p valid fit).distinct x.block v (contains_at (values_of p x.block) x.at v x.stands),
-          All-slice (Expresses v) (value_code (tables p) v) x.within i all x.here has,
+          ap (value_named p) x.made ∙ value_of_id p (is_kept p valid fit).distinct x.block v (Contains-at (values_of p x.block) x.at v x.stands),
+          All-at (Expresses v) (value_code (tables p) v) x.within i all x.here has,
         )
 
   -- two values with one id stand at one place
@@ -309,9 +303,6 @@ module _ (p : Procedure) (valid : IsValidProcedure p) where
         ]
       ]
 
-  same_value : (v w : Value) → Some v ≡ Some w → v ≡ w
-  same_value v w e = cc
-
   pub sites : air.HasOneSiteEach (selected p)
   sites b c k l i j at other made also same =
       let x = made_at b k i at made in
@@ -319,7 +310,7 @@ module _ (p : Procedure) (valid : IsValidProcedure p) where
       let ids : x.value.id ≡ y.value.id = sym x.made ∙ same ∙ y.made in
       let place = one_place x.block x.at y.block y.at x.value y.value x.stands y.stands ids in
       let value : x.value ≡ y.value =
-      same_value x.value y.value
+      same_Some x.value y.value
       (sym x.stands ∙ ap (λ n. slice_get (values_of p n) x.at) place.0 ∙ ap (slice_get (values_of p y.block)) place.1 ∙ y.stands) in
       let here : slice_get (value_code (tables p) y.value) x.within ≡ Some i =
       subst (λ (w : Value). slice_get (value_code (tables p) w) x.within ≡ Some i) value x.here in
@@ -334,5 +325,5 @@ module _ (p : Procedure) (valid : IsValidProcedure p) where
   pub all_made_for : ValuesFit p.blocks → AreMadeFor p (selected p)
   all_made_for fit b k i at made =
       let x = made_at b k i at made in
-      let named = value_of_id p (is_kept p valid fit).distinct x.block x.value (contains_at (values_of p x.block) x.at x.value x.stands) in
+      let named = value_of_id p (is_kept p valid fit).distinct x.block x.value (Contains-at (values_of p x.block) x.at x.value x.stands) in
       (x.value, ap (value_named p) x.made ∙ named)

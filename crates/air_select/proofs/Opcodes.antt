@@ -1,12 +1,10 @@
 -- Each value, by its opcode: its instructions do what it leads to.
 use Rattle.std.proofs.Common.{◌≡◌, ℕ, inl, inr, Bool, true, false, ◌&&◌, List, [], refl, sym, ap, ◌∙◌, subst}
 use Rattle.std.specs.Prelude.{if◌then◌else◌}
-use Rattle.b3_base.specs.Observed.{Start}
+use Rattle.b3_base.proofs.Booleans.{and_first}
 use Rattle.b3_ir.specs.Naming.{type_of}
-use Rattle.b3_ir.specs.Procedure.{Procedure}
 use Rattle.b3_ir.specs.declared.opcode.Opcode.{Opcode}
 use Rattle.b3_ir.specs.declared.opcode.Opcode.TheVariants as opcode
-use Rattle.b3_ir.specs.declared.value.Value.{Value}
 use Rattle.b3_meaning.specs.Opcodes.{Outcome, result}
 use Rattle.b3_meaning.specs.Roles.{role_of}
 use Rattle.b3_meaning.specs.Run as b3
@@ -21,13 +19,13 @@ use Rattle.stackmap.specs.Rules.{IsPlaceable}
 use Rattle.air_ir.specs.Meaning.{meaning}
 use Rattle.air_ir.specs.Steps.{Outcome as Ran, steps}
 use Rattle.air_fold.specs.Foldable.{is_add, is_and, is_bit, is_constant, is_shl}
-use Rattle.air_select.specs.Selected.{Tables, code_of, folds, value_code}
+use Rattle.air_select.specs.Selected.{code_of, folds, value_code, Tables}
 use Rattle.air_fold.specs.Values.{child, known, known_in}
 use Rattle.air_select.proofs.Accesses.{frame_does, load_does, slot_does, store_does}
 use Rattle.air_select.proofs.Calls.{call_does}
 use Rattle.air_select.proofs.Copied.{argument_does, constant_does, identity_does, phi_does, row_of_role}
 use Rattle.air_select.proofs.Deciding.{comparison_row}
-use Rattle.air_select.proofs.Does.{Does, DoesSome, Here, effect_is, gives_does, here, named, words_here}
+use Rattle.air_select.proofs.Does.{Does, DoesSome, effect_is, gives_does, here, named, words_here, Here}
 use Rattle.air_stackmap.specs.Laws.{has_stackmap as has_map}
 use Rattle.air_select.specs.Sited.{is_site}
 use Rattle.air_select.proofs.Facts.{constant_role}
@@ -40,6 +38,9 @@ use Rattle.air_select.proofs.Remainders.{mod_does, umod_does}
 use Rattle.air_select.proofs.Rotations.{rotate_does}
 use Rattle.air_select.proofs.SiteRuns.{add_does, check_does, mul_does, patch_does, sub_does}
 use Rattle.air_select.proofs.Sources.{trunc_does, upsilon_does}
+use Rattle.b3_base.specs.Observed.{Start}
+use Rattle.b3_ir.specs.Procedure.{Procedure}
+use Rattle.b3_ir.specs.declared.value.Value.{Value}
 
 and_role : (o : Opcode) → is_and o ≡ true → role_of o ≡ role.Pure
 and_role opcode.BitAnd e = refl
@@ -52,10 +53,6 @@ add_role _ e = absurd (cc)
 shl_role : (o : Opcode) → is_shl o ≡ true → role_of o ≡ role.Pure
 shl_role opcode.Shl e = refl
 shl_role _ e = absurd (cc)
-
-first_part : (a b : Bool) → (a && b) ≡ true → a ≡ true
-first_part true b e = refl
-first_part false b e = absurd (cc)
 
 module _ (p : Procedure) (t : Tables) (start : Start) (v : Value) (h : Here p t start v) (junk : List ℕ) where
   abbrev Wanted : Role → Ran × List ℕ → Type 0
@@ -81,7 +78,7 @@ module _ (p : Procedure) (t : Tables) (start : Start) (v : Value) (h : Here p t 
     | inr (inr (inr (inl sum))) ↦ no_code_pure gone (add_role v.kind.opcode sum)
     | inr (inr (inr (inr shift))) ↦ no_code_pure gone (shl_role v.kind.opcode shift)
     | inr (inr (inl bit)) ↦
-        no_code_pure gone (and_role v.kind.opcode (first_part (is_and v.kind.opcode)
+        no_code_pure gone (and_role v.kind.opcode (and_first (is_and v.kind.opcode)
         (is_constant (known t.index (child v.children 1)).opcode && is_bit (known t.index (child v.children 1)).word) bit))
   ]
 

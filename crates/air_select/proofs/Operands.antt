@@ -2,12 +2,13 @@
 use Rattle.std.proofs.Common.{◌≡◌, ◌≢◌, ℕ, zero, suc, ◌^◌, ◌<◌, inl, inr, Bool, true, false, ◌||◌, List, [], ◌∷◌, map, Option, Some, None, refl, sym, ap, ◌∙◌, subst, arith}
 use Rattle.std.specs.Prelude.{Contains, if◌then◌else◌, slice_get}
 use Rattle.std.proofs.lemmas.Bool.{eqb-true}
+use Rattle.b3_base.proofs.Lists.{Contains-at}
 use Rattle.b3_base.specs.BitMask.{bit_mask}
 use Rattle.b3_base.specs.Word.{bits}
 use Rattle.b3_base.specs.declared.word.Width.{Width}
 use Rattle.b3_ir.specs.Fits.{reported_count}
 use Rattle.b3_ir.specs.Naming.{all_values, type_of, value_named}
-use Rattle.b3_ir.specs.Procedure.{Procedure, values_of}
+use Rattle.b3_ir.specs.Procedure.{values_of, Procedure}
 use Rattle.b3_ir.specs.Types.{AreTaken, IsTaken, width_of}
 use Rattle.b3_ir.specs.declared.opcode.Opcode.{Opcode}
 use Rattle.b3_ir.specs.declared.opcode.Opcode.TheVariants as opcode
@@ -20,19 +21,19 @@ use Rattle.b3_ir.specs.declared.value.Value.{Value}
 use Rattle.b3_ir.proofs.Typing.{allowed}
 use Rattle.b3_rules.specs.Rules.{types_of}
 use Rattle.b3_sound.proofs.Distinct.{stands}
-use Rattle.b3_sound.proofs.Kept.{IsKept}
 use Rattle.b3_sound.proofs.Rows.{IsRow, row_by_role}
 use Rattle.air_ir.specs.Forms.{Fits, Immediates, NoImmediate, AnyWord, OfSum, OfLogic, OnlyZero, IsImmediate, IsWord, Word}
 use Rattle.air_ir.specs.declared.operand.Arg.TheVariants.{At, Imm}
 use Rattle.air_fold.specs.Foldable.{constant_fits, pointers, sum_fits, value_fits, is_constant, is_immediate, is_mask, first_immediates, is_named, second_immediates, some_below}
-use Rattle.air_select.specs.Selected.{Tables, arg_of, folds, use_of}
+use Rattle.air_select.specs.Selected.{arg_of, folds, use_of, Tables}
 use Rattle.air_select.specs.Temporaries.{home}
 use Rattle.air_fold.specs.Values.{Index, known, known_in, width_at}
 use Rattle.air_fold.specs.declared.known.Known.{Known}
 use Rattle.air_select.proofs.Children.{fit_cases}
 use Rattle.air_select.specs.Sited.{is_site}
 use Rattle.air_select.proofs.Facts.{body_below, constant_role}
-use Rattle.air_select.proofs.Returned.{id_found, named_of, stands_somewhere, contains_at}
+use Rattle.air_select.proofs.Returned.{id_found, named_of, stands_somewhere}
+use Rattle.b3_sound.proofs.Kept.{IsKept}
 use Rattle.air_select.proofs.Setting.{IsSound}
 
 -- ---- immediates
@@ -118,7 +119,7 @@ module _ (p : Procedure) (valid : IsKept p) (t : Tables) (sound : IsSound p t) w
       let w = named.0 in
       let found = id_found c (all_values p) w named.1 in
       let at = stands_somewhere p w found.0 in
-      let in_b : Contains (values_of p at.0) w = contains_at (values_of p at.0) at.1 w at.2 in
+      let in_b : Contains (values_of p at.0) w = Contains-at (values_of p at.0) at.1 w at.2 in
       let st = stands p at.0 w in_b in
       let rules = valid.rules at.0 st.0 w st.1 in
       let is : known t.index c ≡ known_in at.0 w = ap (known t.index) (sym found.1) ∙ sound.is_known at.0 w in_b in
@@ -136,7 +137,7 @@ module _ (p : Procedure) (valid : IsKept p) (t : Tables) (sound : IsSound p t) w
       let w = named.0 in
       let found = id_found c (all_values p) w named.1 in
       let at = stands_somewhere p w found.0 in
-      let in_b : Contains (values_of p at.0) w = contains_at (values_of p at.0) at.1 w at.2 in
+      let in_b : Contains (values_of p at.0) w = Contains-at (values_of p at.0) at.1 w at.2 in
       let st = stands p at.0 w in_b in
       let rules = valid.rules at.0 st.0 w st.1 in
       let is : known t.index c ≡ known_in at.0 w = ap (known t.index) (sym found.1) ∙ sound.is_known at.0 w in_b in

@@ -4,6 +4,7 @@ use Rattle.std.specs.Prelude.{All, if◌then◌else◌, slice_get}
 use Rattle.std.specs.List.{flat_map}
 use Rattle.std.proofs.lemmas.Bool.{cases_lt}
 use Rattle.std.proofs.lemmas.List.Elements.{All-append, All-nil}
+use Rattle.b3_base.proofs.Lists.{get_front, get_behind, All-one, All-two}
 use Rattle.b3_ir.specs.Types.{width_of}
 use Rattle.b3_ir.specs.declared.opcode.Opcode.{Opcode}
 use Rattle.b3_ir.specs.declared.opcode.Opcode.TheVariants as opcode
@@ -16,12 +17,12 @@ use Rattle.air_ir.specs.declared.op.AirOp.{AirOp}
 use Rattle.air_ir.specs.declared.op.AirOp.TheVariants as op
 use Rattle.air_ir.specs.declared.procedure.AirInst.{AirInst}
 use Rattle.air_fold.specs.Values.{Index, child, offset_in, width_at}
-use Rattle.air_fold.proofs.Places.{get_behind, get_front, get_within}
-use Rattle.air_select.specs.Selected.{Tables, argument_move, argument_moves, before_access, code_of, entry_of, far_sum, folds, last_id, load_of, names_argument, return_of, store_of, value_code}
+use Rattle.air_fold.proofs.Places.{get_within}
+use Rattle.air_select.specs.Selected.{argument_move, argument_moves, before_access, code_of, entry_of, far_sum, folds, last_id, load_of, names_argument, return_of, store_of, value_code, Tables}
 use Rattle.air_stackmap.specs.Laws.{has_stackmap as has_map}
 use Rattle.air_select.proofs.CallCode.{call_all}
 use Rattle.air_select.proofs.MapCode.{map_code_all}
-use Rattle.air_select.proofs.Sites.{all_one, all_three, all_two}
+use Rattle.air_select.proofs.Sites.{all_three}
 
 -- ---- pieces of a list
 
@@ -76,22 +77,22 @@ module _ (t : Tables) (v : Value) where
   either_for false is other h k = k
 
   return_for : (cs : List ℕ) → All (IsFor v.id) (return_of t v cs)
-  return_for [] = all_one (IsFor v.id) _ refl
-  return_for (c ∷ cs) = all_two (IsFor v.id) _ _ refl refl
+  return_for [] = All-one (IsFor v.id) _ refl
+  return_for (c ∷ cs) = All-two (IsFor v.id) _ _ refl refl
 
   before_for : (pointer bytes : ℕ) → All (IsFor v.id) (before_access t v pointer bytes)
   before_for pointer bytes =
-      either_for (folds t pointer || is_offset bytes (offset_in v.body)) [] (far_sum t v pointer) (All-nil (IsFor v.id)) (all_two (IsFor v.id) _ _ refl refl)
+      either_for (folds t pointer || is_offset bytes (offset_in v.body)) [] (far_sum t v pointer) (All-nil (IsFor v.id)) (All-two (IsFor v.id) _ _ refl refl)
 
   load_for : (air_op : AirOp) (extent : Extent) → All (IsFor v.id) (load_of t v air_op extent)
   load_for air_op extent =
       All-append (IsFor v.id) (before_access t v (child v.children 0) (extent_bytes extent (width_of v.ty))) _
-      (before_for (child v.children 0) (extent_bytes extent (width_of v.ty))) (all_one (IsFor v.id) _ refl)
+      (before_for (child v.children 0) (extent_bytes extent (width_of v.ty))) (All-one (IsFor v.id) _ refl)
 
   store_for : (air_op : AirOp) (extent : Extent) → All (IsFor v.id) (store_of t v air_op extent)
   store_for air_op extent =
       let bytes = extent_bytes extent (width_at t.index (child v.children 0)) in
-      All-append (IsFor v.id) (before_access t v (child v.children 1) bytes) _ (before_for (child v.children 1) bytes) (all_one (IsFor v.id) _ refl)
+      All-append (IsFor v.id) (before_access t v (child v.children 1) bytes) _ (before_for (child v.children 1) bytes) (All-one (IsFor v.id) _ refl)
 
   map_for : (o : Opcode) → has_map o ≡ true → All (IsFor v.id) (code_of t o v)
   map_for o e = map_code_all t v (IsFor v.id) (λ c reg is. refl) (λ reg. refl) (λ air inputs results n has ins outs. refl) o e
@@ -112,11 +113,11 @@ module _ (t : Tables) (v : Value) where
   code_for opcode.CheckSub = map_for opcode.CheckSub refl
   code_for opcode.CheckMul = map_for opcode.CheckMul refl
   code_for opcode.CCall = call_all t v (IsFor v.id) (λ k c at. refl) refl refl
-  code_for opcode.Mod = either_for v.kind.chill _ _ (all_three (IsFor v.id) _ _ _ refl refl refl) (all_two (IsFor v.id) _ _ refl refl)
-  code_for opcode.UMod = either_for v.kind.chill _ _ (all_three (IsFor v.id) _ _ _ refl refl refl) (all_two (IsFor v.id) _ _ refl refl)
-  code_for opcode.RotL = either_for (folds t (child v.children 1)) _ _ (all_one (IsFor v.id) _ refl) (all_two (IsFor v.id) _ _ refl refl)
+  code_for opcode.Mod = either_for v.kind.chill _ _ (all_three (IsFor v.id) _ _ _ refl refl refl) (All-two (IsFor v.id) _ _ refl refl)
+  code_for opcode.UMod = either_for v.kind.chill _ _ (all_three (IsFor v.id) _ _ _ refl refl refl) (All-two (IsFor v.id) _ _ refl refl)
+  code_for opcode.RotL = either_for (folds t (child v.children 1)) _ _ (All-one (IsFor v.id) _ refl) (All-two (IsFor v.id) _ _ refl refl)
   code_for opcode.Return = return_for v.children
-  code_for _ = all_one (IsFor v.id) _ refl
+  code_for _ = All-one (IsFor v.id) _ refl
 
   pub made_for : All (IsFor v.id) (value_code t v)
   unfolding value_code
@@ -141,9 +142,9 @@ moves_for x vs value (suc r) =
     All-append (IsFor value) (argument_moves x vs value r) _ (moves_for x vs value r) (by (names_argument vs r))
   where
     by : (b : Bool) → All (IsFor value) (if b then argument_move x value r ∷ [] else [])
-    by true = all_one (IsFor value) _ refl
+    by true = All-one (IsFor value) _ refl
     by false = All-nil (IsFor value)
 
 pub entry_for : (x : Index) (vs : List Value) → All (IsFor (last_id vs)) (entry_of x vs).insts
 unfolding entry_of
-entry_for x vs = All-append (IsFor (last_id vs)) (argument_moves x vs (last_id vs) 8) _ (moves_for x vs (last_id vs) 8) (all_one (IsFor (last_id vs)) _ refl)
+entry_for x vs = All-append (IsFor (last_id vs)) (argument_moves x vs (last_id vs) 8) _ (moves_for x vs (last_id vs) 8) (All-one (IsFor (last_id vs)) _ refl)

@@ -1,7 +1,7 @@
 -- How a sum fits as the pointer of an access.
 use Rattle.std.proofs.Common.{◌≡◌, ℕ, inl, inr, Bool, true, false, ◌&&◌, Some, nat_eq, refl, sym, ap, ◌∙◌}
-use Rattle.std.specs.Prelude.{Contains, if◌then◌else◌, slice_get}
-use Rattle.std.proofs.lemmas.Bool.{eqb-true}
+use Rattle.std.specs.Prelude.{if◌then◌else◌, slice_get, Contains}
+use Rattle.std.proofs.lemmas.Bool.{eqb-true, and_parts}
 use Rattle.b3_base.specs.declared.word.Width.{Width}
 use Rattle.b3_ir.specs.Procedure.{Procedure, values_of}
 use Rattle.b3_ir.specs.Types.{width_of}
@@ -57,11 +57,6 @@ module _ (p : Procedure) (t : Tables) (v : Value) (b : ℕ) (is : known t.index 
 
   pub store_at : PointerAt p t v opcode.Store 1 (extent_bytes Whole (width_at t.index (child v.children 0)))
   store_at = record { is_word = true; never = λ w n. refl; no_sum = refl; fits = λ k. as_known opcode.Store true k }
-
-pub and_parts : (a b : Bool) → (a && b) ≡ true → (a ≡ true) × (b ≡ true)
-and_parts true true e = (refl, refl)
-and_parts true false e = absurd cc
-and_parts false b e = absurd cc
 
 module _ (p : Procedure) (t : Tables) (sound : IsSound p t) (b : ℕ) (v : Value) (here : Contains (values_of p b) v)
     (o : Opcode) (eo : v.kind.opcode ≡ o) (i bytes : ℕ) (at : PointerAt p t v o i bytes) (pointer : ℕ) (there : slice_get v.children i ≡ Some pointer)

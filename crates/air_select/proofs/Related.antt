@@ -1,8 +1,8 @@
 -- The states of the two runs: what homes hold of the words of values.
 use Rattle.std.proofs.Common.{◌≡◌, ◌≢◌, ℕ, ◌+◌, ◌*◌, ◌^◌, ◌<◌, inl, inr, true, false, length, Option, Some, refl, sym, ap, ◌∙◌, subst, arith}
 use Rattle.std.proofs.lemmas.Bool.{cases_eq, eq-eqb, ne_eqb}
-use Rattle.b3_base.specs.Arithmetic.{low}
-use Rattle.b3_base.specs.Observed.{Start}
+use Rattle.std.proofs.lemmas.Option.{same_Some}
+use Rattle.b3_base.proofs.Widths.{low-same}
 use Rattle.b3_base.specs.Word.{bits}
 use Rattle.b3_base.specs.declared.word.Width.{Width}
 use Rattle.b3_base.specs.declared.word.Width.TheVariants.{W32, W64}
@@ -16,9 +16,10 @@ use Rattle.air_ir.specs.Steps.{State}
 use Rattle.air_ir.specs.declared.operand.Home.{Home}
 use Rattle.air_ir.specs.declared.operand.Home.TheVariants.{Tmp}
 use Rattle.b3_sound.proofs.Effects.{word_here, word_there}
-use Rattle.air_select.specs.Selected.{Tables, folds, names_argument, register}
+use Rattle.air_select.specs.Selected.{folds, names_argument, register, Tables}
 use Rattle.air_select.specs.Temporaries.{argument, home, location}
 use Rattle.air_fold.specs.Values.{place, width_at}
+use Rattle.b3_base.specs.Observed.{Start}
 use Rattle.air_select.proofs.Setting.{IsSound}
 
 -- a home holds a word at a width
@@ -81,21 +82,11 @@ pub register_there : (homes : Homes) (r k : ℕ) (held : Held) → k ≢ r → p
 unfolding put
 register_there homes r k held differ = rw (ne_eqb k r differ) refl
 
-pub low_word : (width : Width) (word : ℕ) → word < 2 ^ bits width → low width word ≡ word
-low_word W32 word lt = omega arith
-low_word W64 word lt = omega arith
-
 -- a word that is held is read at its width
 pub holds_word : (width : Width) (word : ℕ) → word < 2 ^ bits width → read width (Holds width word) ≡ Some word
 unfolding read
-holds_word W32 word lt = ap Some (low_word W32 word lt)
-holds_word W64 word lt = ap Some (low_word W64 word lt)
-
-value_is : (v w : Value) → Some v ≡ Some w → v ≡ w
-value_is v w e = cc
-
-some_same : (a b : ℕ) → Some a ≡ Some b → a ≡ b
-some_same a b e = cc
+holds_word W32 word lt = ap Some (low-same W32 word lt)
+holds_word W64 word lt = ap Some (low-same W64 word lt)
 
 module _ (p : Procedure) (t : Tables) (sound : IsSound p t) (start : Start) where
   -- the state with something else in a home
@@ -115,7 +106,7 @@ module _ (p : Procedure) (t : Tables) (sound : IsSound p t) (start : Start) wher
 
     phi_is : (q : ℕ) → IsPhi p q → q ≡ id → v.kind.opcode ≡ Phi
     phi_is q is same =
-        let one : is.0 ≡ v = value_is is.0 v (sym (is.1) ∙ ap (value_named p) same ∙ named) in
+        let one : is.0 ≡ v = same_Some is.0 v (sym (is.1) ∙ ap (value_named p) same ∙ named) in
         ap (λ (w : Value). w.kind.opcode) (sym one) ∙ is.2
 
     -- a word is written on the way
@@ -144,7 +135,7 @@ module _ (p : Procedure) (t : Tables) (sound : IsSound p t) (start : Start) wher
     own_word : (word q w : ℕ) (held : Held) → read (width_at t.index id) held ≡ Some word → q ≡ id → (b3.with_word st id word).words q ≡ Some w
         → Has (put s.homes (home t.index id) held) (width_at t.index q) (home t.index q) w
     own_word word q w held reads same now =
-        let is : word ≡ w = some_same word w (sym (ap (b3.with_word st id word).words same ∙ word_here st id word) ∙ now) in
+        let is : word ≡ w = same_Some word w (sym (ap (b3.with_word st id word).words same ∙ word_here st id word) ∙ now) in
         subst (λ (x : ℕ). Has (put s.homes (home t.index id) held) (width_at t.index x) (home t.index x) w) (sym same)
         (ap (read (width_at t.index id)) (put_here s.homes (3 * place t.index id) held) ∙ reads ∙ ap Some is)
 
@@ -190,7 +181,7 @@ module _ (p : Procedure) (t : Tables) (sound : IsSound p t) (start : Start) wher
           ap (read (width_at t.index q)) (put_there s.homes (3 * place t.index id + 1) (3 * place t.index q) held (omega arith)) ∙ r.words q w now un;
       locations = λ q w now. elim (cases_eq q id) [
         | inl same ↦
-            let is : word ≡ w = some_same word w (sym (ap (b3.with_location st id word).locations same ∙ location_here word) ∙ now) in
+            let is : word ≡ w = same_Some word w (sym (ap (b3.with_location st id word).locations same ∙ location_here word) ∙ now) in
             subst (λ (x : ℕ). Has (put s.homes (location t.index id) held) (width_at t.index x) (location t.index x) w) (sym same)
             (ap (read (width_at t.index id)) (put_here s.homes (3 * place t.index id + 1) held) ∙ reads ∙ ap Some is)
         | inr differ ↦

@@ -5,7 +5,7 @@ use Rattle.std.specs.Int.{cast_signed, cast_unsigned, int_wrap, w32, w64}
 use Rattle.std.specs.Int.RustNames.{FitsSigned, int_div, int_rem}
 use Rattle.std.proofs.Math.IntN.{nat_abs, ◌-ℤ◌}
 use Rattle.std.proofs.Math.Nat.{div-lt_self, mod-le}
-use Rattle.std.proofs.lemmas.Bool.{cases_eq, cases_lt, eq-eqb, eqb-true, le-ltb, lt-ltb}
+use Rattle.std.proofs.lemmas.Bool.{cases_eq, cases_lt, eq-eqb, eqb-true, le-ltb, lt-ltb, and_parts}
 use Rattle.std.proofs.lemmas.Int.{int_wrap-sub_right, int_wrap_fits, ints, of_z-to_z, to_z-of_z, quot-rem, wrapping_mul-bits, wrapping_sub-bits}
 use Rattle.b3_base.specs.Arithmetic.{low}
 use Rattle.b3_base.specs.Signed.{signed, unsigned}
@@ -14,7 +14,7 @@ use Rattle.b3_base.specs.declared.word.Width.{Width as Wide}
 use Rattle.b3_base.specs.declared.word.Width.TheVariants.{W32, W64}
 use Rattle.b3_meaning.specs.Opcodes.{DivisionByZero, Gives, LeastByMinusOne, Undefines, chilled, difference, is_least_by_minus_one, least, left_over, product, remainder, unless_zero}
 use Rattle.a64_inst.specs.StepData.{quotient}
-use Rattle.air_select.proofs.OneOp.{both, chilled_is, undefined_gives}
+use Rattle.air_select.proofs.OneOp.{chilled_is, undefined_gives}
 
 -- a signed number of at most this size
 abbrev pub Sized : ℕ → ℤ → Type 0
@@ -215,7 +215,7 @@ rest_is width chill x y w px py e = go (nat_eq y 0) refl (is_least_by_minus_one 
           zero_rest = λ same. sym (chilled_is chill 0 w DivisionByZero e);
         }
     go false ez true ee e =
-        let parts = both (nat_eq x (least width)) (nat_eq y (2 ^ words.bits width - 1)) ee in
+        let parts = and_parts (nat_eq x (least width)) (nat_eq y (2 ^ words.bits width - 1)) ee in
         let ex : x ≡ least width = eqb-true x (least width) parts.0 in
         let ey : y ≡ 2 ^ words.bits width - 1 = eqb-true y (2 ^ words.bits width - 1) parts.1 in
         record {

@@ -3,9 +3,9 @@ use Rattle.std.proofs.Common.{◌≡◌, ◌≢◌, ℕ, zero, suc, ◌<◌, inl
 use Rattle.std.specs.Prelude.{Contains, if◌then◌else◌, slice_get, slice_index_or}
 use Rattle.std.specs.List.{flat_map}
 use Rattle.std.proofs.lemmas.Bool.Decides.{eqb_tells}
-use Rattle.std.proofs.lemmas.Option.{get_or_from_slice_get, slice_get_within}
 use Rattle.std.proofs.lemmas.List.Concat.{flat_map-cons}
 use Rattle.std.proofs.lemmas.List.Elements.{Contains-append_cases, Contains-append_left, Contains-append_right}
+use Rattle.b3_base.proofs.Lists.{Contains-none, Contains-first, Contains-later, Contains-at}
 use Rattle.b3_ir.specs.Naming.{all_values, type_of, type_or_void, value_named, with_id}
 use Rattle.b3_ir.specs.Procedure.{Block, Procedure, StandsAt, no_block, values_of}
 use Rattle.b3_ir.specs.Types.{AllowsTypes, AreMore}
@@ -19,7 +19,6 @@ use Rattle.b3_ir.proofs.Typing.{allowed}
 use Rattle.b3_rules.specs.Rules.{first_return, if_return, types_of}
 use Rattle.b3_sound.proofs.Distinct.{stands}
 use Rattle.b3_sound.proofs.Kept.{IsKept}
-use Rattle.b3_sound.proofs.Lists.{contains_head, contains_none, contains_tail}
 use Rattle.stackmap.specs.declared.site.Returns.{Returns}
 use Rattle.stackmap.specs.declared.site.Returns.TheVariants as returns
 use Rattle.air_select.specs.Contract.{ReturnsType}
@@ -32,9 +31,6 @@ at_place [] k x lt e = absurd (omega (arith, lt))
 at_place (y ∷ ys) zero x lt e = ap Some e
 at_place (y ∷ ys) (suc k) x lt e = at_place ys k x (omega (arith, lt)) e
 
-pub contains_at : {X : Type 0} (xs : List X) (k : ℕ) (x : X) → slice_get xs k ≡ Some x → Contains xs x
-contains_at xs k x there = (k, slice_get_within xs k x there, get_or_from_slice_get xs k x x there)
-
 values_in : List Block → ℕ → List Value
 values_in blocks b = (slice_index_or blocks b no_block).values
 
@@ -43,7 +39,7 @@ all_in blocks = flat_map (λ (b : Block). b.values) blocks
 
 in_some_block : (blocks : List Block) (v : Value) → Contains (all_in blocks) v → (b : ℕ) × Contains (values_in blocks b) v
 unfolding all_in values_in
-in_some_block [] v has = absurd (contains_none v has)
+in_some_block [] v has = absurd (Contains-none v has)
 in_some_block (block ∷ blocks) v has =
     elim (Contains-append_cases block.values (all_in blocks) v (subst (λ l. Contains l v) (flat_map-cons (λ (b : Block). b.values) block blocks) has)) [
       | inl here ↦ (0, here)
@@ -52,7 +48,7 @@ in_some_block (block ∷ blocks) v has =
 
 in_list : (blocks : List Block) (b : ℕ) (v : Value) → Contains (values_in blocks b) v → Contains (all_in blocks) v
 unfolding all_in values_in
-in_list [] b v has = absurd (contains_none v has)
+in_list [] b v has = absurd (Contains-none v has)
 in_list (block ∷ blocks) zero v has = rw (flat_map-cons (λ (b : Block). b.values) block blocks) (Contains-append_left block.values (all_in blocks) v has)
 in_list (block ∷ blocks) (suc b) v has =
     rw (flat_map-cons (λ (b : Block). b.values) block blocks) (Contains-append_right block.values (all_in blocks) v (in_list blocks b v has))
@@ -76,10 +72,10 @@ id_found id (w ∷ vs) v e =
     (λ (yes : (nat_eq w.id id ≡ true) × (w.id ≡ id)).
     let same : Some w ≡ Some v = subst (λ b. (if b then Some w else with_id id vs) ≡ Some v) yes.0 e in
     let it : w ≡ v = cc in
-    (subst (Contains (w ∷ vs)) it (contains_head w vs), ap (λ (x : Value). x.id) (sym it) ∙ yes.1))
+    (subst (Contains (w ∷ vs)) it (Contains-first w vs), ap (λ (x : Value). x.id) (sym it) ∙ yes.1))
     (λ (no_ : (nat_eq w.id id ≡ false) × (w.id ≢ id)).
     let rest = id_found id vs v (subst (λ b. (if b then Some w else with_id id vs) ≡ Some v) no_.0 e) in
-    (contains_tail w vs v rest.0, rest.1))
+    (Contains-later w vs v rest.0, rest.1))
     (eqb_tells w.id id)
 
 -- an id of a type other than Void names a value of that type
@@ -94,17 +90,15 @@ return_by : (w : Value) (vs : List Value) (v : Value) → (first_return vs ≡ S
     → (o : Opcode) → w.kind.opcode ≡ o → if_return o w (first_return vs) ≡ Some v → IsFound w vs v
 return_by w vs v later Return is e =
     let it : w ≡ v = cc in
-    (subst (Contains (w ∷ vs)) it (contains_head w vs), ap (λ (x : Value). x.kind.opcode) (sym it) ∙ is)
+    (subst (Contains (w ∷ vs)) it (Contains-first w vs), ap (λ (x : Value). x.kind.opcode) (sym it) ∙ is)
 return_by w vs v later _ is e = later e
 
 pub return_found : (vs : List Value) (v : Value) → first_return vs ≡ Some v → Contains vs v × (v.kind.opcode ≡ Return)
 return_found [] v e = absurd cc
 return_found (w ∷ vs) v e =
-    return_by w vs v (λ later. let rest = return_found vs v later in (contains_tail w vs v rest.0, rest.1)) w.kind.opcode refl e
+    return_by w vs v (λ later. let rest = return_found vs v later in (Contains-later w vs v rest.0, rest.1)) w.kind.opcode refl e
 
 -- ---- what is returned
-none_or_typed : (types : List Ty) → AllowsTypes Return Void types → AreMore (row_of Return).more types
-none_or_typed types h = h.children
 
 one_child : (ty : ℕ → Ty) (c : ℕ) (cs : List ℕ) → AreMore (row_of Return).more (map ty (c ∷ cs)) → (cs ≡ []) × (ty c ≢ Void)
 one_child ty c [] (inl none) = absurd cc
@@ -125,7 +119,7 @@ narrow_type Void some e = absurd (some refl)
 returned_child : (p : Procedure) → IsKept p → (b k : ℕ) (v : Value) (c : ℕ) (cs : List ℕ) (ty : Ty) → StandsAt p b k v
     → v.kind.opcode ≡ Return → v.children ≡ c ∷ cs → (type_of p c ≢ Void → type_of p c ≡ ty) → ReturnsType p ty
 returned_child p kept b k v c cs ty at is children typed =
-    let in_block : Contains (values_of p b) v = contains_at (values_of p b) k v at in
+    let in_block : Contains (values_of p b) v = Contains-at (values_of p b) k v at in
     let st = stands p b v in_block in
     let rules = kept.rules b st.0 v st.1 in
     let row : AllowsTypes Return v.ty (types_of p v) =

@@ -1,20 +1,18 @@
 -- RotL: a rotation right by the negative of the amount.
 use Rattle.std.proofs.Common.{◌≡◌, ℕ, ◌+◌, ◌-◌, ◌*◌, ◌%◌, ◌^◌, ◌<◌, Bool, true, false, List, [], ◌∷◌, Some, None, refl, sym, ap, ◌∙◌, subst, arith}
+use Rattle.std.proofs.lemmas.Option.{same_Some}
 use Rattle.std.specs.Prelude.{if◌then◌else◌}
 use Rattle.b3_base.specs.Arithmetic.{low, rotate_right, rotated_right}
-use Rattle.b3_base.specs.Observed.{Start}
 use Rattle.b3_base.specs.Word.{bits}
 use Rattle.b3_base.specs.declared.word.Width.{Width}
 use Rattle.b3_base.specs.declared.word.Width.TheVariants.{W32, W64}
 use Rattle.b3_ir.specs.Naming.{type_of}
-use Rattle.b3_ir.specs.Procedure.{Procedure}
 use Rattle.b3_ir.specs.Types.{AllowsTypes, width_of}
 use Rattle.b3_ir.specs.declared.opcode.Opcode.{Opcode}
 use Rattle.b3_ir.specs.declared.opcode.Opcode.TheVariants as opcode
 use Rattle.b3_ir.specs.declared.opcode.Ty.{Ty}
 use Rattle.b3_ir.specs.declared.opcode.Ty.TheVariants.{Int32}
 use Rattle.b3_ir.specs.declared.table.Takes.TheVariants.{Alike, This}
-use Rattle.b3_ir.specs.declared.value.Value.{Value}
 use Rattle.b3_meaning.specs.Opcodes.{Gives, difference, result, rotate_left}
 use Rattle.b3_meaning.specs.Roles.{role_of}
 use Rattle.b3_meaning.specs.Run as b3
@@ -28,16 +26,19 @@ use Rattle.air_ir.specs.declared.operand.Arg.{Arg}
 use Rattle.air_ir.specs.declared.operand.Arg.TheVariants.{At, Imm}
 use Rattle.air_ir.specs.declared.operand.Home.{Home}
 use Rattle.air_select.specs.Selected as code
-use Rattle.air_select.specs.Selected.{Tables, arg_of, def_at, folds, negative_amount, result_of, rotate_by, turned, use_at, use_of}
+use Rattle.air_select.specs.Selected.{arg_of, def_at, folds, negative_amount, rotate_by, turned, use_at, Tables}
 use Rattle.air_select.specs.Temporaries.{first_extra, home}
 use Rattle.air_fold.specs.Values.{child, known, place, width_at}
 use Rattle.air_select.proofs.Children.{width_is}
-use Rattle.air_select.proofs.Does.{Does, Here, allows, are_words, gives_does, named, puts, result_small, words_here}
+use Rattle.air_select.proofs.Does.{Does, allows, are_words, gives_does, named, puts, result_small, words_here, Here}
 use Rattle.air_select.proofs.Instructions.{at_home, of_immediate, one_word, reads_def, reads_use, steps_first, steps_last, with_home, writes_def, writes_use}
 use Rattle.air_select.proofs.Plain.{computing}
 use Rattle.air_select.proofs.Related.{Related, extra_related, holds_word, put_here}
 use Rattle.air_select.proofs.Remainders.{child_in}
 use Rattle.air_select.proofs.Shapes.{TwoHere, two_children, two_here}
+use Rattle.b3_base.specs.Observed.{Start}
+use Rattle.b3_ir.specs.Procedure.{Procedure}
+use Rattle.b3_ir.specs.declared.value.Value.{Value}
 
 -- ---- amounts
 
@@ -53,9 +54,6 @@ turned_low W64 k = omega arith
 negative_is : (width : Width) (s : ℕ) → s < 2 ^ 32 → difference W32 0 s % bits width ≡ (bits width - s % bits width) % bits width
 negative_is W32 s lt = omega arith
 negative_is W64 s lt = omega arith
-
-some_is : (a b : ℕ) → Some a ≡ Some b → a ≡ b
-some_is a b e = cc
 
 gives_is : (a b : ℕ) → Gives a ≡ Gives b → a ≡ b
 gives_is a b e = cc
@@ -105,7 +103,7 @@ module _ (p : Procedure) (t : Tables) (start : Start) (v : Value) (h : Here p t 
         let amount = Imm (turned (width_of v.ty) k) in
         let here_is : arg_of t (child v.children 1) ≡ Imm k = rw f refl in
         let word : low W32 k ≡ two.wy =
-        some_is (low W32 k) two.wy
+        same_Some (low W32 k) two.wy
         (ap (λ (i : Width). Some (low i k)) (sym y_width) ∙ sym (of_immediate h.s.homes (width_at t.index (child v.children 1)) k)
         ∙ ap (word_of h.s.homes (width_at t.index (child v.children 1))) (sym here_is)
         ∙ child_in p t start v h junk h.s h.related opcode.RotL eo refl 1 (child v.children 1) two.wy two.y_at two.y_in two.y_now) in

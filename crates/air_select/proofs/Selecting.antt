@@ -3,6 +3,7 @@ use Rattle.std.proofs.Common.{◌≡◌, ℕ, List, [], ◌∷◌, map, Some, re
 use Rattle.std.specs.Prelude.{IfOk, Result, Ok, Err, slice_get, slice_index_or}
 use Rattle.std.specs.Option.{option_map}
 use Rattle.std.proofs.lemmas.Option.{slice_get-get_or, slice_get-map, slice_get_within}
+use Rattle.b3_base.proofs.Lists.{place_of}
 use Rattle.b3_ir.specs.Procedure.{AllFit, Kept, Procedure, empty_kept, procedures, values_of}
 use Rattle.b3_ir.specs.declared.procedure.SlotLine.{SlotLine}
 use Rattle.b3_rules.specs.Valid.{IsValid, IsValidProcedure}
@@ -13,7 +14,7 @@ use Rattle.air_select.specs.Contract.{procedure_at}
 use Rattle.air_select.specs.Selected.{block_code, entry_of, selected, selected_by, tables}
 use Rattle.air_select.proofs.Beginning.{same_blocks}
 use Rattle.air_select.proofs.Entering.{has_arguments}
-use Rattle.air_select.proofs.Sound.{sound, stands}
+use Rattle.air_select.proofs.Sound.{sound}
 use Rattle.air_select.proofs.MapFacts.{placeable_of}
 use Rattle.air_select.proofs.SameBlocks.{AllPlaced}
 use Rattle.air_select.proofs.Successors.{names_none}
@@ -37,7 +38,7 @@ unfolding selected_by
 blocks_are p = refl
 
 all_placed : (p : Procedure) → IsValidProcedure p → AllFit p.blocks → AllPlaced p
-all_placed p valid fit b v has = let at = stands (values_of p b) v has in placeable_of p valid fit b at.0 v at.1
+all_placed p valid fit b v has = let at = place_of (values_of p b) v has in placeable_of p valid fit b at.0 v at.1
 
 pub same : (p : Procedure) → IsValidProcedure p → AllFit p.blocks → HasBlocksOf p (selected p)
 same p valid fit =

@@ -1,14 +1,14 @@
 -- The children of a value, by what its row takes.
-use Rattle.std.proofs.Common.{◌≡◌, ℕ, List, [], ◌∷◌, map, Option, Some, refl, sym, ap, ◌∙◌, subst}
+use Rattle.std.proofs.Common.{◌≡◌, ℕ, List, [], ◌∷◌, map, Some, refl, sym, ap, ◌∙◌, subst, Option}
 use Rattle.std.specs.Prelude.{Contains, slice_get}
+use Rattle.b3_base.proofs.Lists.{Contains-first, Contains-later}
 use Rattle.b3_ir.specs.Types.{AreTaken, IsTaken}
-use Rattle.b3_ir.specs.declared.opcode.Ty.{Ty}
 use Rattle.b3_ir.specs.declared.table.Takes.{Takes}
 use Rattle.b3_ir.specs.declared.table.More.TheVariants.{NoMore}
 use Rattle.b3_meaning.specs.Run as b3
-use Rattle.b3_sound.proofs.Lists.{contains_head, contains_tail}
 use Rattle.air_fold.specs.Values.{child}
 use Rattle.air_select.proofs.Children.{words_cons, words_nil}
+use Rattle.b3_ir.specs.declared.opcode.Ty.{Ty}
 
 module _ (types : ℕ → Ty) (f : ℕ → Option ℕ) (alike : Ty) where
   pub record OneChild (a : Takes) (cs ws : List ℕ) : Type 0 where
@@ -147,7 +147,7 @@ module _ (types : ℕ → Ty) (f : ℕ → Option ℕ) (alike : Ty) where
   pub one_here : (a : Takes) (cs ws : List ℕ) → OneChild a cs ws → OneHere a cs ws
   one_here a cs ws o =
       subst (λ (l : List ℕ). OneHere a l ws) (sym o.are)
-      (record { wx = o.wx; words = o.words; x_now = o.x_now; x_at = refl; x_in = contains_head o.x []; x_taken = o.x_taken })
+      (record { wx = o.wx; words = o.words; x_now = o.x_now; x_at = refl; x_in = Contains-first o.x []; x_taken = o.x_taken })
 
   pub two_here : (a b : Takes) (cs ws : List ℕ) → TwoChildren a b cs ws → TwoHere a b cs ws
   two_here a b cs ws o =
@@ -160,8 +160,8 @@ module _ (types : ℕ → Ty) (f : ℕ → Option ℕ) (alike : Ty) where
         y_now = o.y_now;
         x_at = refl;
         y_at = refl;
-        x_in = contains_head o.x (o.y ∷ []);
-        y_in = contains_tail o.x (o.y ∷ []) o.y (contains_head o.y []);
+        x_in = Contains-first o.x (o.y ∷ []);
+        y_in = Contains-later o.x (o.y ∷ []) o.y (Contains-first o.y []);
         x_taken = o.x_taken;
         y_taken = o.y_taken;
       })
@@ -180,9 +180,9 @@ module _ (types : ℕ → Ty) (f : ℕ → Option ℕ) (alike : Ty) where
         x_at = refl;
         y_at = refl;
         z_at = refl;
-        x_in = contains_head o.x (o.y ∷ o.z ∷ []);
-        y_in = contains_tail o.x (o.y ∷ o.z ∷ []) o.y (contains_head o.y (o.z ∷ []));
-        z_in = contains_tail o.x (o.y ∷ o.z ∷ []) o.z (contains_tail o.y (o.z ∷ []) o.z (contains_head o.z []));
+        x_in = Contains-first o.x (o.y ∷ o.z ∷ []);
+        y_in = Contains-later o.x (o.y ∷ o.z ∷ []) o.y (Contains-first o.y (o.z ∷ []));
+        z_in = Contains-later o.x (o.y ∷ o.z ∷ []) o.z (Contains-later o.y (o.z ∷ []) o.z (Contains-first o.z []));
         x_taken = o.x_taken;
         y_taken = o.y_taken;
         z_taken = o.z_taken;

@@ -1,14 +1,15 @@
 -- What a call, a patchpoint or a check of a valid procedure computes with and reports.
 use Rattle.std.proofs.Common.{◌≡◌, ◌≢◌, ℕ, zero, suc, ◌+◌, ◌-◌, ◌^◌, ◌<◌, ◌⊎◌, inl, inr, Bool, true, false, List, [], ◌∷◌, map, drop, length, Option, Some, None, refl, sym, ap, ◌∙◌, subst, arith}
-use Rattle.std.specs.Prelude.{All, Contains, if◌then◌else◌, slice_get}
+use Rattle.std.specs.Prelude.{All, if◌then◌else◌, slice_get, Contains}
 use Rattle.std.specs.Option.{option_map}
 use Rattle.std.proofs.lemmas.List.{length-drop, length-map}
-use Rattle.std.proofs.lemmas.List.Elements.{All-cons, All-map, All-nil}
-use Rattle.std.proofs.lemmas.Option.{slice_get-map}
+use Rattle.std.proofs.lemmas.List.Elements.{All-map}
+use Rattle.std.proofs.lemmas.Option.{slice_get-map, same_Some}
+use Rattle.std.proofs.lemmas.Bool.{or_cases}
+use Rattle.b3_base.proofs.Lists.{Contains-at, All-from_places}
 use Rattle.b3_base.specs.Word.{bits}
 use Rattle.b3_ir.specs.Fits.{Fits as ValueFits, reported_count, reported_of}
 use Rattle.b3_ir.specs.Naming.{type_of}
-use Rattle.b3_ir.specs.Procedure.{Procedure, values_of}
 use Rattle.b3_ir.specs.Table.{row_of}
 use Rattle.b3_ir.specs.Types.{AllowsTypes, AreTaken, width_of}
 use Rattle.b3_ir.specs.declared.opcode.Opcode.{Opcode}
@@ -18,11 +19,9 @@ use Rattle.b3_ir.specs.declared.opcode.Ty.TheVariants.{Void}
 use Rattle.b3_ir.specs.declared.table.More.TheVariants.{Reported}
 use Rattle.b3_ir.specs.declared.table.Takes.TheVariants.{Alike, Any}
 use Rattle.b3_ir.specs.declared.value.Stackmap.{Stackmap}
-use Rattle.b3_ir.specs.declared.value.Value.{Value}
 use Rattle.b3_ir.proofs.Typing.{allowed}
 use Rattle.b3_rules.specs.Rules.{types_of}
 use Rattle.b3_sound.proofs.Distinct.{stands}
-use Rattle.b3_sound.proofs.Kept.{IsKept}
 use Rattle.b3_sound.proofs.Rows.{child_typed}
 use Rattle.stackmap.specs.Registers.{constraints_in, constraints_of}
 use Rattle.air_ir.specs.Forms.{Fits, Immediates, NoImmediate, Word}
@@ -31,7 +30,7 @@ use Rattle.air_stackmap.specs.declared.child.Child.{Child}
 use Rattle.air_stackmap.proofs.Kept.{HasItsMap, its_map}
 use Rattle.air_fold.specs.Foldable.{constant_fits, is_bit_test, is_comparison, is_constant, pointers, sum_fits, value_fits}
 use Rattle.air_fold.specs.Values.{child, known, width_at}
-use Rattle.air_select.specs.Selected.{Tables, child_of, condition_of, result_of, use_of}
+use Rattle.air_select.specs.Selected.{child_of, condition_of, result_of, use_of, Tables}
 use Rattle.air_stackmap.specs.Laws.{has_stackmap as has_map}
 use Rattle.air_select.specs.Sited.{computed_count, is_site}
 use Rattle.air_select.specs.Temporaries.{home}
@@ -39,10 +38,11 @@ use Rattle.air_select.proofs.Forms as forms
 use Rattle.air_select.proofs.Forms.{fit_two}
 use Rattle.air_select.proofs.Operands.{constant_small, constant_value, no_immediate, no_sum}
 use Rattle.air_select.proofs.Plain.{is_condition, site_values}
-use Rattle.air_select.proofs.Returned.{contains_at}
-use Rattle.air_select.proofs.Setting.{IsSound}
-use Rattle.air_select.proofs.Children.{or_parts}
 use Rattle.air_select.proofs.Tested.{IsTested, condition_tested}
+use Rattle.b3_ir.specs.Procedure.{Procedure, values_of}
+use Rattle.b3_ir.specs.declared.value.Value.{Value}
+use Rattle.b3_sound.proofs.Kept.{IsKept}
+use Rattle.air_select.proofs.Setting.{IsSound}
 
 -- ---- rows
 
@@ -91,14 +91,6 @@ behind_at zero cs k = let same : k ≡ 0 + k = omega arith in ap (slice_get cs) 
 behind_at (suc n) [] k = refl
 behind_at (suc n) (c ∷ cs) k = let same : suc (n + k) ≡ suc n + k = omega arith in behind_at n cs k ∙ ap (slice_get (c ∷ cs)) same
 
--- what holds of each item at a place holds of all
-pub all_at : {X : Type 0} (P : X → Type 0) (xs : List X) → ((k : ℕ) (x : X) → slice_get xs k ≡ Some x → P x) → All P xs
-all_at P [] each = All-nil P
-all_at P (x ∷ xs) each = All-cons P x xs (each 0 x refl) (all_at P xs (λ k y at. each (suc k) y at))
-
-some_id : (a b : ℕ) → Some a ≡ Some b → a ≡ b
-some_id a b e = cc
-
 module _ (p : Procedure) (kept : IsKept p) (b : ℕ) (v : Value) (here : Contains (values_of p b) v) where
   pub value_fits_here : ValueFits v
   value_fits_here = let st = stands p b v here in (kept.rules b st.0 v st.1).fits
@@ -110,7 +102,7 @@ module _ (p : Procedure) (kept : IsKept p) (b : ℕ) (v : Value) (here : Contain
   row_here o is = subst (λ q. AllowsTypes q v.ty (types_of p v)) is allows_here
 
   typed_child : (i id : ℕ) → slice_get v.children i ≡ Some id → type_of p id ≢ Void
-  typed_child i id at = child_typed v.kind.opcode v.ty (type_of p) v.children id allows_here (contains_at v.children i id at)
+  typed_child i id at = child_typed v.kind.opcode v.ty (type_of p) v.children id allows_here (Contains-at v.children i id at)
 
   -- ---- what is reported
 
@@ -138,7 +130,7 @@ module _ (p : Procedure) (kept : IsKept p) (t : Tables) (sound : IsSound p t) wh
     where
       by : (c : Bool) → is_constant (known t.index id).opcode ≡ c → (word : ℕ) → (if c then Some (known t.index id).word else None) ≡ Some word
           → word < 2 ^ bits (width_at t.index id)
-      by true const word e = subst (λ n. n < 2 ^ bits (width_at t.index id)) (some_id _ word e) (constant_small p kept t sound id typed const)
+      by true const word e = subst (λ n. n < 2 ^ bits (width_at t.index id)) (same_Some _ word e) (constant_small p kept t sound id typed const)
       by false other word e = absurd cc
 
   known_by : (id : ℕ) → type_of p id ≢ Void → IsKnown p id (child_of t id)
@@ -171,7 +163,7 @@ module _ (p : Procedure) (kept : IsKept p) (t : Tables) (sound : IsSound p t) wh
       pub all_small : All IsSmall (map (child_of t) (ids p kept b v here has))
       all_small =
           All-map IsSmall (child_of t) (ids p kept b v here has)
-          (all_at (λ id. IsSmall (child_of t id)) (ids p kept b v here has)
+          (All-from_places (λ id. IsSmall (child_of t id)) (ids p kept b v here has)
           (λ k id at. small_by id (typed_child p kept b v here (computed_count v.kind.opcode + k) id
           (sym (behind_at (computed_count v.kind.opcode) v.children k) ∙ at))))
 
@@ -213,7 +205,7 @@ module _ (p : Procedure) (kept : IsKept p) (t : Tables) (sound : IsSound p t) wh
         let row = row_here p kept b v here opcode.Check is in
         let one = one_first (type_of p) row.alike v.children row.children in
         condition_tested p kept t sound b v here (child v.children 0) one.0 one.1
-        (λ k fits. or_parts (is_comparison k.opcode) (is_bit_test t.index k) (sym (ap (λ q. value_fits t.index (pointers p) q 0 v.id k) is) ∙ fits))
+        (λ k fits. or_cases (is_comparison k.opcode) (is_bit_test t.index k) (sym (ap (λ q. value_fits t.index (pointers p) q 0 v.id k) is) ∙ fits))
         (λ width word. ap (λ q. constant_fits q 0 width word) is) (ap (λ q. sum_fits t.index (pointers p) q 0 v.id) is)
 
     pub sums_of : (o : Opcode) → v.kind.opcode ≡ o → (o ≡ opcode.CheckAdd) ⊎ ((o ≡ opcode.CheckSub) ⊎ (o ≡ opcode.CheckMul))

@@ -1,18 +1,18 @@
 -- The runs of patchpoints and checks: their children are put into registers, and the site reads their words.
 use Rattle.std.proofs.Common.{◌≡◌, ℕ, suc, ℤ, pos, negsuc, ◌*◌, ◌^◌, ◌<◌, inl, inr, Bool, true, false, ◌&&◌, List, [], ◌∷◌, ◌++◌, Option, Some, None, map, drop, length, append-nil, append_assoc, refl, sym, ap, ◌∙◌, subst, arith}
 use Rattle.std.specs.Prelude.{All, Contains, if◌then◌else◌, not, nat_eq, slice_get}
-use Rattle.std.proofs.lemmas.Bool.{ltb-true}
+use Rattle.std.proofs.lemmas.Bool.{ltb-true, or_cases}
 use Rattle.std.proofs.lemmas.List.{length-map}
 use Rattle.std.proofs.lemmas.List.Elements.{All-map, All-nil}
+use Rattle.b3_base.proofs.Lists.{Contains-first, Contains-later, Contains-at, All-one, All-two}
+use Rattle.b3_base.proofs.Widths.{low-same}
 use Rattle.b3_base.specs.Arithmetic.{low}
-use Rattle.b3_base.specs.Observed.{Start}
 use Rattle.b3_base.specs.Signed.{is_signed, signed, unsigned}
 use Rattle.b3_base.specs.Word.{bits}
 use Rattle.b3_base.specs.declared.event.EventKind.TheVariants as event
 use Rattle.b3_base.specs.declared.observation.Status.TheVariants.{Exited}
 use Rattle.b3_base.specs.declared.word.Width.{Width}
 use Rattle.b3_ir.specs.Naming.{type_of}
-use Rattle.b3_ir.specs.Procedure.{Procedure}
 use Rattle.b3_ir.specs.Types.{AllowsTypes, AreTaken, has_word, width_of}
 use Rattle.b3_ir.specs.declared.opcode.Opcode.{Opcode}
 use Rattle.b3_ir.specs.declared.opcode.Opcode.TheVariants as opcode
@@ -23,22 +23,19 @@ use Rattle.b3_ir.specs.declared.table.Takes.TheVariants.{Alike, Any}
 use Rattle.b3_ir.specs.declared.value.Constraint.{Constraint}
 use Rattle.b3_ir.specs.declared.value.Constraint.TheVariants.{SomeEarlyRegister}
 use Rattle.b3_ir.specs.declared.value.Reg.{Reg as Register}
-use Rattle.b3_ir.specs.declared.value.Value.{Value}
 use Rattle.b3_meaning.specs.Run as b3
 use Rattle.b3_meaning.specs.declared.role.Checked.{Checked}
 use Rattle.b3_meaning.specs.declared.role.Checked.TheVariants.{Sum, Difference, Product}
 use Rattle.b3_rules.specs.Rules.{types_of}
-use Rattle.b3_sound.proofs.Lists.{contains_head, contains_tail}
 use Rattle.b3_sound.proofs.Results.{half_of, unsigned_in}
 use Rattle.stackmap.specs.Placing.{result_register}
 use Rattle.stackmap.specs.Registers as registers
-use Rattle.stackmap.specs.Registers.{constraints_of, has_result, is_patchpoint, stackmap_in}
-use Rattle.stackmap.specs.Rules.{IsPlaceable}
+use Rattle.stackmap.specs.Registers.{constraints_of, has_result, is_patchpoint}
 use Rattle.air_ir.specs.Expressed.{result_in, result_role}
 use Rattle.air_ir.specs.Forms.{IsPlacedResult, OneIs}
 use Rattle.air_ir.specs.Kinds.{Kind, ChecksResult, Patches, kind_of}
 use Rattle.air_ir.specs.Meaning as air
-use Rattle.air_ir.specs.Meaning.{World, asks, checks, checks_result, effect_of, meaning, operation}
+use Rattle.air_ir.specs.Meaning.{World, asks, checks, checks_result, effect_of, meaning}
 use Rattle.air_ir.specs.Operands.{Read, Target, targets, word_of, words}
 use Rattle.air_ir.specs.Steps.{Outcome as Ran, State, go_on, steps}
 use Rattle.air_ir.specs.Words.{Tested}
@@ -61,25 +58,28 @@ use Rattle.air_stackmap.proofs.Running.{moves_keep, moves_run}
 use Rattle.air_fold.specs.Foldable.{bit_of, constant_fits, is_bit_test, is_comparison, is_constant, pointers, sum_fits, value_fits}
 use Rattle.air_fold.specs.Values.{child, known, place, width_at}
 use Rattle.air_select.specs.Selected.{Condition, Tables, arg_of, check_on, checked_of, child_of, condition, condition_of, folded_condition, folds, move, patched_from, patchpoint_of, register, result_from, result_of, use_of}
-use Rattle.air_stackmap.specs.Laws.{has_stackmap as has_map}
 use Rattle.air_select.specs.Sited.{computed_count, is_site}
 use Rattle.air_select.specs.Temporaries.{home}
 use Rattle.air_select.proofs.Asking.{WritesNoTmp, asks_does, bare, over, own, target_in}
 use Rattle.air_select.proofs.Calls.{child_at}
-use Rattle.air_select.proofs.Children.{known_word, or_parts, unfolded, width_is, word_small, words_cons, words_nil}
-use Rattle.air_select.proofs.Deciding.{Decides, decides}
-use Rattle.air_select.proofs.Does.{DoesSome, Here, allows, are_words, at, here, words_here}
+use Rattle.air_select.proofs.Children.{known_word, unfolded, width_is, word_small, words_cons, words_nil}
+use Rattle.air_select.proofs.Deciding.{decides, Decides}
+use Rattle.air_select.proofs.Does.{DoesSome, allows, are_words, at, here, words_here, Here}
 use Rattle.air_select.proofs.Facts.{child_ran}
 use Rattle.air_select.proofs.Instructions.{at_home, of_immediate, reads_none, reads_use, writes_def, writes_none}
 use Rattle.air_select.proofs.Operands.{never_constant, no_sum}
 use Rattle.air_select.proofs.Plain.{child_place, copying, is_condition, site_values, takes_values}
-use Rattle.air_select.proofs.Related.{Related, kept_related, low_word}
+use Rattle.air_select.proofs.Related.{Related, kept_related}
 use Rattle.air_select.proofs.SiteForms.{constraints_counted, map_site, sums_of, tests_here}
 use Rattle.air_select.proofs.Leaving.{same_seen}
-use Rattle.air_select.proofs.Returned.{contains_at}
 use Rattle.air_select.proofs.MapCode.{pick}
-use Rattle.air_select.proofs.Sites.{all_of, all_one, all_two}
+use Rattle.air_select.proofs.Sites.{all_of}
 use Rattle.air_select.proofs.Tested.{IsTested}
+use Rattle.b3_base.specs.Observed.{Start}
+use Rattle.b3_ir.specs.Procedure.{Procedure}
+use Rattle.b3_ir.specs.declared.value.Value.{Value}
+use Rattle.stackmap.specs.Rules.{IsPlaceable}
+use Rattle.air_stackmap.specs.Laws.{has_stackmap as has_map}
 
 -- a use of a value reads a temporary or nothing
 free_by : (f : Bool) (word n : ℕ) → IsFree (if f then Imm word else At (Tmp n))
@@ -108,10 +108,10 @@ abbrev AreFree : List Operand → Type 0
 AreFree os = All (λ (o : Operand). IsFree o.arg) os
 
 free_one : (t : Tables) (id : ℕ) → AreFree (use_of t id ∷ [])
-free_one t id = all_one (λ (o : Operand). IsFree o.arg) (use_of t id) (free_use t id)
+free_one t id = All-one (λ (o : Operand). IsFree o.arg) (use_of t id) (free_use t id)
 
 free_two : (t : Tables) (a b : ℕ) → AreFree (use_of t a ∷ use_of t b ∷ [])
-free_two t a b = all_two (λ (o : Operand). IsFree o.arg) (use_of t a) (use_of t b) (free_use t a) (free_use t b)
+free_two t a b = All-two (λ (o : Operand). IsFree o.arg) (use_of t a) (use_of t b) (free_use t a) (free_use t b)
 
 abbrev IsFreeCondition : Condition → Type 0
 IsFreeCondition c = AreFree c.over
@@ -154,11 +154,11 @@ module _ (p : Procedure) (t : Tables) (start : Start) (v : Value) (h : Here p t 
       by false other = at_home h.s.homes (width_at t.index id) (home t.index id) w (h.related.words id w now (home_here id among))
       by true const =
           let ran = child_ran p h.valid h.passed h.block h.before h.st h.reached v (at p t start v h) id
-          (contains_at v.children among.at id among.there) in
+          (Contains-at v.children among.at id among.there) in
           let is = known_word p h.valid t h.sound start h.passed h.block h.before (v ∷ h.rest) h.stands h.st h.reached h.s h.related id w ran const now in
           let small = word_small p h.valid t h.sound start h.passed h.block h.before (v ∷ h.rest) h.stands h.st h.reached h.s h.related id w now in
           of_immediate h.s.homes (width_at t.index id) (known t.index id).word ∙ ap (λ n. Some (low (width_at t.index id) n)) is
-          ∙ ap Some (low_word (width_at t.index id) w small)
+          ∙ ap Some (low-same (width_at t.index id) w small)
 
   have_words : (ids ws : List ℕ) → ((id : ℕ) → Contains ids id → IsReported id) → b3.words_of (type_of p) h.st.words ids ≡ Some ws
       → HaveWords h.s.homes (map (child_of t) ids) ws
@@ -167,7 +167,7 @@ module _ (p : Procedure) (t : Tables) (start : Start) (v : Value) (h : Here p t 
   have_words (id ∷ ids) ws among e =
       let one = words_cons (type_of p) h.st.words id ids ws e in
       subst (HaveWords h.s.homes (map (child_of t) (id ∷ ids))) (sym one.2)
-      (found id one.0 (among id (contains_head id ids)) one.3, have_words ids one.1 (λ q has'. among q (contains_tail id ids q has')) one.4)
+      (found id one.0 (among id (Contains-first id ids)) one.3, have_words ids one.1 (λ q has'. among q (Contains-later id ids q has')) one.4)
 
   read_words : (ids ws : List ℕ) → b3.words_of (type_of p) h.st.words ids ≡ Some ws → map (λ (x : Read). x.1) (reads_of (map (child_of t) ids) ws) ≡ ws
   unfolding reads_of
@@ -428,9 +428,9 @@ module _ (p : Procedure) (t : Tables) (start : Start) (v : Value) (h : Here p t 
       let first : slice_get v.children 0 ≡ Some c = ap (λ (l : List ℕ). slice_get l 0) is in
       let tests = tests_here p h.valid t h.sound h.block v (here p t start v h) eo in
       let tested = subst (λ (l : List ℕ). IsTested (condition_of t (child l 0))) is tests in
-      let d = decides p t start v h c one.0 first (contains_at v.children 0 c first) one.3 (λ width word. ap (λ (q : Opcode). constant_fits q 0 width word) eo)
+      let d = decides p t start v h c one.0 first (Contains-at v.children 0 c first) one.3 (λ width word. ap (λ (q : Opcode). constant_fits q 0 width word) eo)
       (ap (λ (q : Opcode). sum_fits t.index (pointers p) q 0 v.id) eo)
-      (λ k fits. or_parts (is_comparison k.opcode) (is_bit_test t.index k)
+      (λ k fits. or_cases (is_comparison k.opcode) (is_bit_test t.index k)
       (sym (ap (λ (q : Opcode). value_fits t.index (pointers p) q 0 v.id k) eo) ∙ fits)) in
       subst (λ (l : List ℕ). DoesSome p t start v (b3.checks h.st v l)
       (steps (meaning start) (site_code v (op.CheckIf (condition_of t c).test) (condition_of t c).over (map (child_of t) cs) []) h.s junk)) (sym one.2)
@@ -471,8 +471,8 @@ module _ (p : Procedure) (t : Tables) (start : Start) (v : Value) (h : Here p t 
       let among : (id : ℕ) → Contains (c ∷ c' ∷ cs) id → Contains v.children id = λ id has'. subst (λ (l : List ℕ). Contains l id) (sym is) has' in
       let width : (id : ℕ) → type_of p id ≡ alike → width_at t.index id ≡ k =
       λ id typed. width_is p h.valid t h.sound start h.passed h.block h.before (v ∷ h.rest) h.stands h.st h.reached h.s h.related id ∙ ap width_of typed in
-      let first = child_at p t start v h plain junk h.s h.related c one.0 (among c (contains_head c (c' ∷ cs))) one.3 in
-      let second = child_at p t start v h plain junk h.s h.related c' other.0 (among c' (contains_tail c (c' ∷ cs) c' (contains_head c' cs))) other.3 in
+      let first = child_at p t start v h plain junk h.s h.related c one.0 (among c (Contains-first c (c' ∷ cs))) one.3 in
+      let second = child_at p t start v h plain junk h.s h.related c' other.0 (among c' (Contains-later c (c' ∷ cs) c' (Contains-first c' cs))) other.3 in
       let inputs : List Operand = use_of t c ∷ use_of t c' ∷ [] in
       let reads : words h.s.homes inputs ≡ Some ((k, one.0) ∷ (k, other.0) ∷ []) =
       reads_use h.s.homes (width_at t.index c) (arg_of t c) (use_of t c' ∷ []) one.0 ((width_at t.index c', other.0) ∷ []) first
@@ -483,7 +483,7 @@ module _ (p : Procedure) (t : Tables) (start : Start) (v : Value) (h : Here p t 
       (subst (λ (l : List ℕ). Sums (use_of t (child l 0) ∷ use_of t (child l 1) ∷ []) (result_of t v ∷ [])) is sums) in
       subst (λ (l : List ℕ). DoesSome p t start v (b3.checks_result h.st v kind l)
       (steps (meaning start) (site_code v o inputs (map (child_of t) cs) (result_of t v ∷ [])) h.s junk)) (sym (one.2 ∙ ap (λ (l : List ℕ). one.0 ∷ l) other.2))
-      (sum_does cs other.1 (λ id has'. all_reported none id (among id (contains_tail c (c' ∷ cs) id (contains_tail c' cs id has'))))
+      (sum_does cs other.1 (λ id has'. all_reported none id (among id (Contains-later c (c' ∷ cs) id (Contains-later c' cs id has'))))
       (subst (λ (l : List ℕ). length (drop 2 l) ≡ length (constraints_of v)) is (counts_here 2 two)) other.4
       o kind inputs one.0 other.0 k is_kind computes (free_two t c c') (ap width_of gives) reads)
 

@@ -1,11 +1,11 @@
 -- What holds of each instruction that is selected: its op is one that is selected, of arithmetic where its opcode is, and it
 -- names no spill place.
 use Rattle.std.proofs.Common.{◌≡◌, pos, ◌+◌, ℕ, zero, suc, inl, inr, Bool, true, false, ◌||◌, List, [], ◌∷◌, ◌++◌, drop, map, refl, sym, ap, ◌∙◌, ◌*◌, Some, None, subst}
-use Rattle.std.specs.Prelude.{All, if◌then◌else◌, slice_get}
-use Rattle.std.proofs.lemmas.Option.{get_or_from_slice_get, slice_get_within}
+use Rattle.std.specs.Prelude.{All, if◌then◌else◌}
 use Rattle.std.specs.List.{flat_map}
 use Rattle.std.proofs.lemmas.List.Concat.{flat_map-cons}
-use Rattle.std.proofs.lemmas.List.Elements.{All-append, All-cons, All-get_or, All-head, All-map, All-nil, All-tail, All-weaker}
+use Rattle.std.proofs.lemmas.List.Elements.{All-append, All-cons, All-head, All-map, All-nil, All-tail, All-weaker}
+use Rattle.b3_base.proofs.Lists.{All-one, All-two}
 use Rattle.b3_base.specs.declared.word.Width.{Width}
 use Rattle.b3_base.specs.declared.word.Width.TheVariants.{W32, W64}
 use Rattle.b3_ir.specs.Types.{width_of}
@@ -53,21 +53,8 @@ pub all_of : {X : Type 0} (P : X → Type 0) → ((x : X) → P x) → (xs : Lis
 all_of P each [] = All-nil P
 all_of P each (x ∷ xs) = All-cons P x xs (each x) (all_of P each xs)
 
-pub all_one : {X : Type 0} (P : X → Type 0) (x : X) → P x → All P (x ∷ [])
-all_one P x p = All-cons P x [] p (All-nil P)
-
-pub all_two : {X : Type 0} (P : X → Type 0) (a b : X) → P a → P b → All P (a ∷ b ∷ [])
-all_two P a b p q = All-cons P a (b ∷ []) p (all_one P b q)
-
 pub all_three : {X : Type 0} (P : X → Type 0) (a b c : X) → P a → P b → P c → All P (a ∷ b ∷ c ∷ [])
-all_three P a b c p q r = All-cons P a (b ∷ c ∷ []) p (all_two P b c q r)
-
-pub All-slice : {X : Type 0} (P : X → Type 0) (xs : List X) (k : ℕ) (x : X) → All P xs → slice_get xs k ≡ Some x → P x
-All-slice P xs k x all there =
-    subst P (get_or_from_slice_get xs k x x there) (All-get_or P xs k x (slice_get_within xs k x there) all)
-
-not_both : false ≡ true → ⊥
-not_both e = cc
+all_three P a b c p q r = All-cons P a (b ∷ c ∷ []) p (All-two P b c q r)
 
 -- what holds of the instructions of each value and of each entry holds of all
 module _ (P : AirInst → Type 0) (values : (t : Tables) (v : Value) → All P (value_code t v))
@@ -124,7 +111,7 @@ abbrev pub IsLowCondition : Condition → Type 0
 IsLowCondition c = All IsLow c.over
 
 one_low : (t : Tables) (id : ℕ) → All IsLow (use_of t id ∷ [])
-one_low t id = all_one IsLow (use_of t id) (use_low t id)
+one_low t id = All-one IsLow (use_of t id) (use_low t id)
 
 folded_low : (t : Tables) (id : ℕ) → IsLowCondition (folded_condition t id)
 folded_low t id =
@@ -184,7 +171,7 @@ one : (value : ℕ) (op : AirOp) (os : List Operand) → is_arithmetic op ≡ tr
 one value op os is low = record { arithmetic = is; traps = refl; low = low }
 
 only : (i : AirInst) → IsPlain i → All IsPlain (i ∷ [])
-only i p = all_one IsPlain i p
+only i p = All-one IsPlain i p
 
 one_op_plain : (o : Opcode) → is_arithmetic (op_of o) ≡ true
 one_op_plain opcode.Add = refl
@@ -193,7 +180,7 @@ one_op_plain _ = refl
 
 -- two and three operands
 low_two : (a b : Operand) → IsLow a → IsLow b → All IsLow (a ∷ b ∷ [])
-low_two a b p q = All-cons IsLow a (b ∷ []) p (all_one IsLow b q)
+low_two a b p q = All-cons IsLow a (b ∷ []) p (All-one IsLow b q)
 
 low_three : (a b c : Operand) → IsLow a → IsLow b → IsLow c → All IsLow (a ∷ b ∷ c ∷ [])
 low_three a b c p q r = All-cons IsLow a (b ∷ c ∷ []) p (low_two b c q r)
@@ -209,7 +196,7 @@ module _ (t : Tables) (v : Value) where
   computes_plain op is =
       only (inst v op (map (use_of t) v.children ++ result_of t v ∷ []))
       (one v.id op (map (use_of t) v.children ++ result_of t v ∷ []) is
-      (All-append IsLow (map (use_of t) v.children) (result_of t v ∷ []) (uses_low t v.children) (all_one IsLow (result_of t v) tt)))
+      (All-append IsLow (map (use_of t) v.children) (result_of t v ∷ []) (uses_low t v.children) (All-one IsLow (result_of t v) tt)))
 
   quotient_plain : (op : AirOp) → is_arithmetic op ≡ true → IsPlain (quotient_of t v op)
   quotient_plain op is =
@@ -235,7 +222,7 @@ module _ (t : Tables) (v : Value) where
       all_three IsPlain (quotient_of t v op) (rest_into t v (second_extra t.index v.id)) (chosen_rest t v)
       (quotient_plain op is) (rest_plain (3 * place t.index v.id + 2)) chosen_plain
   remainder_plain op is false =
-      all_two IsPlain (quotient_of t v op) (rest_into t v (home t.index v.id)) (quotient_plain op is) (rest_plain (3 * place t.index v.id))
+      All-two IsPlain (quotient_of t v op) (rest_into t v (home t.index v.id)) (quotient_plain op is) (rest_plain (3 * place t.index v.id))
 
   rotate_plain : (amount : Arg) → SpillsBelow 0 amount → IsPlain (rotate_by t v amount)
   rotate_plain amount low =
@@ -249,7 +236,7 @@ module _ (t : Tables) (v : Value) where
       let amount : Arg = Imm (turned (width_of v.ty) (known t.index (child v.children 1)).word) in
       only (rotate_by t v amount) (rotate_plain amount tt)
   rotate_left_plain false =
-      all_two IsPlain (negative_amount t v) (rotate_by t v (At (first_extra t.index v.id)))
+      All-two IsPlain (negative_amount t v) (rotate_by t v (At (first_extra t.index v.id)))
       (one v.id op.Neg (negative_amount t v).operands refl
       (low_two (use_of t (child v.children 1)) (def_at W32 (first_extra t.index v.id)) (use_low t (child v.children 1)) tt))
       (rotate_plain (At (first_extra t.index v.id)) tt)
@@ -262,10 +249,10 @@ module _ (t : Tables) (v : Value) where
   return_plain : (cs : List ℕ) → All IsPlain (return_of t v cs)
   return_plain [] = only _ (one v.id op.Return [] refl (All-nil IsLow))
   return_plain (c ∷ cs) =
-      all_two IsPlain (move v (width_at t.index c) (arg_of t c) (register 0)) (inst v op.Return (use_at (width_at t.index c) (At (register 0)) ∷ []))
+      All-two IsPlain (move v (width_at t.index c) (arg_of t c) (register 0)) (inst v op.Return (use_at (width_at t.index c) (At (register 0)) ∷ []))
       (one v.id op.Move (move v (width_at t.index c) (arg_of t c) (register 0)).operands refl
       (low_two (use_at (width_at t.index c) (arg_of t c)) (def_at (width_at t.index c) (register 0)) (arg_low t c (width_at t.index c)) tt))
-      (one v.id op.Return (use_at (width_at t.index c) (At (register 0)) ∷ []) refl (all_one IsLow (use_at (width_at t.index c) (At (register 0))) tt))
+      (one v.id op.Return (use_at (width_at t.index c) (At (register 0)) ∷ []) refl (All-one IsLow (use_at (width_at t.index c) (At (register 0))) tt))
 
   copy_plain : (width : Width) (from : Arg) (to : ℕ) → SpillsBelow 0 from → All IsPlain (copy_of v (width, from, Tmp to) ∷ [])
   copy_plain width from to low = only _ (one v.id op.Move _ refl (low_two (use_at width from) _ low tt))
@@ -317,7 +304,7 @@ module _ (t : Tables) (v : Value) where
   pub before_plain : (pointer bytes : ℕ) → All IsPlain (before_access t v pointer bytes)
   before_plain pointer bytes =
       pick (All IsPlain) (folds t pointer || is_offset bytes (offset_in v.body)) [] (far_sum t v pointer) (All-nil IsPlain)
-      (all_two IsPlain _ _
+      (All-two IsPlain _ _
       (one v.id op.Move _ refl (low_two (use_at W64 (Imm _)) (def_at W64 (first_extra t.index v.id)) tt tt))
       (one v.id op.Add _ refl (low_three (use_of t pointer) (use_at W64 (At (first_extra t.index v.id))) (def_at W64 (second_extra t.index v.id))
       (use_low t pointer) tt tt)))
@@ -343,7 +330,7 @@ module _ (t : Tables) (v : Value) where
       let bytes = extent_bytes extent width in
       All-append IsFine (before_access t v pointer bytes) _
       (All-weaker IsPlain IsFine plain_fine (before_access t v pointer bytes) (before_plain pointer bytes))
-      (all_one IsFine _ (record {
+      (All-one IsFine _ (record {
         selected = is;
         low = low_two (use_at width (address_of t v pointer bytes)) (result_of t v) (address_low width pointer bytes) tt;
       }))
@@ -356,7 +343,7 @@ module _ (t : Tables) (v : Value) where
       let bytes = extent_bytes extent width in
       All-append IsFine (before_access t v pointer bytes) _
       (All-weaker IsPlain IsFine plain_fine (before_access t v pointer bytes) (before_plain pointer bytes))
-      (all_one IsFine _ (record {
+      (All-one IsFine _ (record {
         selected = is;
         low = low_two (use_of t from) (use_at width (address_of t v pointer bytes)) (use_low t from) (address_low width pointer bytes);
       }))
@@ -428,9 +415,9 @@ module _ (t : Tables) (v : Value) where
   weakly o e = All-weaker IsPlain IsFine plain_fine (code_of t o v) (code_plain o e)
 
   code_fine : (o : Opcode) → All IsFine (code_of t o v)
-  code_fine opcode.FramePointer = all_one IsFine _ (record { selected = refl; low = all_one IsLow (result_of t v) tt })
+  code_fine opcode.FramePointer = All-one IsFine _ (record { selected = refl; low = All-one IsLow (result_of t v) tt })
   code_fine opcode.SlotBase =
-      all_one IsFine _ (record { selected = refl; low = low_two (use_at W64 (FrameSlot (slot_in v.body))) (result_of t v) tt tt })
+      All-one IsFine _ (record { selected = refl; low = low_two (use_at W64 (FrameSlot (slot_in v.body))) (result_of t v) tt tt })
   code_fine opcode.Load8Z = load_fine op.Load8Z Byte refl
   code_fine opcode.Load8S = load_fine op.Load8S Byte refl
   code_fine opcode.Load16Z = load_fine op.Load16Z Half refl

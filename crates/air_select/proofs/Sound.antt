@@ -4,18 +4,19 @@ use Rattle.std.specs.Prelude.{Contains, not, slice_get, slice_index_or}
 use Rattle.std.specs.List.{flat_map, list_all}
 use Rattle.std.specs.Option.{option_map}
 use Rattle.std.proofs.Math.ListN.{get_or-eq_default}
-use Rattle.std.proofs.lemmas.Bool.{cases_lt, eqb-true}
+use Rattle.std.proofs.lemmas.Bool.{cases_lt, eqb-true, or_cases}
 use Rattle.std.proofs.lemmas.Bool.Decides.{eqb_tells}
 use Rattle.std.proofs.lemmas.List.{length-map}
 use Rattle.std.proofs.lemmas.List.Elements.{Contains-append_left, Contains-append_right}
-use Rattle.std.proofs.lemmas.Option.{get_or_from_slice_get, slice_get-get_or, slice_get-map, slice_get_within}
+use Rattle.std.proofs.lemmas.Option.{get_or_from_slice_get, slice_get-map, slice_get_within}
+use Rattle.b3_base.proofs.Lists.{Contains-none, Contains-first, Contains-later, Contains-cases, place_of}
+use Rattle.b3_base.proofs.Booleans.{and_first, and_second}
 use Rattle.b3_ir.specs.Naming.{all_values, type_of, type_or_void, value_named}
 use Rattle.b3_ir.specs.Procedure.{Block, Procedure, place_among, values_of}
 use Rattle.b3_ir.specs.declared.opcode.Opcode.{Opcode}
 use Rattle.b3_ir.specs.declared.opcode.Opcode.TheVariants as opcode
 use Rattle.b3_ir.specs.declared.value.Value.{Value}
 use Rattle.b3_rules.specs.Valid.{IsValidProcedure}
-use Rattle.b3_sound.proofs.Lists.{contains_cases, contains_head, contains_none, contains_tail}
 use Rattle.air_fold.specs.Foldable.{Use, access_bytes, first_fits, fits, fits_as, is_add, is_bit_test, is_comparison, is_constant, is_foldable, is_folded_by, is_index, is_pointer, is_shl, is_three, pointer_of, pointers, reaches, second_fits, uses, uses_by, uses_from, uses_in, uses_of, value_fits}
 use Rattle.air_select.specs.Selected.{folds, tables}
 use Rattle.air_fold.specs.Values.{Index, ids_of, index_of, known, known_from, known_in, unknown}
@@ -25,23 +26,7 @@ use Rattle.air_select.proofs.Setting.{IsKind, IsSound}
 
 -- ---- tests
 
-pub both_first : (a b : Bool) → (a && b) ≡ true → a ≡ true
-both_first true b e = refl
-both_first false b e = e
-
-pub both_second : (a b : Bool) → (a && b) ≡ true → b ≡ true
-both_second true b e = e
-both_second false b e = absurd cc
-
-one_of : (a b : Bool) → (a || b) ≡ true → (a ≡ true) ⊎ (b ≡ true)
-one_of true b e = inl refl
-one_of false b e = inr e
-
 -- ---- places
-
--- an item that a list has stands somewhere in it
-pub stands : (vs : List Value) (v : Value) → Contains vs v → (j : ℕ) × (slice_get vs j ≡ Some v)
-stands vs v has = (has.0, slice_get-get_or vs has.0 v has.1 ∙ ap Some has.2)
 
 named_below : (p : Procedure) (id : ℕ) (v : Value) → value_named p id ≡ Some v → place_among (ids_of p) id < length (ids_of p)
 named_below p id v e =
@@ -94,26 +79,26 @@ use_by block user op at (c ∷ children) zero id e =
     let as_it_is : u ≡ record { id = id; block = block; user = user; opcode = op; at = at + 0 } =
     ap (λ n. record { id = n; block = block; user = user; opcode = op; at = at }) same
     ∙ ap (λ n. record { id = id; block = block; user = user; opcode = op; at = n }) here in
-    subst (λ (w : Use). Contains (u ∷ rest) w) as_it_is (contains_head u rest)
+    subst (λ (w : Use). Contains (u ∷ rest) w) as_it_is (Contains-first u rest)
 use_by block user op at (c ∷ children) (suc i) id e =
     let next : suc at + i ≡ at + suc i = omega arith in
-    contains_tail (record { id = c; block = block; user = user; opcode = op; at = at }) (uses_from block user op (suc at) children)
+    Contains-later (record { id = c; block = block; user = user; opcode = op; at = at }) (uses_from block user op (suc at) children)
     (record { id = id; block = block; user = user; opcode = op; at = at + suc i })
     (subst (λ n. Contains (uses_from block user op (suc at) children) (record { id = id; block = block; user = user; opcode = op; at = n })) next
     (use_by block user op (suc at) children i id e))
 
 use_in_block : (block : ℕ) (vs : List Value) (v : Value) (u : Use) → Contains vs v → Contains (uses_by block v) u → Contains (flat_map (uses_by block) vs) u
-use_in_block block [] v u has is = absurd (contains_none v has)
+use_in_block block [] v u has is = absurd (Contains-none v has)
 use_in_block block (w ∷ vs) v u has is =
     ⊎_elim
     (λ (same : w ≡ v). Contains-append_left (uses_by block w) (flat_map (uses_by block) vs) u
     (subst (λ (x : Value). Contains (uses_by block x) u) (sym same) is))
     (λ (more : Contains vs v). Contains-append_right (uses_by block w) (flat_map (uses_by block) vs) u (use_in_block block vs v u more is))
-    (contains_cases w vs v has)
+    (Contains-cases w vs v has)
 
 use_in : (n : ℕ) (blocks : List Block) (b : ℕ) (v : Value) (u : Use) → Contains (values_in blocks b) v → Contains (uses_by (n + b) v) u
     → Contains (uses_in n blocks) u
-use_in n [] b v u has is = absurd (contains_none v has)
+use_in n [] b v u has is = absurd (Contains-none v has)
 use_in n (x ∷ blocks) zero v u has is =
     let here : n + 0 ≡ n = omega arith in
     Contains-append_left (flat_map (uses_by n) x.values) (uses_in (suc n) blocks) u
@@ -125,21 +110,21 @@ use_in n (x ∷ blocks) (suc b) v u has is =
 
 -- each use of a value whose uses all pass a test passes it
 each_passes : (test : Use → Bool) (us : List Use) (id : ℕ) (u : Use) → list_all test (uses_of us id) ≡ true → Contains us u → u.id ≡ id → test u ≡ true
-each_passes test [] id u all has is = absurd (contains_none u has)
+each_passes test [] id u all has is = absurd (Contains-none u has)
 each_passes test (w ∷ us) id u all has is =
     ⊎_elim
     (λ (yes : (nat_eq w.id id ≡ true) × (w.id ≡ id)).
     let now : (test w && list_all test (uses_of us id)) ≡ true = rw yes.0 at all in
     ⊎_elim
-    (λ (same : w ≡ u). ap test (sym same) ∙ both_first (test w) (list_all test (uses_of us id)) now)
-    (λ (more : Contains us u). each_passes test us id u (both_second (test w) (list_all test (uses_of us id)) now) more is)
-    (contains_cases w us u has))
+    (λ (same : w ≡ u). ap test (sym same) ∙ and_first (test w) (list_all test (uses_of us id)) now)
+    (λ (more : Contains us u). each_passes test us id u (and_second (test w) (list_all test (uses_of us id)) now) more is)
+    (Contains-cases w us u has))
     (λ (no : (nat_eq w.id id ≡ false) × (w.id ≢ id)).
     let now : list_all test (uses_of us id) ≡ true = rw no.0 at all in
     ⊎_elim
     (λ (same : w ≡ u). absurd (no.1 (ap (λ (x : Use). x.id) same ∙ is)))
     (λ (more : Contains us u). each_passes test us id u now more is)
-    (contains_cases w us u has))
+    (Contains-cases w us u has))
     (eqb_tells w.id id)
 
 -- the uses of a value are of its id
@@ -157,11 +142,11 @@ its_id (w ∷ us) id u rest e =
 -- what fits as a pointer is a sum
 pointer_kind : (x : Index) (user : ℕ) (op : Opcode) (is_word : Bool) (k : Known) → pointer_of x user op is_word k ≡ true → IsKind x k
 pointer_kind x user op is_word k e =
-    inr (inr (inr (inl (both_first (is_add k.opcode) (reaches (access_bytes x op (known x user)) is_word (known x user).offset (known x k.second)) e))))
+    inr (inr (inr (inl (and_first (is_add k.opcode) (reaches (access_bytes x op (known x user)) is_word (known x user).offset (known x k.second)) e))))
 
 -- and what fits as a condition is a comparison or a test of a bit
 condition_kind : (x : Index) (k : Known) → (is_comparison k.opcode || is_bit_test x k) ≡ true → IsKind x k
-condition_kind x k e = elim (one_of (is_comparison k.opcode) (is_bit_test x k) e) [
+condition_kind x k e = elim (or_cases (is_comparison k.opcode) (is_bit_test x k) e) [
   | inl comparison ↦ inr (inl comparison)
   | inr bit ↦ inr (inr (inl bit))
 ]
@@ -182,8 +167,8 @@ second_kind x f opcode.Store8 user k e = pointer_kind x user opcode.Store8 false
 second_kind x f opcode.Store16 user k e = pointer_kind x user opcode.Store16 false k e
 second_kind x f opcode.Store user k e = pointer_kind x user opcode.Store true k e
 second_kind x f opcode.Add user k e =
-    inr (inr (inr (inr (both_first (is_shl k.opcode) (is_three (known x k.second) && not (is_constant (known x k.first).opcode))
-    (both_second (is_pointer x f user) (is_index x k) e)))))
+    inr (inr (inr (inr (and_first (is_shl k.opcode) (is_three (known x k.second) && not (is_constant (known x k.first).opcode))
+    (and_second (is_pointer x f user) (is_index x k) e)))))
 second_kind x f _ user k e = absurd cc
 
 pub value_kind : (x : Index) (f : List Bool) (op : Opcode) (at user : ℕ) (k : Known) → value_fits x f op at user k ≡ true → IsKind x k
@@ -199,7 +184,7 @@ kind_of_fit x f k u e = by (is_constant k.opcode) refl
     by true is = inl is
     by false is =
         let now : (nat_eq u.block k.block && value_fits x f u.opcode u.at u.user k) ≡ true = rw is at e in
-        value_kind x f u.opcode u.at u.user k (both_second (nat_eq u.block k.block) (value_fits x f u.opcode u.at u.user k) now)
+        value_kind x f u.opcode u.at u.user k (and_second (nat_eq u.block k.block) (value_fits x f u.opcode u.at u.user k) now)
 
 one_use : (us : List Use) → length us ≡ 1 → (u : Use) × (us ≡ u ∷ [])
 one_use [] e = absurd (omega arith)
@@ -210,8 +195,8 @@ one_use (u ∷ w ∷ us) e = absurd (omega arith)
 pub foldable_kind : (x : Index) (f : List Bool) (us : List Use) (id : ℕ) (k : Known) → known x id ≡ k → is_folded_by x f us id ≡ true → IsKind x k
 foldable_kind x f us id k is_k e =
     let mine = uses_of us id in
-    let all = both_first (list_all (fits x f) mine) (is_constant (known x id).opcode || nat_eq (length mine) 1) e in
-    let kind = both_second (list_all (fits x f) mine) (is_constant (known x id).opcode || nat_eq (length mine) 1) e in
+    let all = and_first (list_all (fits x f) mine) (is_constant (known x id).opcode || nat_eq (length mine) 1) e in
+    let kind = and_second (list_all (fits x f) mine) (is_constant (known x id).opcode || nat_eq (length mine) 1) e in
     ⊎_elim
     (λ (constant : is_constant (known x id).opcode ≡ true). inl (ap (λ (w : Known). is_constant w.opcode) (sym is_k) ∙ constant))
     (λ (one : nat_eq (length mine) 1 ≡ true).
@@ -220,9 +205,9 @@ foldable_kind x f us id k is_k e =
     let pass : (fits x f u && true) ≡ true = subst (λ l. list_all (fits x f) l ≡ true) single.1 all in
     let id_is : u.id ≡ id = its_id us id u [] single.1 in
     let fit : fits_as x f k u ≡ true =
-    sym (ap (λ n. fits_as x f (known x n) u) id_is ∙ ap (λ w. fits_as x f w u) is_k) ∙ both_first (fits x f u) true pass in
+    sym (ap (λ n. fits_as x f (known x n) u) id_is ∙ ap (λ w. fits_as x f w u) is_k) ∙ and_first (fits x f u) true pass in
     kind_of_fit x f k u fit)
-    (one_of (is_constant (known x id).opcode) (nat_eq (length mine) 1) kind)
+    (or_cases (is_constant (known x id).opcode) (nat_eq (length mine) 1) kind)
 
 -- ---- which sums are pointers
 
@@ -293,7 +278,7 @@ sound p valid = record {
   is_known = known_as;
   types = type_is p;
   pointer = λ b v has add.
-      let at = stands (values_of p b) v has in
+      let at = place_of (values_of p b) v has in
       let below : place_among (ids_of p) v.id < length (ids_of p) =
       omega (
         arith,
@@ -313,7 +298,7 @@ sound p valid = record {
       (subst (λ n. Contains (uses_by b v) (record { id = id; block = b; user = v.id; opcode = v.kind.opcode; at = n })) (zero_less i)
       (use_by b v.id v.kind.opcode 0 v.children i id e))) in
       each_passes (fits (index_of p) (pointers p)) (uses p) id u
-      (both_first (list_all (fits (index_of p) (pointers p)) (uses_of (uses p) id))
+      (and_first (list_all (fits (index_of p) (pointers p)) (uses_of (uses p) id))
       (is_constant (known (index_of p) id).opcode || nat_eq (length (uses_of (uses p) id)) 1) all) there refl;
   kinds = λ b v has folded. foldable_kind (index_of p) (pointers p) (uses p) v.id (known_in b v) (known_as b v has) (foldable p v.id folded);
 }
@@ -325,4 +310,4 @@ sound p valid = record {
     zero_less n = omega arith
 
     known_as : (b : ℕ) (v : Value) → Contains (values_of p b) v → known (index_of p) v.id ≡ known_in b v
-    known_as b v has = let at = stands (values_of p b) v has in known_is p valid b at.0 v at.1
+    known_as b v has = let at = place_of (values_of p b) v has in known_is p valid b at.0 v at.1

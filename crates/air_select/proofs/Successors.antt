@@ -6,6 +6,7 @@ use Rattle.std.proofs.Math.ListN.{get_or-eq_default}
 use Rattle.std.proofs.lemmas.Bool.{cases_lt}
 use Rattle.std.proofs.lemmas.List.{append-nil}
 use Rattle.std.proofs.lemmas.List.Elements.{All-contains, All-get_or}
+use Rattle.b3_base.proofs.Lists.{Contains-none, Contains-first, Contains-later}
 use Rattle.b3_ir.specs.Fits.{Fits, IsBody}
 use Rattle.b3_ir.specs.Procedure.{AllFit, Block, Procedure, no_block, values_of}
 use Rattle.b3_ir.specs.Table.{is_terminal, row_of}
@@ -19,7 +20,6 @@ use Rattle.b3_ir.specs.declared.value.Body.TheVariants.{Cases, Targets}
 use Rattle.b3_ir.specs.declared.value.Value.{Value}
 use Rattle.b3_rules.specs.Paths.{successors_in}
 use Rattle.b3_sound.proofs.Kept.{EndsBlock}
-use Rattle.b3_sound.proofs.Lists.{contains_head, contains_none, contains_tail}
 use Rattle.air_select.specs.Selected.{targets_of}
 
 -- whether a body of these names blocks
@@ -65,7 +65,7 @@ in_block P blocks all b v has =
       | inl lt ↦ All-contains P (slice_index_or blocks b no_block).values v (All-get_or (λ (x : Block). All P x.values) blocks b no_block lt all) has
       | inr past ↦
           let none : (slice_index_or blocks b no_block).values ≡ [] = ap (λ (x : Block). x.values) (get_or-eq_default blocks no_block past) in
-          absurd (contains_none v (subst (λ (l : List Value). Contains l v) none has))
+          absurd (Contains-none v (subst (λ (l : List Value). Contains l v) none has))
     ]
 
 pub names_none : (p : Procedure) → AllFit p.blocks → (b : ℕ) (v : Value) → Contains (values_of p b) v → is_terminal v.kind.opcode ≡ false
@@ -73,18 +73,3 @@ pub names_none : (p : Procedure) → AllFit p.blocks → (b : ℕ) (v : Value) �
 names_none p fit b v has e =
     let fits : Fits v = in_block Fits p.blocks fit b v has in
     names_no_block (row_of v.kind.opcode).carries v.ty _ v.body (inner_carries v.kind.opcode e) fits.body
-
--- the targets of a block are those of its last value
-targets_last : (vs : List Value) → EndsBlock vs → ((v : Value) → Contains vs v → is_terminal v.kind.opcode ≡ false → successors_in v.body ≡ [])
-    → (inner : List Value) × (last : Value) × (vs ≡ inner ++ last ∷ []) × (is_terminal last.kind.opcode ≡ true) × (flat_map targets_of vs ≡ targets_of last)
-targets_last [] ends none = absurd ends
-targets_last (v ∷ []) ends none = ([], v, refl, ends, append-nil (targets_of v))
-targets_last (v ∷ w ∷ vs) ends none =
-    let more = targets_last (w ∷ vs) ends.1 (λ u has. none u (contains_tail v (w ∷ vs) u has)) in
-    let own : targets_of v ≡ [] = ap (map (λ b. b + 1)) (none v (contains_head v (w ∷ vs)) ends.0) in
-    (v ∷ more.0, more.1, ap (λ l. v ∷ l) more.2, more.3, ap (λ l. l ++ flat_map targets_of (w ∷ vs)) own ∙ more.4)
-
-pub block_targets : (p : Procedure) → AllFit p.blocks → (b : ℕ) → EndsBlock (values_of p b)
-    → (inner : List Value) × (last : Value) × (values_of p b ≡ inner ++ last ∷ [])
-    × (is_terminal last.kind.opcode ≡ true) × (flat_map targets_of (values_of p b) ≡ targets_of last)
-block_targets p fit b ends = targets_last (values_of p b) ends (names_none p fit b)

@@ -1,12 +1,13 @@
 -- A condition is over the operands that its test takes.
-use Rattle.std.proofs.Common.{◌≡◌, ◌≢◌, ℕ, ◌^◌, ◌<◌, ◌≤◌, ◌⊎◌, inl, inr, Bool, true, false, ◌&&◌, List, [], ◌∷◌, Some, refl, sym, ap, ◌∙◌, subst, ⊎_elim, arith}
+use Rattle.std.proofs.Common.{◌≡◌, ◌≢◌, ℕ, ◌^◌, ◌<◌, ◌≤◌, ◌⊎◌, inl, inr, Bool, true, false, ◌&&◌, List, [], ◌∷◌, refl, sym, ap, ◌∙◌, subst, ⊎_elim, arith, Some}
 use Rattle.std.specs.Prelude.{Contains, if◌then◌else◌, slice_get}
-use Rattle.std.proofs.lemmas.Bool.{cases_lt, eqb-true}
+use Rattle.std.proofs.lemmas.Bool.{cases_lt, eqb-true, and_parts}
 use Rattle.std.proofs.Math.Pow.{pow_mono}
+use Rattle.b3_base.proofs.Lists.{Contains-at}
 use Rattle.b3_base.specs.Word.{bits}
 use Rattle.b3_base.specs.declared.word.Width.{Width}
 use Rattle.b3_ir.specs.Naming.{all_values, type_of, value_named}
-use Rattle.b3_ir.specs.Procedure.{Procedure, values_of}
+use Rattle.b3_ir.specs.Procedure.{values_of, Procedure}
 use Rattle.b3_ir.specs.Types.{AllowsTypes, AreTaken, width_of}
 use Rattle.b3_ir.specs.declared.opcode.Opcode.{Opcode}
 use Rattle.b3_ir.specs.declared.opcode.Opcode.TheVariants as opcode
@@ -18,20 +19,20 @@ use Rattle.b3_ir.specs.declared.value.Value.{Value}
 use Rattle.b3_ir.proofs.Typing.{allowed}
 use Rattle.b3_rules.specs.Rules.{types_of}
 use Rattle.b3_sound.proofs.Distinct.{stands}
-use Rattle.b3_sound.proofs.Kept.{IsKept}
 use Rattle.air_ir.specs.Forms.{AllFit, Immediates, Fits, NoImmediate, OfSum, IsHome, IsWord, Word, BitOf, test_takes}
 use Rattle.air_ir.specs.declared.op.Test.TheVariants.{Bit, Compare, NonZero}
 use Rattle.air_ir.specs.declared.operand.Arg.TheVariants.{At, Imm}
 use Rattle.air_fold.specs.Foldable.{first_immediates, bit_of, constant_fits, is_and, is_bit, is_bit_test, is_comparison, is_constant, pointers, second_immediates, sum_fits, value_fits}
-use Rattle.air_select.specs.Selected.{Condition, Tables, condition, condition_of, folded_condition, folds, use_of}
+use Rattle.air_select.specs.Selected.{Condition, condition, condition_of, folded_condition, folds, use_of, Tables}
 use Rattle.air_select.specs.Temporaries.{home}
 use Rattle.air_fold.specs.Values.{Index, child, known, known_in, width_at}
 use Rattle.air_fold.specs.declared.known.Known.{Known}
 use Rattle.air_select.proofs.Children.{fit_cases}
 use Rattle.air_select.proofs.Forms.{child_as, fit_one, fit_two}
 use Rattle.air_select.proofs.Operands.{constant_small, two_of}
-use Rattle.air_select.proofs.Returned.{contains_at, id_found, named_of, stands_somewhere}
+use Rattle.air_select.proofs.Returned.{id_found, named_of, stands_somewhere}
 use Rattle.air_select.proofs.Plain.{no_value, takes_values}
+use Rattle.b3_sound.proofs.Kept.{IsKept}
 use Rattle.air_select.proofs.Setting.{IsSound}
 
 -- a condition is over what its test takes at a width
@@ -130,11 +131,6 @@ comparison_immediates opcode.AboveEqual e = refl
 comparison_immediates opcode.BelowEqual e = refl
 comparison_immediates _ e = absurd cc
 
-both : (a b : Bool) → (a && b) ≡ true → (a ≡ true) × (b ≡ true)
-both true true e = (refl, refl)
-both true false e = absurd cc
-both false b e = absurd cc
-
 -- ---- bits
 low_bit : (n m : ℕ) → 2 ^ n < 2 ^ m → n < m
 low_bit n m lt = ⊎_elim (λ less. less) (λ ge. absurd (let up : 2 ^ m ≤ 2 ^ n = pow_mono ge in omega (arith, lt, up))) (cases_lt n m)
@@ -154,7 +150,7 @@ module _ (p : Procedure) (kept : IsKept p) (t : Tables) (sound : IsSound p t) wh
       let w = named.0 in
       let found = id_found c (all_values p) w named.1 in
       let at = stands_somewhere p w found.0 in
-      let in_b : Contains (values_of p at.0) w = contains_at (values_of p at.0) at.1 w at.2 in
+      let in_b : Contains (values_of p at.0) w = Contains-at (values_of p at.0) at.1 w at.2 in
       let st = stands p at.0 w in_b in
       record {
         value = w;
@@ -218,8 +214,8 @@ module _ (p : Procedure) (kept : IsKept p) (t : Tables) (sound : IsSound p t) wh
       → IsTested (record { test = Bit (bit_of (known t.index (known t.index c).second).word); over = use_of t (known t.index c).first ∷ [] })
   bit_tested c pair is =
       let k = known t.index c in
-      let parts = both (is_and k.opcode) (is_constant (known t.index k.second).opcode && is_bit (known t.index k.second).word) is in
-      let more = both (is_constant (known t.index k.second).opcode) (is_bit (known t.index k.second).word) parts.1 in
+      let parts = and_parts (is_and k.opcode) (is_constant (known t.index k.second).opcode && is_bit (known t.index k.second).word) is in
+      let more = and_parts (is_constant (known t.index k.second).opcode) (is_bit (known t.index k.second).word) parts.1 in
       let small = constant_small p kept t sound k.second pair.second_typed more.0 in
       let power : 2 ^ bit_of (known t.index k.second).word ≡ (known t.index k.second).word = eqb-true _ _ more.1 in
       let lt : 2 ^ bit_of (known t.index k.second).word < 2 ^ bits pair.width =
@@ -237,7 +233,7 @@ module _ (p : Procedure) (kept : IsKept p) (t : Tables) (sound : IsSound p t) wh
     Allows = (k : Known) → value_fits t.index (pointers p) v.kind.opcode 0 v.id k ≡ true → (is_comparison k.opcode ≡ true) ⊎ (is_bit_test t.index k ≡ true)
 
     bit_and_is : (k : Known) → is_bit_test t.index k ≡ true → is_and k.opcode ≡ true
-    bit_and_is k e = (both (is_and k.opcode) (is_constant (known t.index k.second).opcode && is_bit (known t.index k.second).word) e).0
+    bit_and_is k e = (and_parts (is_and k.opcode) (is_constant (known t.index k.second).opcode && is_bit (known t.index k.second).word) e).0
 
     no_comparison : (o : Opcode) → is_and o ≡ true → is_comparison o ≡ false
     no_comparison opcode.BitAnd e = refl

@@ -2,6 +2,7 @@
 use Rattle.std.proofs.Common.{◌≡◌, ℕ, true, false, List, [], refl}
 use Rattle.std.specs.Prelude.{All}
 use Rattle.std.proofs.lemmas.List.Elements.{All-append, All-nil, All-weaker}
+use Rattle.b3_base.proofs.Lists.{All-one}
 use Rattle.b3_ir.specs.Procedure.{Procedure}
 use Rattle.b3_ir.specs.Types.{width_of}
 use Rattle.b3_ir.specs.declared.opcode.Opcode.{Opcode}
@@ -20,7 +21,7 @@ use Rattle.air_stackmap.specs.Laws.{has_stackmap as has_map}
 use Rattle.air_select.specs.Sited.{touches}
 use Rattle.air_select.proofs.CallCode.{call_all}
 use Rattle.air_select.proofs.MapCode.{map_code_all, pick}
-use Rattle.air_select.proofs.Sites.{IsPlain, all_one, before_plain, code_plain, entry_plain, selected_when}
+use Rattle.air_select.proofs.Sites.{IsPlain, before_plain, code_plain, entry_plain, selected_when}
 
 abbrev IsCalm : AirInst → Type 0
 IsCalm i = i.traps ≡ false
@@ -39,13 +40,13 @@ module _ (t : Tables) (v : Value) (calm : DoesNotTrap v) where
   load_calm air_op extent =
       let pointer = child v.children 0 in
       let bytes = extent_bytes extent (width_of v.ty) in
-      All-append IsCalm (before_access t v pointer bytes) _ (before_calm pointer bytes) (all_one IsCalm _ calm)
+      All-append IsCalm (before_access t v pointer bytes) _ (before_calm pointer bytes) (All-one IsCalm _ calm)
 
   store_calm : (air_op : AirOp) (extent : Extent) → All IsCalm (store_of t v air_op extent)
   store_calm air_op extent =
       let pointer = child v.children 1 in
       let bytes = extent_bytes extent (width_at t.index (child v.children 0)) in
-      All-append IsCalm (before_access t v pointer bytes) _ (before_calm pointer bytes) (all_one IsCalm _ calm)
+      All-append IsCalm (before_access t v pointer bytes) _ (before_calm pointer bytes) (All-one IsCalm _ calm)
 
   weakly : (o : Opcode) → touches o ≡ false → All IsCalm (code_of t o v)
   weakly o e = All-weaker IsPlain IsCalm plain_calm (code_of t o v) (code_plain t v o e)
@@ -54,8 +55,8 @@ module _ (t : Tables) (v : Value) (calm : DoesNotTrap v) where
   map_calm o e = map_code_all t v IsCalm (λ c reg is. refl) (λ reg. refl) (λ air inputs results n has ins outs. refl) o e
 
   code_calm : (o : Opcode) → All IsCalm (code_of t o v)
-  code_calm opcode.FramePointer = all_one IsCalm _ refl
-  code_calm opcode.SlotBase = all_one IsCalm _ refl
+  code_calm opcode.FramePointer = All-one IsCalm _ refl
+  code_calm opcode.SlotBase = All-one IsCalm _ refl
   code_calm opcode.Load8Z = load_calm op.Load8Z Byte
   code_calm opcode.Load8S = load_calm op.Load8S Byte
   code_calm opcode.Load16Z = load_calm op.Load16Z Half

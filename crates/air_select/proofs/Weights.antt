@@ -7,6 +7,7 @@ use Rattle.std.proofs.lemmas.List.{length-map}
 use Rattle.std.proofs.lemmas.List.Concat.{flat_map-cons, length-flat_map}
 use Rattle.std.proofs.lemmas.List.Elements.{All-append, All-cons, All-head, All-map, All-nil, All-tail}
 use Rattle.std.proofs.lemmas.List.Sums.{sum_by-append, sum_by-cons}
+use Rattle.b3_base.proofs.Lists.{All-one, All-two}
 use Rattle.b3_base.specs.declared.word.Width.{Width}
 use Rattle.b3_base.specs.declared.word.Width.TheVariants.{W32, W64}
 use Rattle.b3_ir.specs.Naming.{all_values}
@@ -42,7 +43,7 @@ use Rattle.air_fold.specs.Values.{Index, child, known, offset_in, place, width_a
 use Rattle.air_stackmap.specs.Laws.{has_stackmap as has_map}
 use Rattle.air_select.proofs.CallCode.{fewer_behind, operands_all}
 use Rattle.air_select.proofs.MapCode.{pick}
-use Rattle.air_select.proofs.Sites.{all_of, all_one, all_three, all_two}
+use Rattle.air_select.proofs.Sites.{all_of, all_three}
 
 -- ---- operands
 -- an operand takes at most three words beside its op's own
@@ -114,13 +115,13 @@ folded_short t id =
     pick IsShortCondition (is_comparison k.opcode)
     (record { test = Compare (condition k.opcode); over = use_of t k.first ∷ use_of t k.second ∷ [] })
     (record { test = Bit (bit_of (known t.index k.second).word); over = use_of t k.first ∷ [] })
-    (record { few = omega arith; short = all_two IsShort (use_of t k.first) (use_of t k.second) (use_short t k.first) (use_short t k.second) })
-    (record { few = omega arith; short = all_one IsShort (use_of t k.first) (use_short t k.first) })
+    (record { few = omega arith; short = All-two IsShort (use_of t k.first) (use_of t k.second) (use_short t k.first) (use_short t k.second) })
+    (record { few = omega arith; short = All-one IsShort (use_of t k.first) (use_short t k.first) })
 
 condition_short : (t : Tables) (id : ℕ) → IsShortCondition (condition_of t id)
 condition_short t id =
     pick IsShortCondition (folds t id) (folded_condition t id) (record { test = NonZero; over = use_of t id ∷ [] })
-    (folded_short t id) (record { few = omega arith; short = all_one IsShort (use_of t id) (use_short t id) })
+    (folded_short t id) (record { few = omega arith; short = All-one IsShort (use_of t id) (use_short t id) })
 
 -- ---- values
 abbrev pub allowance : Value → ℕ
@@ -145,7 +146,7 @@ module _ (t : Tables) (v : Value) where
       let short : All IsShort os =
       All-append IsShort (map (use_of t) v.children) (result_of t v ∷ [])
       (All-map IsShort (use_of t) v.children (all_of (λ id. IsShort (use_of t id)) (use_short t) v.children))
-      (all_one IsShort (result_of t v) (home_short (width_of v.ty) (3 * place t.index v.id))) in
+      (All-one IsShort (result_of t v) (home_short (width_of v.ty) (3 * place t.index v.id))) in
       let one = weigh v.id op os other short in
       let count = length-append (map (use_of t) v.children) (result_of t v ∷ []) in
       let same = length-map v.children (use_of t) in
@@ -205,7 +206,7 @@ module _ (t : Tables) (v : Value) where
   negative_light : inst_weight (negative_amount t v) ≤ 8
   negative_light =
       let one = weigh v.id op.Neg (negative_amount t v).operands refl
-      (all_two IsShort (use_of t (child v.children 1)) (def_at W32 (first_extra t.index v.id))
+      (All-two IsShort (use_of t (child v.children 1)) (def_at W32 (first_extra t.index v.id))
       (use_short t (child v.children 1)) (home_short W32 (3 * place t.index v.id + 1))) in
       omega (arith, one)
 
@@ -241,14 +242,14 @@ module _ (t : Tables) (v : Value) where
   switch_light =
       let os : List Operand = use_of t (child v.children 0) ∷ [] in
       let one = weigh v.id (op.Switch (cases_in v.body)) os refl
-      (all_one IsShort (use_of t (child v.children 0)) (use_short t (child v.children 0))) in
+      (All-one IsShort (use_of t (child v.children 0)) (use_short t (child v.children 0))) in
       let count = cases_counted v.body in
       one_weight (inst v (op.Switch (cases_in v.body)) os) (allowance v) (omega (arith, one, count))
 
   move_light : (width : Width) (from : Arg) (to : Home) → arg_words from ≤ 3 → arg_words (At to) ≤ 3
       → inst_weight (move v width from to) ≤ 8
   move_light width from to a b =
-      omega (arith, weigh v.id op.Move (move v width from to).operands refl (all_two IsShort (use_at width from) (def_at width to) a b))
+      omega (arith, weigh v.id op.Move (move v width from to).operands refl (All-two IsShort (use_at width from) (def_at width to) a b))
 
   copy_light : (width : Width) (from : Arg) (to : ℕ) → arg_words from ≤ 3 → sum_by inst_weight (copy_of v (width, from, Tmp to) ∷ []) ≤ allowance v
   copy_light width from to short =
@@ -266,7 +267,7 @@ module _ (t : Tables) (v : Value) where
         arith,
         two_weights (move v width (arg_of t c) (register 0)) (inst v op.Return (use_at width (At (register 0)) ∷ [])) 8 28
             (move_light width (arg_of t c) (register 0) (arg_short t c) (omega arith))
-            (omega (arith, weigh v.id op.Return (use_at width (At (register 0)) ∷ []) refl (all_one IsShort (use_at width (At (register 0))) (omega arith)))),
+            (omega (arith, weigh v.id op.Return (use_at width (At (register 0)) ∷ []) refl (All-one IsShort (use_at width (At (register 0))) (omega arith)))),
       )
 
   before_light : (pointer bytes : ℕ) → sum_by inst_weight (before_access t v pointer bytes) ≤ 19
@@ -410,7 +411,7 @@ module _ (t : Tables) (v : Value) where
         one_weight (frame_of t v) 5 (omega (
           arith,
           weigh v.id op.FramePointer (frame_of t v).operands refl
-              (all_one IsShort (result_of t v) (home_short (width_of v.ty) (3 * place t.index v.id))),
+              (All-one IsShort (result_of t v) (home_short (width_of v.ty) (3 * place t.index v.id))),
         )),
       )
   code_light opcode.SlotBase plain =
@@ -419,7 +420,7 @@ module _ (t : Tables) (v : Value) where
         one_weight (slot_of t v) 9 (omega (
           arith,
           weigh v.id op.SlotAddress (slot_of t v).operands refl
-              (all_two IsShort (use_at W64 (FrameSlot (slot_in v.body))) (result_of t v) (omega arith) (home_short (width_of v.ty) (3 * place t.index v.id))),
+              (All-two IsShort (use_at W64 (FrameSlot (slot_in v.body))) (result_of t v) (omega arith) (home_short (width_of v.ty) (3 * place t.index v.id))),
         )),
       )
   code_light opcode.Load8Z plain = load_light op.Load8Z Byte (omega arith) refl
@@ -516,7 +517,7 @@ moves_light x vs value (suc r) =
     let one : inst_weight (argument_move x value r) ≤ 8 = omega (
       arith,
       weigh value op.Move (argument_move x value r).operands refl
-          (all_two IsShort (use_at W64 (At (register r))) (def_at W64 (argument x r)) (omega arith) (omega arith)),
+          (All-two IsShort (use_at W64 (At (register r))) (def_at W64 (argument x r)) (omega arith) (omega arith)),
     ) in
     let more : List AirInst = if names_argument vs r then argument_move x value r ∷ [] else [] in
     let last : sum_by inst_weight more ≤ 8 =

@@ -1,5 +1,5 @@
 -- What is selected is well formed.
-use Rattle.std.proofs.Common.{◌≡◌, ℕ, zero, suc, ◌+◌, ◌<◌, inl, inr, Bool, true, false, ◌&&◌, ◌||◌, List, [], ◌∷◌, ◌++◌, map, Some, None, length, refl, sym, ap, ◌∙◌, subst, arith}
+use Rattle.std.proofs.Common.{◌≡◌, ℕ, zero, suc, ◌+◌, ◌<◌, inl, inr, Bool, true, false, ◌||◌, List, [], ◌∷◌, ◌++◌, map, Some, None, length, refl, sym, ap, ◌∙◌, subst, arith}
 use Rattle.std.specs.Prelude.{All, Contains, if◌then◌else◌, slice_get}
 use Rattle.std.specs.List.{flat_map}
 use Rattle.std.proofs.lemmas.List.{append-nil, append_assoc, length-map}
@@ -7,7 +7,7 @@ use Rattle.std.proofs.lemmas.List.Concat.{flat_map-cons}
 use Rattle.std.proofs.lemmas.List.Elements.{All-append, All-cons, All-map, All-nil, All-weaker}
 use Rattle.b3_base.specs.declared.word.Width.TheVariants.{W64}
 use Rattle.b3_ir.specs.Fits.{HasCases, HasTargets, IsBody, IsPlain, IsSlot, reported_count}
-use Rattle.b3_ir.specs.Procedure.{AllFit as ValuesFit, Block, Procedure, StandsAt, no_block, values_of}
+use Rattle.b3_ir.specs.Procedure.{Block, StandsAt, no_block, values_of, AllFit as ValuesFit, Procedure}
 use Rattle.b3_ir.specs.Table.{is_terminal, row_of}
 use Rattle.b3_ir.specs.declared.opcode.Opcode.{Opcode}
 use Rattle.b3_ir.specs.declared.opcode.Opcode.TheVariants as opcode
@@ -22,12 +22,13 @@ use Rattle.b3_meaning.specs.declared.role.Extent.TheVariants.{Byte, Half, Whole}
 use Rattle.b3_rules.specs.Paths.{successors_in}
 use Rattle.b3_rules.specs.Rules.{IsArgumentIn}
 use Rattle.std.proofs.lemmas.Option.{get_or_from_slice_get, slice_get_within}
-use Rattle.b3_rules.specs.Valid.{IsValidProcedure, ValueAt}
+use Rattle.b3_base.proofs.Lists.{Contains-first, Contains-later, All-one, All-two}
+use Rattle.b3_base.proofs.Booleans.{not_both, and_first}
+use Rattle.b3_rules.specs.Valid.{ValueAt, IsValidProcedure}
 use Rattle.b3_rules.specs.declared.rule.Rule.TheVariants as rule
 use Rattle.b3_sound.proofs.Distinct.{stands}
 use Rattle.b3_sound.proofs.FromValid.{is_kept}
 use Rattle.b3_sound.proofs.Kept.{EndsBlock, IsKept, NamesSlot}
-use Rattle.b3_sound.proofs.Lists.{contains_head, contains_tail}
 use Rattle.air_ir.specs.Forms.{AnyWord, Result, Word, is_offset}
 use Rattle.air_ir.specs.Kinds.{Kind, Checks, ChecksResult, Patches, extent_bytes, kind_of, target_count, targets_by}
 use Rattle.air_ir.specs.WellFormed.{IsGoodBlock, IsGoodInst, IsWellFormed}
@@ -50,7 +51,7 @@ use Rattle.air_select.proofs.Good.{Has, code_has}
 use Rattle.air_select.proofs.Named.{IsOwnInst, entry_own, value_own}
 use Rattle.air_select.proofs.Returned.{at_place}
 use Rattle.air_select.proofs.Setting.{IsFoldedKind, IsSound}
-use Rattle.air_select.proofs.Sites.{all_one, all_three, all_two}
+use Rattle.air_select.proofs.Sites.{all_three}
 
 -- ---- ends
 abbrev pub IsInner : AirInst → Type 0
@@ -62,17 +63,17 @@ inner_op _ = refl
 
 inner_before : (t : Tables) (v : Value) (pointer bytes : ℕ) → All IsInner (before_access t v pointer bytes)
 inner_before t v pointer bytes =
-    pick (All IsInner) (folds t pointer || is_offset bytes (offset_in v.body)) [] (far_sum t v pointer) (All-nil IsInner) (all_two IsInner _ _ refl refl)
+    pick (All IsInner) (folds t pointer || is_offset bytes (offset_in v.body)) [] (far_sum t v pointer) (All-nil IsInner) (All-two IsInner _ _ refl refl)
 
 inner_load : (t : Tables) (v : Value) (air_op : AirOp) (extent : Extent) → target_count air_op ≡ None → All IsInner (load_of t v air_op extent)
 inner_load t v air_op extent e =
     let bytes = extent_bytes extent (width_of v.ty) in
-    All-append IsInner (before_access t v (child v.children 0) bytes) _ (inner_before t v (child v.children 0) bytes) (all_one IsInner _ e)
+    All-append IsInner (before_access t v (child v.children 0) bytes) _ (inner_before t v (child v.children 0) bytes) (All-one IsInner _ e)
 
 inner_store : (t : Tables) (v : Value) (air_op : AirOp) (extent : Extent) → target_count air_op ≡ None → All IsInner (store_of t v air_op extent)
 inner_store t v air_op extent e =
     let bytes = extent_bytes extent (width_at t.index (child v.children 0)) in
-    All-append IsInner (before_access t v (child v.children 1) bytes) _ (inner_before t v (child v.children 1) bytes) (all_one IsInner _ e)
+    All-append IsInner (before_access t v (child v.children 1) bytes) _ (inner_before t v (child v.children 1) bytes) (All-one IsInner _ e)
 
 stackmap_inner : (k : Kind) → has_stackmap k ≡ true → targets_by k ≡ None
 stackmap_inner (Patches typed) e = refl
@@ -86,14 +87,14 @@ map_inner t v o e =
 
 inner_code : (t : Tables) (v : Value) (o : Opcode) → is_terminal o ≡ false → All IsInner (code_of t o v)
 inner_code t v opcode.Nop e = All-nil IsInner
-inner_code t v opcode.Const32 e = all_one IsInner _ refl
-inner_code t v opcode.Const64 e = all_one IsInner _ refl
-inner_code t v opcode.ArgumentReg e = all_one IsInner _ refl
-inner_code t v opcode.Trunc e = all_one IsInner _ refl
-inner_code t v opcode.Upsilon e = all_one IsInner _ refl
-inner_code t v opcode.Phi e = all_one IsInner _ refl
-inner_code t v opcode.FramePointer e = all_one IsInner _ refl
-inner_code t v opcode.SlotBase e = all_one IsInner _ refl
+inner_code t v opcode.Const32 e = All-one IsInner _ refl
+inner_code t v opcode.Const64 e = All-one IsInner _ refl
+inner_code t v opcode.ArgumentReg e = All-one IsInner _ refl
+inner_code t v opcode.Trunc e = All-one IsInner _ refl
+inner_code t v opcode.Upsilon e = All-one IsInner _ refl
+inner_code t v opcode.Phi e = All-one IsInner _ refl
+inner_code t v opcode.FramePointer e = All-one IsInner _ refl
+inner_code t v opcode.SlotBase e = All-one IsInner _ refl
 inner_code t v opcode.Load8Z e = inner_load t v op.Load8Z Byte refl
 inner_code t v opcode.Load8S e = inner_load t v op.Load8S Byte refl
 inner_code t v opcode.Load16Z e = inner_load t v op.Load16Z Half refl
@@ -108,16 +109,16 @@ inner_code t v opcode.CheckAdd e = map_inner t v opcode.CheckAdd refl
 inner_code t v opcode.CheckSub e = map_inner t v opcode.CheckSub refl
 inner_code t v opcode.CheckMul e = map_inner t v opcode.CheckMul refl
 inner_code t v opcode.CCall e = call_all t v IsInner (λ k c at. refl) refl refl
-inner_code t v opcode.Mod e = pick (All IsInner) v.kind.chill _ _ (all_three IsInner _ _ _ refl refl refl) (all_two IsInner _ _ refl refl)
-inner_code t v opcode.UMod e = pick (All IsInner) v.kind.chill _ _ (all_three IsInner _ _ _ refl refl refl) (all_two IsInner _ _ refl refl)
-inner_code t v opcode.RotL e = pick (All IsInner) (folds t (child v.children 1)) _ _ (all_one IsInner _ refl) (all_two IsInner _ _ refl refl)
-inner_code t v opcode.Select e = all_one IsInner _ refl
+inner_code t v opcode.Mod e = pick (All IsInner) v.kind.chill _ _ (all_three IsInner _ _ _ refl refl refl) (All-two IsInner _ _ refl refl)
+inner_code t v opcode.UMod e = pick (All IsInner) v.kind.chill _ _ (all_three IsInner _ _ _ refl refl refl) (All-two IsInner _ _ refl refl)
+inner_code t v opcode.RotL e = pick (All IsInner) (folds t (child v.children 1)) _ _ (All-one IsInner _ refl) (All-two IsInner _ _ refl refl)
+inner_code t v opcode.Select e = All-one IsInner _ refl
 inner_code t v opcode.Jump e = absurd cc
 inner_code t v opcode.Oops e = absurd cc
 inner_code t v opcode.Branch e = absurd cc
 inner_code t v opcode.Switch e = absurd cc
 inner_code t v opcode.Return e = absurd cc
-inner_code t v o e = all_one IsInner _ (inner_op o)
+inner_code t v o e = All-one IsInner _ (inner_op o)
 
 -- instructions that end in a terminal, which takes so many targets
 pub record Ends (is : List AirInst) (targets : List ℕ) : Type 0 where
@@ -148,7 +149,7 @@ return_ends t v (c ∷ cs) plain = record {
   body = move v (width_at t.index c) (arg_of t c) (register 0) ∷ [];
   last = inst v op.Return (use_at (width_at t.index c) (At (register 0)) ∷ []);
   parts = refl;
-  inner = all_one IsInner (move v (width_at t.index c) (arg_of t c) (register 0)) refl;
+  inner = All-one IsInner (move v (width_at t.index c) (arg_of t c) (register 0)) refl;
   ends = ap Some (sym (none_counted v.body plain));
 }
 
@@ -196,21 +197,14 @@ plain_terminal opcode.Switch e = record { constant = refl; comparison = refl; co
 plain_terminal opcode.Return e = record { constant = refl; comparison = refl; conjunction = refl; sum = refl; shift = refl }
 plain_terminal _ e = absurd cc
 
-true_and_false : (b : Bool) → b ≡ true → b ≡ false → ⊥
-true_and_false b e f = cc
-
-front_true : (a b : Bool) → (a && b) ≡ true → a ≡ true
-front_true true b e = refl
-front_true false b e = absurd cc
-
 folded_inner : (t : Tables) (b : ℕ) (v : Value) → is_terminal v.kind.opcode ≡ true → IsFoldedKind t b v → ⊥
-folded_inner t b v ends (inl constant) = true_and_false (is_constant v.kind.opcode) constant (plain_terminal v.kind.opcode ends).constant
+folded_inner t b v ends (inl constant) = not_both (is_constant v.kind.opcode) constant (plain_terminal v.kind.opcode ends).constant
 folded_inner t b v ends (inr (inl comparison)) =
-    true_and_false (is_comparison v.kind.opcode) comparison (plain_terminal v.kind.opcode ends).comparison
+    not_both (is_comparison v.kind.opcode) comparison (plain_terminal v.kind.opcode ends).comparison
 folded_inner t b v ends (inr (inr (inl bit))) =
-    true_and_false (is_and v.kind.opcode) (front_true (is_and v.kind.opcode) _ bit) (plain_terminal v.kind.opcode ends).conjunction
-folded_inner t b v ends (inr (inr (inr (inl sum)))) = true_and_false (is_add v.kind.opcode) sum (plain_terminal v.kind.opcode ends).sum
-folded_inner t b v ends (inr (inr (inr (inr shift)))) = true_and_false (is_shl v.kind.opcode) shift (plain_terminal v.kind.opcode ends).shift
+    not_both (is_and v.kind.opcode) (and_first (is_and v.kind.opcode) _ bit) (plain_terminal v.kind.opcode ends).conjunction
+folded_inner t b v ends (inr (inr (inr (inl sum)))) = not_both (is_add v.kind.opcode) sum (plain_terminal v.kind.opcode ends).sum
+folded_inner t b v ends (inr (inr (inr (inr shift)))) = not_both (is_shl v.kind.opcode) shift (plain_terminal v.kind.opcode ends).shift
 
 module _ (p : Procedure) (valid : IsValidProcedure p) (fit : ValuesFit p.blocks) (t : Tables) (sound : IsSound p t) where
   q : AirProc
@@ -255,13 +249,13 @@ module _ (p : Procedure) (valid : IsValidProcedure p) (fit : ValuesFit p.blocks)
   values_end b [] here ends = absurd ends
   values_end b (v ∷ []) here ends =
       subst (λ (l : List AirInst). Ends l (flat_map targets_of (v ∷ []))) (sym (flat_map-cons (value_code t) v [] ∙ append-nil (value_code t v)))
-      (subst (Ends (value_code t v)) (sym (flat_map-cons targets_of v [] ∙ append-nil (targets_of v))) (last_value b v (here v (contains_head v [])) ends))
+      (subst (Ends (value_code t v)) (sym (flat_map-cons targets_of v [] ∙ append-nil (targets_of v))) (last_value b v (here v (Contains-first v [])) ends))
   values_end b (v ∷ w ∷ vs) here ends =
       subst (λ (l : List AirInst). Ends l (flat_map targets_of (v ∷ w ∷ vs))) (sym (flat_map-cons (value_code t) v (w ∷ vs)))
       (subst (Ends (value_code t v ++ flat_map (value_code t) (w ∷ vs))) (sym (flat_map-cons targets_of v (w ∷ vs)))
       (in_front v (flat_map (value_code t) (w ∷ vs)) (flat_map targets_of (w ∷ vs)) ends.0
-      (ap (map (λ n. n + 1)) (no_successors v.kind.opcode v.ty (reported_count v) v.body ends.0 (body_fits b v (here v (contains_head v (w ∷ vs))))))
-      (values_end b (w ∷ vs) (λ u has. here u (contains_tail v (w ∷ vs) u has)) ends.1)))
+      (ap (map (λ n. n + 1)) (no_successors v.kind.opcode v.ty (reported_count v) v.body ends.0 (body_fits b v (here v (Contains-first v (w ∷ vs))))))
+      (values_end b (w ∷ vs) (λ u has. here u (Contains-later v (w ∷ vs) u has)) ends.1)))
 
   -- ---- instructions
   block_values : (b : ℕ) (block : Block) → slice_get p.blocks b ≡ Some block → values_of p b ≡ block.values
@@ -327,7 +321,7 @@ module _ (p : Procedure) (valid : IsValidProcedure p) (fit : ValuesFit p.blocks)
   all_here P f [] each = All-nil P
   all_here P f (x ∷ xs) each =
       subst (All P) (sym (flat_map-cons f x xs))
-      (All-append P (f x) (flat_map f xs) (each x (contains_head x xs)) (all_here P f xs (λ y has. each y (contains_tail x xs y has))))
+      (All-append P (f x) (flat_map f xs) (each x (Contains-first x xs)) (all_here P f xs (λ y has. each y (Contains-later x xs y has))))
 
   abbrev IsTarget : ℕ → Type 0
   IsTarget n = (0 < n) × (n < length q.blocks)
@@ -366,7 +360,7 @@ module _ (p : Procedure) (valid : IsValidProcedure p) (fit : ValuesFit p.blocks)
       All-append (Has p valid fit t sound) (argument_moves t.index vs value r) (if names_argument vs r then argument_move t.index value r ∷ [] else [])
       (entry_operands vs value r)
       (pick (All (Has p valid fit t sound)) (names_argument vs r) (argument_move t.index value r ∷ []) []
-      (all_one (Has p valid fit t sound) (argument_move t.index value r)
+      (All-one (Has p valid fit t sound) (argument_move t.index value r)
       (W64, W64, fit_two (Word W64 AnyWord) (Result W64) (use_at W64 (At (register r))) (def_at W64 (argument t.index r)) (refl, refl, tt) (refl, refl, tt)))
       (All-nil (Has p valid fit t sound)))
 
@@ -375,7 +369,7 @@ module _ (p : Procedure) (valid : IsValidProcedure p) (fit : ValuesFit p.blocks)
   entry_inner vs value (suc r) =
       All-append IsInner (argument_moves t.index vs value r) (if names_argument vs r then argument_move t.index value r ∷ [] else [])
       (entry_inner vs value r)
-      (pick (All IsInner) (names_argument vs r) (argument_move t.index value r ∷ []) [] (all_one IsInner (argument_move t.index value r) refl)
+      (pick (All IsInner) (names_argument vs r) (argument_move t.index value r ∷ []) [] (All-one IsInner (argument_move t.index value r) refl)
       (All-nil IsInner))
 
   entry_insts : All (Has p valid fit t sound) (entry_of t.index (values_of p 0)).insts → All (IsOwnInst q t tmps_are) (entry_of t.index (values_of p 0)).insts
@@ -390,7 +384,7 @@ module _ (p : Procedure) (valid : IsValidProcedure p) (fit : ValuesFit p.blocks)
       let jump : AirInst = record { op = op.Jump; operands = []; value = last_id vs; traps = false } in
       let operands : All (Has p valid fit t sound) (argument_moves t.index vs (last_id vs) 8 ++ jump ∷ []) =
       All-append (Has p valid fit t sound) (argument_moves t.index vs (last_id vs) 8) (jump ∷ []) (entry_operands vs (last_id vs) 8)
-      (all_one (Has p valid fit t sound) jump (W64, W64, fit_none)) in
+      (All-one (Has p valid fit t sound) jump (W64, W64, fit_none)) in
       let named = entry_own q t tmps_are vs in
       record {
         body = argument_moves t.index vs (last_id vs) 8;
@@ -398,7 +392,7 @@ module _ (p : Procedure) (valid : IsValidProcedure p) (fit : ValuesFit p.blocks)
         parts = refl;
         inner = entry_inner vs (last_id vs) 8;
         ends = refl;
-        targets = all_one IsTarget 1 (omega arith, omega (arith, blocks_counted, kept.some));
+        targets = All-one IsTarget 1 (omega arith, omega (arith, blocks_counted, kept.some));
         insts = entry_insts operands named;
       }
 

@@ -3,4 +3,3 @@ pub mod Returning
 pub mod Selected
 pub mod Contract
 pub mod Sited
-pub mod Sample

@@ -1,8 +1,10 @@
 -- The code goes on as the list of moves in order does.
 use Rattle.std.proofs.Common.{◌≡◌, ◌≢◌, ℕ, zero, suc, ◌+◌, ◌-◌, ◌*◌, ◌≤◌, ◌<◌, inl, inr, Bool, true, false, ◌&&◌, if◌then◌else◌, nat_eq, Option, Some, None, List, [], ◌∷◌, ◌++◌, length, arith, refl, sym, ap, ◌∙◌, subst, append_assoc, append-nil, eq-eqb, eqb-true}
 use Rattle.std.specs.Prelude.{slice_index_or, slice_set, IfSome}
-use Rattle.std.proofs.lemmas.Bool.{cases_eq, false≢true, false_from_ne_true}
+use Rattle.std.proofs.lemmas.Bool.{cases_eq, false≢true, false_from_ne_true, and_from}
 use Rattle.std.proofs.lemmas.Bool.Decides.{nat_tests}
+use Rattle.std.proofs.lemmas.Option.{same_Some}
+use Rattle.b3_base.proofs.Booleans.{and_first, and_second}
 use Rattle.b3_ir.specs.declared.value.Reg.{Reg as Register}
 use Rattle.air_ir.specs.declared.operand.Home.{Home}
 use Rattle.air_ir.specs.declared.operand.Home.TheVariants.{Reg}
@@ -47,9 +49,6 @@ yes_free pending d none = eq-eqb (readers d.to pending) 0 none
 fails_by : (a b : Bool) → (a ≡ true → b ≡ false) → (a && b) ≡ false
 fails_by true b f = f refl
 fails_by false b f = refl
-
-both_true : (a b : Bool) → a ≡ true → b ≡ true → (a && b) ≡ true
-both_true a b p q = rw (p, q) refl
 
 -- ---- choices
 
@@ -123,7 +122,7 @@ linked_picks p from j g is e left free =
     let not : reads d.to from ≡ false = ap (λ (m : Move). reads m.to from) place.is ∙ ap (reads (move_at p.moves.items place.at).to) w.1
     ∙ same_home-false c.to (move_at p.moves.items place.at).to apart in
     fails_by (reads d.to from) (is_free (pending_in p) d) (λ t. absurd (false≢true (sym not ∙ t))))
-    (both_true (reads c.to from) (is_free (pending_in p) c) reads_it (yes_free (pending_in p) c (sym counted ∙ free)))
+    (and_from (reads c.to from) (is_free (pending_in p) c) reads_it (yes_free (pending_in p) c (sym counted ∙ free)))
     ∙ ap (Does c) (sym r.gone)
 
 linked_rests : (p : Pending) (from : Arg) (w : Option ℕ) → IsCounted p → IsSource from → writer_of p.writers from ≡ w
@@ -156,9 +155,6 @@ other_count (Some j) counts k within ne = elim (set-count counts j k (count_at c
   | inr there ↦ there.1
 ]
 
-some_is : (x y : ℕ) → Some x ≡ Some y → x ≡ y
-some_is x y e = cc
-
 apart_in : (p : Pending) → IsCounted p → (c : Move) → Has c (pending_in p) → c.to ≢ Reg p.scratch
 apart_in p g c h e = let r = place_of p.moves.items p.left.items c h in g.apart r.at r.within (sym (ap (λ (m : Move). m.to) r.is) ∙ e)
 
@@ -175,10 +171,10 @@ module _ (whole : List Move) (bound : ℕ) where
     goes = a.goes;
     passed = λ i lt left no. elim (cases_eq k i) [
       | inl e ↦ subst (λ (n : ℕ). 0 < count_at p.counts.items n) e (some (ap (is_left_at p) e ∙ left))
-      | inr ne ↦ a.passed i lt left (λ s. ne (some_is k i s))
+      | inr ne ↦ a.passed i lt left (λ s. ne (same_Some k i s))
     ];
     picks = λ j e. absurd cc;
-    rests = λ none. a.rests (λ j e left. let same : k ≡ j = some_is k j e in
+    rests = λ none. a.rests (λ j e left. let same : k ≡ j = same_Some k j e in
         subst (λ (n : ℕ). 0 < count_at p.counts.items n) same (some (ap (is_left_at p) same ∙ left)));
   }
 
@@ -194,7 +190,7 @@ module _ (whole : List Move) (bound : ℕ) where
         goes = a.goes;
         passed = λ i lt left no. a.passed i (let other : bound ≢ i = λ e. no (ap Some e) in omega arith) left (λ e. cc);
         picks = λ j e left free.
-            let same : bound ≡ j = some_is bound j e in
+            let same : bound ≡ j = same_Some bound j e in
             let there : IsLeft p j = record { within = subst (λ n. n < length p.moves.items) same within; left = left } in
             let r = split_in p j g there in
             let counted = counts_are p j g there.within in
@@ -280,7 +276,7 @@ module _ (whole : List Move) (bound : ℕ) where
           ∙ ordered_more n p.scratch a.last (pending_in p) (pending_in q) done after (move_at p.moves.items k) next e goes)
           (λ i lt left no.
           let was = still_left p q k i g there.within d.gone.left left in
-          a.passed i lt was.1 (λ s. was.0 (sym (some_is k i s))))
+          a.passed i lt was.1 (λ s. was.0 (sym (same_Some k i s))))
 
   nothing_before : (before : List Move) → ((d : Move) → Has d before → ⊥) → before ≡ []
   unfolding Has
@@ -366,17 +362,6 @@ scratch_unread whole done p k g lt from a = false_from_ne_true (is_left_at p k) 
 pub free_parts : (p : Pending) (k : ℕ) → (is_left_at p k && nat_eq (count_at p.counts.items k) 0) ≡ true
     → (is_left_at p k ≡ true) × (count_at p.counts.items k ≡ 0)
 free_parts p k e = (and_first (is_left_at p k) _ e, eqb-true (count_at p.counts.items k) 0 (and_second (is_left_at p k) _ e))
-  where
-    and_first : (a b : Bool) → (a && b) ≡ true → a ≡ true
-    and_first true b e = refl
-    and_first false b e = absurd cc
-
-    and_second : (a b : Bool) → (a && b) ≡ true → b ≡ true
-    and_second true b e = e
-    and_second false b e = absurd cc
-
-pub read_some : (p : Pending) (k : ℕ) → (is_left_at p k && nat_eq (count_at p.counts.items k) 0) ≡ false → is_left_at p k ≡ true → 0 < count_at p.counts.items k
-read_some p k e left = let f : nat_eq (count_at p.counts.items k) 0 ≡ false = rw left at e in grind (arith, nat_tests)
 
 pub next_within : (p : Pending) (from : Arg) → IsCounted p → IsSource from → IfSome (writer_of p.writers from) (λ j. j < length p.moves.items)
 next_within p from g is = if_some (writer_of p.writers from) (λ j. j < length p.moves.items) (λ j e.

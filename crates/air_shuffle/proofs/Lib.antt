@@ -7,6 +7,5 @@ pub mod Releasing
 pub mod Taking
 pub mod Counting
 pub mod Beginning
-pub mod Going
 pub mod Sequenced
 pub mod Following

@@ -1,6 +1,7 @@
 -- The moves that are done and those that are pending are the whole, done at once.
-use Rattle.std.proofs.Common.{◌≡◌, ◌≢◌, ℕ, inl, inr, false, Option, Some, List, ◌∷◌, ◌++◌, arith, refl, sym, ap, ◌∙◌, subst}
+use Rattle.std.proofs.Common.{◌≡◌, ◌≢◌, ℕ, inl, inr, false, Option, Some, List, ◌∷◌, ◌++◌, refl, sym, ap, ◌∙◌, subst}
 use Rattle.std.proofs.lemmas.Bool.{false≢true}
+use Rattle.b3_base.proofs.Widths.{low-low}
 use Rattle.b3_base.specs.Arithmetic.{low}
 use Rattle.b3_base.specs.declared.word.Width.{Width}
 use Rattle.b3_base.specs.declared.word.Width.TheVariants.{W32, W64}
@@ -24,10 +25,6 @@ word-other s q v width (Addr base offset) is f = absurd is
 word-other s q v width (Index base index shift) is f = absurd is
 word-other s q v width (FrameSlot number) is f = absurd is
 
-low_again : (width : Width) (x : ℕ) → low width (low width x) ≡ low width x
-low_again W32 x = omega arith
-low_again W64 x = omega arith
-
 read_held : (width : Width) (x : ℕ) → read width (Holds width x) ≡ Some (low width x)
 unfolding read
 read_held W32 x = refl
@@ -37,15 +34,15 @@ read_again : (width : Width) (h : Held) → held width (read width (held width (
 unfolding read
 read_again W32 Empty = refl
 read_again W64 Empty = refl
-read_again W32 (Holds w x) = ap (Holds W32) (low_again W32 x)
+read_again W32 (Holds w x) = ap (Holds W32) (low-low W32 x)
 read_again W64 (Holds W32 x) = refl
-read_again W64 (Holds W64 x) = ap (Holds W64) (low_again W64 x)
+read_again W64 (Holds W64 x) = ap (Holds W64) (low-low W64 x)
 
 -- what was taken is taken again from where it was put
 pub taken_again : (s : Homes) (width : Width) (a : Arg) → IsSource a → held width (read width (held width (word_of s width a))) ≡ held width (word_of s width a)
 unfolding word_of
 taken_again s width (At h) is = read_again width (s h)
-taken_again s width (Imm word) is = ap (held width) (read_held width (low width word)) ∙ ap (Holds width) (low_again width word)
+taken_again s width (Imm word) is = ap (held width) (read_held width (low width word)) ∙ ap (Holds width) (low-low width word)
 taken_again s width (Addr base offset) is = absurd is
 taken_again s width (Index base index shift) is = absurd is
 taken_again s width (FrameSlot number) is = absurd is

@@ -1,8 +1,9 @@
 -- Moves in order do what moves do at once.
-use Rattle.std.proofs.Common.{◌≡◌, ℕ, zero, suc, ◌+◌, ◌*◌, ◌≤◌, ◌<◌, inl, inr, Bool, true, false, ◌&&◌, if◌then◌else◌, List, [], ◌∷◌, ◌++◌, length, Option, Some, None, arith, refl, sym, ap, ◌∙◌, subst, append_assoc, append-nil}
+use Rattle.std.proofs.Common.{◌≡◌, ℕ, zero, suc, ◌+◌, ◌*◌, ◌≤◌, ◌<◌, inl, inr, Bool, true, false, if◌then◌else◌, List, [], ◌∷◌, ◌++◌, length, Option, Some, None, arith, refl, sym, ap, ◌∙◌, subst, append_assoc, append-nil}
 use Rattle.std.specs.List.{count_by}
 use Rattle.std.proofs.lemmas.Bool.{cases_Bool}
 use Rattle.std.proofs.lemmas.Bool.Decides.{nat_tests}
+use Rattle.b3_base.proofs.Booleans.{and_second}
 use Rattle.b3_ir.specs.declared.value.Reg.{Reg as Register}
 use Rattle.air_ir.specs.declared.operand.Home.TheVariants.{Reg}
 use Rattle.air_ir.specs.declared.operand.Arg.{Arg}
@@ -62,10 +63,6 @@ free_is pending c e = grind (arith, nat_tests)
 pub some_reads : (pending : List Move) (c : Move) → is_free pending c ≡ false → 0 < readers c.to pending
 some_reads pending c e = grind (arith, nat_tests)
 
-next_free : (a b : Bool) → (a && b) ≡ true → b ≡ true
-next_free true b e = e
-next_free false b e = absurd cc
-
 -- a move whose destination isn't read; or the first move, where each destination is read; or none is left
 data IsChoice (pending : List Move) : Choice → Type 0 where
   DoesOne : (before behind : List Move) (c : Move) → pending ≡ before ++ c ∷ behind → readers c.to pending ≡ 0 → IsChoice pending (Does c (before ++ behind))
@@ -90,7 +87,7 @@ saving (c ∷ cs) all e blocked = SavesOne c cs e blocked
 choice_is : (last : Arg) (pending : List Move) → IsChoice pending (choice last pending)
 choice_is last pending =
     chosen_is pending (is_next pending last) _ (first_that (is_next pending last) pending) refl
-    (λ d e. next_free (reads d.to last) (is_free pending d) e)
+    (λ d e. and_second (reads d.to last) (is_free pending d) e)
     (λ none. chosen_is pending (is_free pending) _ (first_that (is_free pending) pending) refl (λ d e. e)
     (λ none. saving pending pending refl (λ d h. some_reads pending d (none_passes (is_free pending) pending none d h))))
 

@@ -1,13 +1,13 @@
 -- By a proper assignment, what an instruction writes becomes no other home that is kept.
 use Rattle.std.proofs.Common.{◌≡◌, ◌≢◌, ℕ, inl, inr, List, [], ◌∷◌, All, refl, sym, subst}
 use Rattle.std.proofs.lemmas.List.Elements.{All-head, All-tail}
+use Rattle.b3_base.proofs.Lists.{All-at}
 use Rattle.flow_live.specs.Graph.{Place}
 use Rattle.air_ir.specs.Kinds.{Copies, kind_of}
 use Rattle.air_ir.specs.Operands.{targets}
 use Rattle.air_ir.specs.Related.{AreFine, IsApart, IsOneOf, IsTarget, homes_of}
 use Rattle.air_ir.specs.Renaming.{Copy, copy_operands}
-use Rattle.air_ir.specs.WellFormed.{IsSpillBelow, IsWellFormed, NamesSpillsBelow, SpillsBelow, StandsAt}
-use Rattle.air_ir.specs.declared.assignment.Assignment.{Assignment}
+use Rattle.air_ir.specs.WellFormed.{IsSpillBelow, SpillsBelow, StandsAt, IsWellFormed, NamesSpillsBelow}
 use Rattle.air_ir.specs.declared.operand.Arg.{Arg}
 use Rattle.air_ir.specs.declared.operand.Arg.TheVariants.{At, Imm, Addr, Index, FrameSlot}
 use Rattle.air_ir.specs.declared.operand.Home.{Home}
@@ -15,16 +15,16 @@ use Rattle.air_ir.specs.declared.operand.Home.TheVariants.{Tmp, Reg, Spill}
 use Rattle.air_ir.specs.declared.operand.Operand.{Operand}
 use Rattle.air_ir.specs.declared.procedure.AirBlock.{AirBlock}
 use Rattle.air_ir.specs.declared.procedure.AirInst.{AirInst}
-use Rattle.air_ir.specs.declared.procedure.AirProc.{AirProc}
 use Rattle.air_flow.specs.Interfere.{IsCopied, IsPair}
 use Rattle.air_flow.specs.Living.{IsKept, IsKeptAfter, IsNamedIn}
-use Rattle.air_flow.specs.Proper.{IsProper}
 use Rattle.air_flow.proofs.Apart.{defined, writes_apart}
 use Rattle.air_flow.proofs.Lives.{spot}
-use Rattle.air_flow.proofs.Names.{all_at}
 use Rattle.air_flow.proofs.Touching.{target_is_named}
 use Rattle.air_spill.specs.Rewritten.{first_spill, home_by}
 use Rattle.air_spill.proofs.Places.{become_one}
+use Rattle.air_ir.specs.declared.assignment.Assignment.{Assignment}
+use Rattle.air_ir.specs.declared.procedure.AirProc.{AirProc}
+use Rattle.air_flow.specs.Proper.{IsProper}
 
 -- ---- spill places that are named
 
@@ -68,8 +68,8 @@ ToDiffer (c ∷ cs) = (IsTarget c.to (targets (copy_operands cs)) → ⊥) × To
 module _ (p : AirProc) (a : Assignment) (good : IsWellFormed p) (proper : IsProper p a) (named : NamesSpillsBelow first_spill p) where
   inst_below : (block place : ℕ) (i : AirInst) → StandsAt p block place i → AllBelow first_spill i.operands
   inst_below block place i at =
-      all_at (λ (i : AirInst). AllBelow first_spill i.operands) at.of.insts place i
-      (all_at (λ (b : AirBlock). All (λ (i : AirInst). AllBelow first_spill i.operands) b.insts) p.blocks block at.of named at.block_there) at.inst_there
+      All-at (λ (i : AirInst). AllBelow first_spill i.operands) at.of.insts place i
+      (All-at (λ (b : AirBlock). All (λ (i : AirInst). AllBelow first_spill i.operands) b.insts) p.blocks block at.of named at.block_there) at.inst_there
 
   kept_below : (at : Place) (h : Home) → IsKept p at h → IsSpillBelow first_spill h
   kept_below at (Tmp k) kept = tt

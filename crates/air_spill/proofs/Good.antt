@@ -7,6 +7,7 @@ use Rattle.std.proofs.lemmas.List.{length-map}
 use Rattle.std.proofs.lemmas.List.Elements.{All-cons, All-map, All-nil, All-weaker}
 use Rattle.std.proofs.lemmas.List.Kept.{AllPairs-cons}
 use Rattle.std.proofs.lemmas.Option.{slice_get-get_or}
+use Rattle.b3_base.proofs.Lists.{All-at}
 use Rattle.b3_base.specs.declared.word.Width.{Width}
 use Rattle.b3_ir.specs.declared.value.Reg.{Reg as Register}
 use Rattle.stackmap.specs.Rules.{IsAllocatable}
@@ -26,11 +27,8 @@ use Rattle.air_ir.specs.declared.operand.Home.TheVariants.{Tmp, Reg, Spill}
 use Rattle.air_ir.specs.declared.operand.Operand.{Operand}
 use Rattle.air_ir.specs.declared.operand.Role.{Role}
 use Rattle.air_ir.specs.declared.operand.Role.TheVariants.{Use, LateUse, EarlyDef, Def, Clobber}
-use Rattle.air_ir.specs.declared.procedure.AirBlock.{AirBlock}
 use Rattle.air_ir.specs.declared.procedure.AirInst.{AirInst}
 use Rattle.air_ir.specs.declared.procedure.AirProc.{AirProc}
-use Rattle.air_flow.specs.Proper.{IsProper}
-use Rattle.air_flow.proofs.Names.{all_at}
 use Rattle.air_spill.specs.Rewritten.{first_spill, home_by, is_copy, rewritten, rewritten_block, rewritten_inst, standing, kept_operands, with_operands}
 use Rattle.air_spill.proofs.Apart.{ToDiffer, written_apart}
 use Rattle.air_spill.proofs.CopyForms.{CopyForm, copy_form, copy_kind, pairs_of}
@@ -38,6 +36,8 @@ use Rattle.air_spill.proofs.Members.{all_flat}
 use Rattle.air_spill.proofs.OpByOp.{copying_op, operands-renamed}
 use Rattle.air_spill.proofs.Renamed.{FixesOthers, fits-renamed}
 use Rattle.air_spill.proofs.SameRun.{rewritten-copies, rewritten-other}
+use Rattle.air_ir.specs.declared.procedure.AirBlock.{AirBlock}
+use Rattle.air_flow.specs.Proper.{IsProper}
 
 pub stays : (a : Assignment) → FixesOthers (home_by a)
 stays a = record { registers = λ r. refl; spills = λ n. refl }
@@ -220,7 +220,7 @@ move_left loc width (b ∷ []) ks fits e c rest f = by (is_joined loc b.from b.t
 module _ (p : AirProc) (a : Assignment) (good : IsWellFormed p) (proper : IsProper p a) (named : NamesSpillsBelow first_spill p) where
   module _ (block place : ℕ) (i : AirInst) (at : StandsAt p block place i) where
     good_inst : IsGoodInst p i
-    good_inst = all_at (IsGoodInst p) at.of.insts place i (all_at (IsGoodBlock p) p.blocks block at.of good.blocks at.block_there).insts at.inst_there
+    good_inst = All-at (IsGoodInst p) at.of.insts place i (All-at (IsGoodBlock p) p.blocks block at.of good.blocks at.block_there).insts at.inst_there
 
     other_good : is_copy i.op ≡ false → IsGoodInst (rewritten p a) (rename_inst (home_by a) i)
     other_good e = record {
@@ -289,7 +289,7 @@ module _ (p : AirProc) (a : Assignment) (good : IsWellFormed p) (proper : IsProp
 
   module _ (block : ℕ) (of : AirBlock) (there : slice_get p.blocks block ≡ Some of) where
     was_good : IsGoodBlock p of
-    was_good = all_at (IsGoodBlock p) p.blocks block of good.blocks there
+    was_good = All-at (IsGoodBlock p) p.blocks block of good.blocks there
 
     last_alone : rewritten_inst (home_by a) was_good.last ≡ rename_inst (home_by a) was_good.last ∷ []
     last_alone = rewritten-other (home_by a) was_good.last (ends_no_copy was_good.last.op (length of.targets) was_good.ends)

@@ -31,13 +31,10 @@ split_first (x ∷ xs) (y ∷ ys) us vs n e =
     put x y xs ys us vs t.0
     (split_first xs ys us vs (let m : length xs ≡ length ys = cc in m) t.1)
 
-length_of : (xs us : List Operand) → length (xs ++ us) ≡ length xs + length us
-length_of xs us = length-append xs us
-
 split_last : (xs ys us vs : List Operand) → length us ≡ length vs → xs ++ us ≡ ys ++ vs → AreOne xs ys us vs
 split_last xs ys us vs n e =
     let k : length (xs ++ us) ≡ length (ys ++ vs) = ap length e in
-    split_first xs ys us vs (omega (arith, k, n, length_of xs us, length_of ys vs)) e
+    split_first xs ys us vs (omega (arith, k, n, length-append xs us, length-append ys vs)) e
 
 -- where what is read ends
 abbrev Reads : Operand → Type 0

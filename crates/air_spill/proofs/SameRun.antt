@@ -4,6 +4,7 @@ use Rattle.std.specs.Prelude.{slice_get}
 use Rattle.std.proofs.lemmas.Bool.{cases_Bool, false≢true}
 use Rattle.std.proofs.lemmas.List.{get_or-map}
 use Rattle.std.proofs.lemmas.Option.{slice_get-get_or, slice_get_within}
+use Rattle.b3_base.proofs.Lists.{All-at}
 use Rattle.b3_base.specs.Observed.{Answer, Start}
 use Rattle.air_ir.specs.Blocks.{At, block_of, block_step, left}
 use Rattle.air_ir.specs.Meaning.{To, meaning, operation}
@@ -17,7 +18,6 @@ use Rattle.air_ir.specs.declared.assignment.Assignment.{Assignment}
 use Rattle.air_ir.specs.declared.operand.Home.{Home}
 use Rattle.air_ir.specs.declared.operand.Home.TheVariants.{Tmp, Reg, Spill}
 use Rattle.air_ir.specs.declared.operand.Operand.{Operand}
-use Rattle.air_ir.specs.declared.procedure.AirBlock.{AirBlock}
 use Rattle.air_ir.specs.declared.procedure.AirInst.{AirInst}
 use Rattle.air_ir.specs.declared.procedure.AirProc.{AirProc}
 use Rattle.air_ir.proofs.CopySteps.{copy-related, with_copies}
@@ -31,11 +31,11 @@ use Rattle.air_flow.specs.Living.{IsKept, IsKeptAfter}
 use Rattle.air_flow.specs.Proper.{IsProper}
 use Rattle.air_flow.proofs.Kept.{keep_on, keep_uses}
 use Rattle.air_flow.proofs.Lives.{spot}
-use Rattle.air_flow.proofs.Names.{all_at}
 use Rattle.air_spill.specs.Rewritten.{first_spill, home_by, is_copy, kept_operands, rewritten, rewritten_block, rewritten_inst, with_operands}
 use Rattle.air_spill.proofs.Apart.{is_apart, are_fine}
 use Rattle.air_spill.proofs.CopyForms.{CopyForm, copy_form, copy_kind, is_copy-kind}
 use Rattle.air_spill.proofs.KeptPairs.{kept-copies, with-copies}
+use Rattle.air_ir.specs.declared.procedure.AirBlock.{AirBlock}
 
 less_kept : (loc : Home → Home) (L M : Home → Type 0) (s t : State) → ((h : Home) → M h → L h) → IsRelated loc L s t → IsRelated loc M s t
 less_kept loc L M s t h r = record { homes = λ g m. r.homes g (h g m); world = r.world }
@@ -57,7 +57,7 @@ rewritten-copies loc i cs e ops =
 module _ (p : AirProc) (a : Assignment) (good : IsWellFormed p) (proper : IsProper p a) (named : NamesSpillsBelow first_spill p) (start : Start) where
   module _ (block place : ℕ) (i : AirInst) (at : StandsAt p block place i) where
     good_inst : IsGoodInst p i
-    good_inst = all_at (IsGoodInst p) at.of.insts place i (all_at (IsGoodBlock p) p.blocks block at.of good.blocks at.block_there).insts at.inst_there
+    good_inst = All-at (IsGoodInst p) at.of.insts place i (All-at (IsGoodBlock p) p.blocks block at.of good.blocks at.block_there).insts at.inst_there
 
     inst_related : (s t : State) (junk : List ℕ) → IsRelated (home_by a) (IsKept p (spot block place)) s t
         → Alike (IsRelated (home_by a) (IsKeptAfter p (spot block place)))
@@ -118,7 +118,7 @@ module _ (p : AirProc) (a : Assignment) (good : IsWellFormed p) (proper : IsProp
         s t junk r
 
     good_block : IsGoodBlock p of
-    good_block = all_at (IsGoodBlock p) p.blocks b of good.blocks there
+    good_block = All-at (IsGoodBlock p) p.blocks b of good.blocks there
 
     onward : (k : ℕ) (i : AirInst) (j c : ℕ) (s t : State) → slice_get of.insts k ≡ Some i → Leaves i (To j)
         → slice_get of.targets j ≡ Some c → Within b (suc k) s t → At_block c s t
@@ -126,7 +126,7 @@ module _ (p : AirProc) (a : Assignment) (good : IsWellFormed p) (proper : IsProp
     onward k i j c s t is goes target r =
         let last : suc k ≡ length of.insts = leaves_last p of good_block k i j is goes in
         let there_too : (0 < c) × (c < length p.blocks) =
-        all_at (λ (target : ℕ). (0 < target) × (target < length p.blocks)) of.targets j c good_block.targets target in (
+        All-at (λ (target : ℕ). (0 < target) × (target < length p.blocks)) of.targets j c good_block.targets target in (
           there_too.1,
           less_kept (home_by a) (Here b (suc k)) (IsKept p (spot c 0)) s t
               (λ h kept. (keep_on p b k of there).target h j c (omega (arith, last)) target kept) r,

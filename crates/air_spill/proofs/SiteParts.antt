@@ -1,40 +1,40 @@
 -- The operands of an instruction at a site that define or use homes, by a proper assignment, and what becomes of the
 -- reported ones.
 use Rattle.std.proofs.Common.{◌≡◌, ◌≢◌, ◌∙◌, ◌⊎◌, ◌&&◌, ℕ, ◌+◌, ◌<◌, ◌≤◌, Bool, true, false, cond, Option, Some, None, List, [], ◌∷◌, ◌++◌, Contains, if◌then◌else◌, inl, inr, refl, sym, ap, subst, arith}
-use Rattle.std.proofs.lemmas.Bool.{cases_Bool}
+use Rattle.std.proofs.lemmas.Bool.{cases_Bool, false_from_ne_true}
 use Rattle.std.proofs.lemmas.List.Elements.{Contains-append_left, Contains-append_right}
 use Rattle.b3_base.specs.declared.word.Width.{Width}
 use Rattle.b3_base.specs.declared.word.Width.TheVariants.{W64}
-use Rattle.b3_ir.specs.Procedure.{Procedure}
 use Rattle.b3_ir.specs.Types.{width_of}
 use Rattle.b3_ir.specs.declared.value.Constraint.{Constraint}
 use Rattle.b3_ir.specs.declared.value.Constraint.TheVariants.{WarmAny, ColdAny, LateColdAny, SomeRegister, SomeRegisterWithClobber, SomeEarlyRegister, SomeLateRegister, Fixed, LateFixed}
 use Rattle.b3_ir.specs.declared.value.Reg.{Reg as Register}
-use Rattle.b3_ir.specs.declared.value.Value.{Value}
 use Rattle.flow_live.specs.declared.touch.Touch.{Touch}
 use Rattle.flow_live.specs.declared.touch.Touch.TheVariants as touch
 use Rattle.stackmap.specs.Placing.{result_register}
 use Rattle.stackmap.specs.Registers.{is_late, is_patchpoint}
-use Rattle.air_ir.specs.Expressed.{IsExpressed, IsPlace, result_role}
+use Rattle.air_ir.specs.Expressed.{IsPlace, result_role, IsExpressed}
 use Rattle.air_ir.specs.Forms.{operand_in}
-use Rattle.air_ir.specs.WellFormed.{IsWellFormed, MayName, NamesOwn, StandsAt}
-use Rattle.air_ir.specs.declared.assignment.Assignment.{Assignment}
+use Rattle.air_ir.specs.WellFormed.{MayName, NamesOwn, StandsAt, IsWellFormed}
 use Rattle.air_ir.specs.declared.operand.Arg.TheVariants.{At}
 use Rattle.air_ir.specs.declared.operand.Home.{Home}
 use Rattle.air_ir.specs.declared.operand.Home.TheVariants.{Tmp, Reg}
 use Rattle.air_ir.specs.declared.operand.Operand.{Operand}
 use Rattle.air_ir.specs.declared.operand.Role.{Role}
 use Rattle.air_ir.specs.declared.operand.Role.TheVariants.{Use, LateUse, EarlyDef, Def, Clobber}
-use Rattle.air_ir.specs.declared.procedure.AirInst.{AirInst}
 use Rattle.air_ir.specs.declared.procedure.AirProc.{AirProc}
 use Rattle.air_flow.specs.Flow.{operand_touches, touch_as, touches_of}
 use Rattle.air_flow.specs.Interfere.{IsEarly}
 use Rattle.air_flow.specs.Living.{IsDefinedBy, IsUsedBy, IsUsedLateBy}
-use Rattle.air_flow.specs.Proper.{IsProper, register_of}
+use Rattle.air_flow.specs.Proper.{register_of, IsProper}
 use Rattle.air_flow.proofs.Among.{Among, among_index}
 use Rattle.air_flow.proofs.Lives.{spot}
 use Rattle.air_flow.proofs.Names.{owns_of}
 use Rattle.air_spill.proofs.SitesObey.{FreeKeeps, allocatable_low}
+use Rattle.b3_ir.specs.Procedure.{Procedure}
+use Rattle.b3_ir.specs.declared.value.Value.{Value}
+use Rattle.air_ir.specs.declared.assignment.Assignment.{Assignment}
+use Rattle.air_ir.specs.declared.procedure.AirInst.{AirInst}
 
 -- ---- touches
 
@@ -76,10 +76,6 @@ result_writes (LateFixed reg) h n = refl
 pub only_patches : (b w : Bool) (o : Option Register) (reg : Register) → cond (b && w) o None ≡ Some reg → b ≡ true
 only_patches true w o reg e = refl
 only_patches false w o reg e = absurd (cc)
-
-not_true : (b : Bool) → (b ≡ true → ⊥) → b ≡ false
-not_true true never = absurd (never refl)
-not_true false never = refl
 
 low : (p : AirProc) (role : Role) (reg : Register) → MayName p role (Reg reg) → reg.0 ≤ 30
 low p Use reg may = allocatable_low reg may
@@ -192,9 +188,9 @@ module _ (p : AirProc) (a : Assignment) (block place : ℕ) (i : AirInst) (good 
       pub free_keeps : FreeKeeps v is.stackmap c reg
       free_keeps = record {
         within = within;
-        early = not_true _ (λ e. no_early ((is.early reg.0).1 (inl e)));
+        early = false_from_ne_true _ (λ e. no_early ((is.early reg.0).1 (inl e)));
         alone = λ it. no_early ((is.early reg.0).1 (inr it));
-        late = λ late. not_true _ (λ e.
+        late = λ late. false_from_ne_true _ (λ e.
             clash_late n reg in_it (defined Clobber W64 reg (λ n. refl) (changes _ ((is.late reg.0).1 e)))
             (read_late late));
         late_result = λ late e.

@@ -4,6 +4,7 @@ use Rattle.std.specs.Prelude.{slice_get}
 use Rattle.std.proofs.lemmas.Bool.{cases_Bool}
 use Rattle.std.proofs.lemmas.List.{length-map}
 use Rattle.std.proofs.lemmas.List.Elements.{All-head}
+use Rattle.b3_base.proofs.Lists.{All-at, All-front, All-behind}
 use Rattle.b3_base.specs.declared.word.Width.TheVariants.{W64}
 use Rattle.b3_ir.specs.Fits.{Fits}
 use Rattle.b3_ir.specs.Procedure.{Procedure}
@@ -19,7 +20,6 @@ use Rattle.air_ir.specs.Kinds.{kind_of, makes_site}
 use Rattle.air_ir.specs.Renaming.{rename, rename_arg, rename_inst}
 use Rattle.air_ir.specs.SitesInPlaces.{IsSiteFrom, ObeysInPlaces}
 use Rattle.air_ir.specs.WellFormed.{HasOneSiteEach, IsGoodBlock, IsGoodInst, IsWellFormed, NamesOwn, StandsAt}
-use Rattle.air_ir.specs.declared.assignment.Assignment.{Assignment}
 use Rattle.air_ir.specs.declared.op.AirOp.{AirOp}
 use Rattle.air_ir.specs.declared.operand.Arg.{Arg}
 use Rattle.air_ir.specs.declared.operand.Arg.TheVariants.{At, Imm, Addr, Index, FrameSlot}
@@ -30,18 +30,18 @@ use Rattle.air_ir.specs.declared.operand.Role.{Role}
 use Rattle.air_ir.specs.declared.operand.Role.TheVariants.{EarlyDef, Clobber}
 use Rattle.air_ir.specs.declared.procedure.AirBlock.{AirBlock}
 use Rattle.air_ir.specs.declared.procedure.AirInst.{AirInst}
-use Rattle.air_ir.specs.declared.procedure.AirProc.{AirProc}
-use Rattle.air_flow.specs.Proper.{IsProper}
-use Rattle.air_flow.proofs.Names.{all_at}
 use Rattle.air_spill.specs.Rewritten.{home_by, is_copy, kept_operands, rewritten, rewritten_block, rewritten_inst, with_operands}
 use Rattle.air_spill.specs.Stays.{ComesFrom, ComesFromEach}
 use Rattle.air_spill.proofs.Good.{IsLike, is_tmp, like_each, stays}
-use Rattle.air_spill.proofs.Members.{AtMostOne, Origin, all_left, all_right, origin, unmapped}
+use Rattle.air_spill.proofs.Members.{AtMostOne, Origin, origin, unmapped}
 use Rattle.air_spill.proofs.OpByOp.{copying_op, site-renamed}
 use Rattle.air_spill.proofs.Renamed.{listed-renamed, renamed_site}
 use Rattle.air_spill.proofs.PartsOnce.{parts_once}
 use Rattle.air_spill.proofs.SameRun.{rewritten-other}
 use Rattle.air_spill.proofs.SitesMade.{place_of, site_of}
+use Rattle.air_ir.specs.declared.assignment.Assignment.{Assignment}
+use Rattle.air_ir.specs.declared.procedure.AirProc.{AirProc}
+use Rattle.air_flow.specs.Proper.{IsProper}
 
 -- ---- where instructions come from
 
@@ -167,9 +167,9 @@ module _ (p : AirProc) (a : Assignment) (proper : IsProper p a) where
 
   reported_own : (os : List Operand) (s : SiteOperands) → os ≡ listed s → All Own os → All Own s.reported
   reported_own os s e own =
-      all_right Own s.inputs s.reported
-      (all_left Own (s.inputs ++ s.reported) s.changed
-      (all_left Own (s.inputs ++ s.reported ++ s.changed) s.results (subst (All Own) e own)))
+      All-behind Own s.inputs s.reported
+      (All-front Own (s.inputs ++ s.reported) s.changed
+      (All-front Own (s.inputs ++ s.reported ++ s.changed) s.results (subst (All Own) e own)))
 
   in_places : (i : AirInst) → IsGoodInst p i → (b3 : Procedure) (v : Value) → IsExpressed b3 v i
       → IsExpressedInPlaces b3 v (rename_inst (home_by a) i)
@@ -186,7 +186,7 @@ module _ (p : AirProc) (a : Assignment) (proper : IsProper p a) where
         count = length-map is.site.reported (rename (home_by a)) ∙ is.count;
         children = λ k id c u there constraint at.
             let o = unmapped (rename (home_by a)) is.site.reported k u at in
-            child b3 v k id c o.0 u (all_at Own is.site.reported k o.0
+            child b3 v k id c o.0 u (All-at Own is.site.reported k o.0
             (reported_own i.operands is.site is.parts good.names) o.1) o.2
             (is.children k id c o.0 there constraint o.1);
         early = λ r. contains_same (map (rename (home_by a)) is.site.changed) is.site.changed
@@ -240,7 +240,7 @@ module _ (p : AirProc) (a : Assignment) (proper : IsProper p a) where
         f.at.from,
         was,
         comes good block f.at.at f.at.from j was
-            (all_at (IsGoodInst p) was.of.insts f.at.at f.at.from
-            (all_at (IsGoodBlock p) p.blocks block was.of good.blocks was.block_there).insts was.inst_there)
+            (All-at (IsGoodInst p) was.of.insts f.at.at f.at.from
+            (All-at (IsGoodBlock p) p.blocks block was.of good.blocks was.block_there).insts was.inst_there)
             f.at.becomes,
       )

@@ -2,7 +2,8 @@
 use Rattle.std.proofs.Common.{◌≡◌, ◌↔◌, ◌∙◌, ◌⊎◌, ℕ, zero, suc, ◌+◌, ◌-◌, ◌<◌, Bool, true, false, cond, Option, Some, None, IfSome, List, [], ◌∷◌, map, length, Contains, inl, inr, refl, sym, ap, subst, arith}
 use Rattle.std.specs.Prelude.{slice_get}
 use Rattle.std.proofs.lemmas.List.{length-map}
-use Rattle.std.proofs.lemmas.Option.{get_or_from_slice_get, slice_get-get_or, slice_get_within}
+use Rattle.std.proofs.lemmas.Option.{slice_get-get_or, slice_get_within}
+use Rattle.b3_base.proofs.Lists.{get_some, Contains-at}
 use Rattle.b3_base.specs.declared.word.Width.{Width}
 use Rattle.b3_base.specs.declared.word.Width.TheVariants.{W64}
 use Rattle.b3_ir.specs.Fits.{Fits, reported_count, reported_of}
@@ -29,17 +30,13 @@ use Rattle.air_ir.specs.Expressed.{ClobbersIt, IsChild, IsExpressed, IsPlace, Is
 use Rattle.air_ir.specs.Forms.{operand_in}
 use Rattle.air_ir.specs.Renaming.{rename, rename_arg, rename_inst}
 use Rattle.air_ir.specs.SitesInPlaces.{HasClobbers, IsRepOf, IsRepOfHome, IsSiteFrom, kind_by, patch_in, result_by, size_by}
-use Rattle.air_ir.specs.WellFormed.{IsWellFormed, NamesOwn, StandsAt}
-use Rattle.air_ir.specs.declared.assignment.Assignment.{Assignment}
+use Rattle.air_ir.specs.WellFormed.{NamesOwn, StandsAt, IsWellFormed}
 use Rattle.air_ir.specs.declared.operand.Arg.{Arg}
 use Rattle.air_ir.specs.declared.operand.Arg.TheVariants.{At, Imm, Addr, Index, FrameSlot}
 use Rattle.air_ir.specs.declared.operand.Home.{Home}
 use Rattle.air_ir.specs.declared.operand.Home.TheVariants.{Tmp, Reg, Spill}
 use Rattle.air_ir.specs.declared.operand.Operand.{Operand}
 use Rattle.air_ir.specs.declared.operand.Role.TheVariants.{EarlyDef, Clobber}
-use Rattle.air_ir.specs.declared.procedure.AirInst.{AirInst}
-use Rattle.air_ir.specs.declared.procedure.AirProc.{AirProc}
-use Rattle.air_flow.specs.Proper.{IsProper}
 use Rattle.air_spill.specs.Rewritten.{home_by, standing}
 use Rattle.air_spill.proofs.Good.{is_tmp, stays}
 use Rattle.air_spill.proofs.OpByOp.{site-renamed}
@@ -48,22 +45,18 @@ use Rattle.air_spill.proofs.Renamed.{renamed_site}
 use Rattle.air_spill.proofs.SiteOps.{IsCheckOf, IsPatchOf, constraint_count, op_is}
 use Rattle.air_spill.proofs.SiteParts.{free_keeps, own, reports}
 use Rattle.air_spill.proofs.SitesObey.{FreeKeeps, HowStands, keeps_places}
+use Rattle.air_ir.specs.declared.assignment.Assignment.{Assignment}
+use Rattle.air_ir.specs.declared.procedure.AirInst.{AirInst}
+use Rattle.air_ir.specs.declared.procedure.AirProc.{AirProc}
+use Rattle.air_flow.specs.Proper.{IsProper}
 
 -- ---- lists
-
-some_at : {A : Type 0} (xs : List A) (k : ℕ) → k < length xs → (x : A) × (slice_get xs k ≡ Some x)
-some_at [] k lt = absurd (omega (arith, lt))
-some_at (x ∷ xs) zero lt = (x, refl)
-some_at (x ∷ xs) (suc k) lt = some_at xs k (omega (arith, lt))
 
 mapped_at : {A B : Type 0} (f : A → B) (xs : List A) (k : ℕ) (x : A) → slice_get xs k ≡ Some x
     → slice_get (map f xs) k ≡ Some (f x)
 mapped_at f [] k x e = absurd (cc)
 mapped_at f (y ∷ xs) zero x e = let same : y ≡ x = cc in ap (λ z. Some (f z)) same
 mapped_at f (y ∷ xs) (suc k) x e = mapped_at f xs k x e
-
-contains_at : {A : Type 0} (xs : List A) (k : ℕ) (x : A) → slice_get xs k ≡ Some x → Contains xs x
-contains_at xs k x e = (k, slice_get_within xs k x e, get_or_from_slice_get xs k x x e)
 
 reported_least : (m : More) (k rest : ℕ) → k < reported_of m rest → k < rest
 reported_least more.NoMore k rest lt = absurd (omega (arith, lt))
@@ -150,9 +143,9 @@ module _ (p : AirProc) (a : Assignment) (block place : ℕ) (i : AirInst) (good 
       let within : k < reported_count v = (let lt = slice_get_within site.reps k given e in omega (arith, lt, count)) in
       let rest = reported_least (row_of v.kind.opcode).more k
       (length v.children - length (row_of v.kind.opcode).takes) within in
-      let id = some_at v.children (length (row_of v.kind.opcode).takes + k) (omega (arith, rest)) in
-      let c = some_at m.constraints k (omega (arith, within, constraints)) in
-      let o = some_at is.site.reported k (let n = is.count in omega (arith, within, n)) in
+      let id = get_some v.children (length (row_of v.kind.opcode).takes + k) (omega (arith, rest)) in
+      let c = get_some m.constraints k (omega (arith, within, constraints)) in
+      let o = get_some is.site.reported k (let n = is.count in omega (arith, within, n)) in
       let fit = from.places k (rename (home_by a) o.0) given
       (mapped_at (rename (home_by a)) is.site.reported k o.0 o.1) e in
       record {
@@ -169,7 +162,7 @@ module _ (p : AirProc) (a : Assignment) (block place : ℕ) (i : AirInst) (good 
 
   listed_there : (k : ℕ) (given : Place) (child : OfChild k given) → Contains i.operands child.o
   listed_there k given child =
-      reports p a block place i good proper at b3 v is child.o (contains_at is.site.reported k child.o child.reported)
+      reports p a block place i good proper at b3 v is child.o (Contains-at is.site.reported k child.o child.reported)
 
   own_arg : (k : ℕ) (given : Place) (child : OfChild k given) (arg : Arg) → child.o.arg ≡ arg
       → NamesOwn p child.o.role arg

@@ -16,9 +16,6 @@ abbrev pub joined : List ℕ → Option (List ℕ) → Option (List ℕ)
 joined found (Some words) = Some (found ++ words)
 joined found None = None
 
-pub joined-none : (found : List ℕ) (words : Option (List ℕ)) → joined found (and_word None words) ≡ None
-joined-none found words = refl
-
 pub joined-more : (found : List ℕ) (word : ℕ) (words : Option (List ℕ)) → joined found (and_word (Some word) words) ≡ joined (found ++ word ∷ []) words
 joined-more found word (Some words) = ap Some (sym (append_assoc found (word ∷ []) words))
 joined-more found word None = refl

@@ -1,9 +1,7 @@
 -- Blocks walked value by value, and runs block by block.
-use Rattle.std.proofs.Common.{◌≡◌, ℕ, zero, suc, ◌-◌, ◌<◌, List, [], ◌∷◌, length, drop, slice_get, Some, refl, sym, ap, subst, ◌∙◌, arith}
+use Rattle.std.proofs.Common.{◌≡◌, ℕ, List, ◌∷◌, refl, sym, ap, subst, ◌∙◌}
 use Rattle.b3_base.specs.Observed.{Start}
-use Rattle.b3_base.specs.Run.{iterate}
 use Rattle.b3_base.specs.declared.observation.Status.{Status}
-use Rattle.b3_base.proofs.Run.{iterate-suc}
 use Rattle.b3_ir.specs.Naming.{type_of}
 use Rattle.b3_ir.specs.Procedure.{Procedure, values_of}
 use Rattle.b3_ir.specs.declared.opcode.Ty.{Ty}
@@ -12,14 +10,6 @@ use Rattle.b3_meaning.specs.Run.{Config, At, Over, Lost, Loss, Effect, Next, To,
 use Rattle.b3_eval.specs.Stands.{IsLost, IsLostRun, Leads, Shows}
 use Rattle.b3_eval.specs.declared.state.Flow.{Flow}
 use Rattle.b3_eval.specs.declared.state.Flow.TheVariants as flow
-
-pub head_and_rest : {X : Type 0} (xs : List X) (x : X) → slice_get xs 0 ≡ Some x → xs ≡ x ∷ drop 1 xs
-head_and_rest [] x e = absurd (cc)
-head_and_rest (y ∷ xs) x e = let same : y ≡ x = cc in ap (λ z. z ∷ xs) same
-
-pub shorter : {X : Type 0} (ys xs : List X) (x : X) → slice_get xs 0 ≡ Some x → ys ≡ drop 1 xs → length ys < length xs
-shorter ys [] x e rest = absurd (cc)
-shorter ys (y ∷ xs) x e rest = let same : length ys ≡ length xs = ap length rest in omega arith
 
 -- ---- values
 
@@ -57,10 +47,6 @@ stepped_lost types start all vs rest v first st new way same is lost shows =
     rest) e)
 
 -- ---- blocks
-
-pub one_less : (f : Config → Config) (n : ℕ) (s : Config) → 0 < n → iterate f n s ≡ iterate f (n - 1) (f s)
-one_less f zero s pos = absurd (omega arith)
-one_less f (suc n) s pos = let e : n ≡ suc n - 1 = omega arith in iterate-suc f n s ∙ ap (λ k. iterate f k (f s)) e
 
 pub led_to : (p : Procedure) (start : Start) (types : ℕ → Ty) (block next : ℕ) (st new : State) (way : Flow) → types ≡ type_of p → way ≡ flow.To next →
     Leads way new (run_values types start (values_of p block) st) → block_step p start (At block st) ≡ At next new

@@ -1,5 +1,5 @@
 -- The bytes of an answer, put one after the other.
-use Rattle.std.proofs.Common.{◌≡◌, ◌≢◌, ℕ, ◌+◌, ◌*◌, ◌^◌, ◌<◌, ◌≤◌, Bool, true, false, Option, Some, None, is_some, IfSome, refl, sym, ap, subst, ⊎_elim, ◌∙◌, arith, if◌then◌else◌}
+use Rattle.std.proofs.Common.{◌≡◌, ◌≢◌, ℕ, ◌+◌, ◌^◌, ◌<◌, ◌≤◌, Bool, true, false, Option, Some, None, is_some, IfSome, refl, sym, ap, subst, ⊎_elim, ◌∙◌, arith, if◌then◌else◌}
 use mathlib.Core.Path.{fun_ext}
 use Rattle.std.specs.Bool.{OnTrue, OnFalse}
 use Rattle.std.specs.FinMap as finite
@@ -7,33 +7,13 @@ use Rattle.std.specs.FinMap.{FinMap}
 use Rattle.std.specs.Ordering.{nat_cmp}
 use Rattle.std.specs.Option.{option_or}
 use Rattle.std.proofs.lemmas.Bool.{cases_eq, cases_lt, eq-eqb, le-ltb, lt-ltb, ne_eqb}
-use Rattle.b3_base.specs.Memory.{AreBytes, IsNextMapped, byte_address, byte_of, is_mapped, put_byte, read_word, with_byte_above, write_word}
+use Rattle.b3_base.proofs.OneByte.{read_one, mapped_one, write_one}
+use Rattle.b3_base.specs.Memory.{AreBytes, IsNextMapped, is_mapped, put_byte, read_word, write_word}
 use Rattle.b3_base.specs.Observed.{Memory}
 use Rattle.b3_meaning.specs.Run.{with_writes}
 use Rattle.b3_eval.specs.Writes.{with_byte, with_bytes_below}
 
 -- ---- one byte
-
-here : (address : ℕ) → address < 2 ^ 64 → byte_address address 0 ≡ address
-here address small = omega arith
-
-pub read_one : (m : Memory) (address : ℕ) → address < 2 ^ 64 → read_word m address 1 ≡ m address
-unfolding read_word
-read_one m address small = rw (here address small) (one (m address))
-  where
-    one : (o : Option ℕ) → with_byte_above 0 (Some 0) o ≡ o
-    one (Some byte) = let e : 0 + byte * 2 ^ (8 * 0) ≡ byte = omega arith in ap Some e
-    one None = refl
-
-pub mapped_one : (m : Memory) (address : ℕ) → address < 2 ^ 64 → is_mapped m address 1 ≡ is_some (m address)
-unfolding is_mapped
-mapped_one m address small = rw (here address small) refl
-
-pub write_one : (m : Memory) (address byte : ℕ) → address < 2 ^ 64 → byte < 256 → write_word m address 1 byte ≡ put_byte m address byte
-unfolding write_word
-write_one m address byte small fits =
-    let same : byte_of byte 0 ≡ byte = omega arith in
-    rw (here address small, same) refl
 
 -- what isn't written stays
 pub unwritten : (m writes : Memory) (q : ℕ) → writes q ≡ None → with_writes m writes q ≡ m q
@@ -94,51 +74,6 @@ byte_at m address byte bytes small read =
     h.1
 
 -- ---- all bytes
-
-pub none_below : (old writes : Memory) → old ≡ with_bytes_below old writes 0
-none_below old writes = fun_ext (λ q. rw (le-ltb q 0 (omega arith)) refl)
-
-same_writes : (m old writes : Memory) (q : ℕ) → m q ≡ old q → with_writes m writes q ≡ with_writes old writes q
-same_writes m old writes q e = rw e refl
-
--- the next byte is put
-pub one_more : (old writes m : Memory) (from address : ℕ) → IsNextMapped writes from address → m ≡ with_bytes_below old writes from →
-    with_byte m writes address ≡ with_bytes_below old writes (address + 1)
-one_more old writes m from address next e = fun_ext (λ q. ⊎_elim
-    (λ is.
-    let le : from ≤ q = omega (arith, next.0) in
-    let lt : q < address + 1 = omega arith in
-    let at : m q ≡ old q = ap (λ (k : Memory). k q) e ∙ rw (le-ltb q from le) refl in
-    rw (eq-eqb q address is, lt-ltb q (address + 1) lt) (same_writes m old writes q at))
-    (λ not. rw (ne_eqb q address not) (ap (λ (k : Memory). k q) e ∙ ⊎_elim
-    (λ below.
-    let lt : q < address + 1 = omega (arith, next.0) in
-    rw (lt-ltb q from below, lt-ltb q (address + 1) lt) refl)
-    (λ from_on. rw (le-ltb q from from_on) (⊎_elim
-    (λ between.
-    let lt : q < address + 1 = omega arith in
-    rw (lt-ltb q (address + 1) lt) (sym (unwritten old writes q (next.2 q from_on between))))
-    (λ above.
-    let le : address + 1 ≤ q = omega arith in
-    rw (le-ltb q (address + 1) le) refl)
-    (cases_lt q address)))
-    (cases_lt q from)))
-    (cases_eq q address))
-
--- no byte is left
-pub all_below : (old writes : Memory) (from : ℕ) → ((q : ℕ) → from ≤ q → writes q ≡ None) → with_bytes_below old writes from ≡ with_writes old writes
-all_below old writes from none = fun_ext (λ q. ⊎_elim
-    (λ below. rw (lt-ltb q from below) refl)
-    (λ from_on. rw (le-ltb q from from_on) (sym (unwritten old writes q (none q from_on))))
-    (cases_lt q from))
-
--- bytes have addresses below 2^64
-pub none_above : (m : Memory) (q : ℕ) → AreBytes m → 2 ^ 64 ≤ q → m q ≡ None
-none_above m q bytes le = none (m q) (bytes q)
-  where
-    none : (o : Option ℕ) → IfSome o (λ byte. (q < 2 ^ 64) × (byte < 256)) → o ≡ None
-    none (Some byte) h = absurd (omega (arith, h.0))
-    none None h = refl
 
 -- memories that are one have the same bytes
 pub off_same : (told : Bool) (new old : FinMap nat_cmp ℕ) → OnFalse told (new ≡ old) → OnFalse told (finite.get new ≡ finite.get old)

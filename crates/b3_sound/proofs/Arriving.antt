@@ -4,12 +4,13 @@ use Rattle.std.proofs.lemmas.Bool.{cases_eq}
 use Rattle.std.proofs.lemmas.List.{append_assoc}
 use Rattle.std.proofs.lemmas.List.Elements.{All-contains}
 use Rattle.std.specs.Prelude.{Contains}
+use Rattle.b3_base.proofs.Lists.{Contains-none, Contains-cases}
 use Rattle.b3_ir.specs.declared.value.Value.{Value}
 use Rattle.b3_ir.specs.Procedure.{Procedure, values_of}
 use Rattle.b3_rules.specs.Paths.{IsPath, IsCovered}
 use Rattle.b3_sound.specs.Laws.{StandsAfter}
 use Rattle.b3_sound.proofs.Kept.{IsKept}
-use Rattle.b3_sound.proofs.Lists.{contains_none, contains_cases, contains_split, not_longer}
+use Rattle.b3_sound.proofs.Lists.{contains_split, not_longer}
 use Rattle.b3_sound.proofs.Distinct.{stands}
 
 -- a path to a block that it didn't pass before
@@ -18,13 +19,13 @@ FirstArrival p b = (passed : List ℕ) × IsPath p passed b × (Contains passed 
 
 -- a path that passed a block came to it a first time
 first_of_passed : (p : Procedure) (b : ℕ) (passed : List ℕ) (last : ℕ) → IsPath p passed last → (Contains passed b → ⊥) ⊎ FirstArrival p b
-first_of_passed p b [] last path = inl (contains_none b)
+first_of_passed p b [] last path = inl (Contains-none b)
 first_of_passed p b (c ∷ passed) last path =
     elim (first_of_passed p b passed c path.1) [
       | inr first ↦ inr first
       | inl never ↦ elim (cases_eq c b) [
         | inl e ↦ inr (passed, subst (λ (x : ℕ). IsPath p passed x) e path.1, never)
-        | inr other ↦ inl (λ has. ⊎_elim other never (contains_cases c passed b has))
+        | inr other ↦ inl (λ has. ⊎_elim other never (Contains-cases c passed b has))
       ]
     ]
 

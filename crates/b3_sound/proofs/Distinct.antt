@@ -9,9 +9,10 @@ use Rattle.b3_ir.specs.Naming.{all_values, type_of, type_or_void, value_named, w
 use Rattle.b3_ir.specs.Procedure.{Block, Procedure, no_block, values_of}
 use Rattle.std.specs.List.{flat_map}
 use Rattle.std.proofs.lemmas.List.Concat.{flat_map-cons}
+use Rattle.b3_base.proofs.Lists.{Contains-none, Contains-first, Contains-later, Contains-cases}
 use Rattle.b3_sound.specs.Laws.{StandsAfter}
 use Rattle.b3_sound.proofs.Kept.{HasDistinctIds}
-use Rattle.b3_sound.proofs.Lists.{contains_none, contains_head, contains_tail, contains_cases, contains_split}
+use Rattle.b3_sound.proofs.Lists.{contains_split}
 
 -- a value of a block stands after some values of it
 pub stands : (p : Procedure) (b : ℕ) (v : Value) → Contains (values_of p b) v → (before : List Value) × StandsAfter p b before v
@@ -34,16 +35,16 @@ same_value p valid b c v w in_b in_c e =
 
 -- the value that an id names is the one with this id
 with_id_value : (vs : List Value) (v : Value) → Contains vs v → ((w : Value) → Contains vs w → w.id ≡ v.id → w ≡ v) → with_id v.id vs ≡ Some v
-with_id_value [] v has one = absurd (contains_none v has)
+with_id_value [] v has one = absurd (Contains-none v has)
 with_id_value (u ∷ vs) v has one =
     ⊎_elim
     (λ (yes : (nat_eq u.id v.id ≡ true) × (u.id ≡ v.id)).
-    rw yes.0 (ap Some (one u (contains_head u vs) yes.1)))
+    rw yes.0 (ap Some (one u (Contains-first u vs) yes.1)))
     (λ (no : (nat_eq u.id v.id ≡ false) × (u.id ≢ v.id)).
     rw no.0 (⊎_elim
     (λ (e : u ≡ v). absurd (no.1 (ap (λ (w : Value). w.id) e)))
-    (λ more. with_id_value vs v more (λ w h. one w (contains_tail u vs w h)))
-    (contains_cases u vs v has)))
+    (λ more. with_id_value vs v more (λ w h. one w (Contains-later u vs w h)))
+    (Contains-cases u vs v has)))
     (eqb_tells u.id v.id)
 
 abbrev values_in : List Block → ℕ → List Value
@@ -53,13 +54,13 @@ abbrev all_in : List Block → List Value
 all_in blocks = flat_map (λ (b : Block). b.values) blocks
 
 in_all : (blocks : List Block) (b : ℕ) (v : Value) → Contains (values_in blocks b) v → Contains (all_in blocks) v
-in_all [] b v has = absurd (contains_none v has)
+in_all [] b v has = absurd (Contains-none v has)
 in_all (block ∷ blocks) zero v has = rw (flat_map-cons (λ (b : Block). b.values) block blocks) (Contains-append_left block.values (all_in blocks) v has)
 in_all (block ∷ blocks) (suc b) v has =
     rw (flat_map-cons (λ (b : Block). b.values) block blocks) (Contains-append_right block.values (all_in blocks) v (in_all blocks b v has))
 
 in_some_block : (blocks : List Block) (v : Value) → Contains (all_in blocks) v → (b : ℕ) × Contains (values_in blocks b) v
-in_some_block [] v has = absurd (contains_none v has)
+in_some_block [] v has = absurd (Contains-none v has)
 in_some_block (block ∷ blocks) v has =
     elim (Contains-append_cases block.values (all_in blocks) v (subst (λ l. Contains l v) (flat_map-cons (λ (b : Block). b.values) block blocks) has)) [
       | inl here ↦ (0, here)

@@ -6,6 +6,7 @@ use Rattle.std.proofs.lemmas.List.Elements.{All-get_or, All-head, All-tail}
 use Rattle.std.proofs.lemmas.Option.{slice_get-get_or}
 use Rattle.b3_base.proofs.MemoryLaws.{is_some-read_word, write_word-AreBytes}
 use Rattle.b3_base.proofs.WordLaws.{read_word-lt}
+use Rattle.b3_base.proofs.Lists.{Contains-first, Contains-later}
 use Rattle.b3_base.specs.Arithmetic.{low}
 use Rattle.b3_base.specs.Memory.{is_mapped, read_word}
 use Rattle.b3_base.specs.Observed.{Answer, Event, Give, Leave, Start}
@@ -36,7 +37,6 @@ use Rattle.b3_rules.specs.Paths.{successors_in}
 use Rattle.b3_rules.specs.Rules.{SuitsPhi}
 use Rattle.b3_sound.specs.Laws.{IsRangedState}
 use Rattle.b3_sound.proofs.Kept.{NamesSlot}
-use Rattle.b3_sound.proofs.Lists.{contains_head, contains_tail}
 use Rattle.b3_sound.proofs.Ranged.{loaded_below, put_ranged, writes_bytes}
 use Rattle.b3_sound.proofs.Results.{IsBelow, IsIn, half_of, limit_of, low_in, unsigned_in, UpTo}
 use Rattle.b3_sound.proofs.Rows.{HasFirst, IsOne, IsRow, is_ending}
@@ -144,13 +144,13 @@ two_words t u ts ws is words = cut ws (subst (λ (l : List Ty). AreWordsOf l ws)
 chosen_in : (width : Width) (word : ℕ) (cases targets : List ℕ) → length targets ≡ length cases + 1
     → (block : ℕ) × (chosen width word cases targets ≡ Some block) × Contains targets block
 chosen_in width word cases [] count = absurd (omega arith)
-chosen_in width word [] (target ∷ targets) count = (target, refl, contains_head target targets)
+chosen_in width word [] (target ∷ targets) count = (target, refl, Contains-first target targets)
 chosen_in width word (case ∷ cases) (target ∷ targets) count = pick (chosen_in width word cases targets (omega arith)) (nat_eq (low width case) word)
   where
     pick : ((block : ℕ) × (chosen width word cases targets ≡ Some block) × Contains targets block) → (b : Bool)
         → (block : ℕ) × ((if b then Some target else chosen width word cases targets) ≡ Some block) × Contains (target ∷ targets) block
-    pick rest true = (target, refl, contains_head target targets)
-    pick rest false = (rest.0, rest.1, contains_tail target targets rest.0 rest.2)
+    pick rest true = (target, refl, Contains-first target targets)
+    pick rest false = (rest.0, rest.1, Contains-later target targets rest.0 rest.2)
 
 -- ---- the roles
 
@@ -339,13 +339,13 @@ module _ (p : Procedure) (st : State) (v : Value) (ws : List ℕ) (ranged : IsRa
 
   jumps_fit : (b : Body) → v.body ≡ b → HasTargets 1 b → IsEffectOf Jump p st v ws (jumps st b)
   jumps_fit (body.Targets []) is count = absurd (omega arith)
-  jumps_fit (body.Targets (c ∷ [])) is count = (refl, subst (λ (x : Body). Contains (successors_in x) c) (sym is) (contains_head c []), refl)
+  jumps_fit (body.Targets (c ∷ [])) is count = (refl, subst (λ (x : Body). Contains (successors_in x) c) (sym is) (Contains-first c []), refl)
   jumps_fit (body.Targets (c ∷ d ∷ cs)) is count = absurd (omega arith)
   jumps_fit _ is count = absurd count
 
   one_of_two : (c d : ℕ) (told : Bool) → Contains (c ∷ d ∷ []) (if told then d else c)
-  one_of_two c d true = contains_tail c (d ∷ []) d (contains_head d [])
-  one_of_two c d false = contains_head c (d ∷ [])
+  one_of_two c d true = Contains-later c (d ∷ []) d (Contains-first d [])
+  one_of_two c d false = Contains-first c (d ∷ [])
 
   branches_to : (b : Body) (w : ℕ) → v.body ≡ b → HasTargets 2 b → IsEffectOf Branch p st v ws (branches st b (w ∷ []))
   branches_to (body.Targets []) w is count = absurd (omega arith)

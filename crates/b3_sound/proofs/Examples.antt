@@ -3,6 +3,7 @@
 use Rattle.std.proofs.Common.{◌≡◌, ◌≢◌, ℕ, zero, suc, ◌^◌, ◌<◌, inl, inr, true, false, List, [], ◌∷◌, Some, refl, ap, subst, arith}
 use Rattle.std.specs.Prelude.{All, codes, pos, slice_get}
 use Rattle.std.proofs.lemmas.List.Elements.{All-nil, All-cons, All-head}
+use Rattle.b3_base.proofs.Lists.{Contains-none, Contains-first, Contains-later}
 use Rattle.b3_base.specs.Memory.{is_mapped, read_word}
 use Rattle.b3_base.specs.Observed.{Give, Memory, Start, no_memory}
 use Rattle.b3_base.specs.Ranged.{IsRangedAnswer}
@@ -31,7 +32,6 @@ use Rattle.b3_rules.specs.declared.rule.Rule.TheVariants as rule
 use Rattle.b3_sound.specs.Laws.{IsStarted, NeverMalformed}
 use Rattle.b3_sound.proofs.FromValid.{is_kept}
 use Rattle.b3_sound.proofs.Law.{never_malformed}
-use Rattle.b3_sound.proofs.Lists.{contains_head, contains_none, contains_tail}
 
 abbrev value_of : ℕ → Ty → Opcode → List ℕ → Body → Value
 value_of id ty opcode children body = record {
@@ -313,8 +313,8 @@ early_uncovered covers =
     none (covered [] refl)
   where
     none : (v : Value) × (v.id ≡ 1) × HasRun early_use [] [] v → ⊥
-    none (v, id, inl here) = contains_none v here
-    none (v, id, inr there) = contains_none there.0 there.1
+    none (v, id, inl here) = Contains-none v here
+    none (v, id, inr there) = Contains-none there.0 there.1
 
 -- ---- the sum
 
@@ -365,10 +365,10 @@ ten_covers = each_of (constant 0 5) (sum 1 0 0) (return_of 2 1) (λ c m x. Cover
     (All-nil _)
     (All-cons (IsCoveredAt ten 0 1) 0 (0 ∷ []) zeroth (All-cons (IsCoveredAt ten 0 1) 0 [] zeroth (All-nil _)))
     (All-cons (IsCoveredAt ten 0 2) 1 []
-    (λ passed path. (sum 1 0 0, refl, inl (contains_tail (constant 0 5) (sum 1 0 0 ∷ []) (sum 1 0 0) (contains_head (sum 1 0 0) [])))) (All-nil _))
+    (λ passed path. (sum 1 0 0, refl, inl (Contains-later (constant 0 5) (sum 1 0 0 ∷ []) (sum 1 0 0) (Contains-first (sum 1 0 0) [])))) (All-nil _))
   where
     zeroth : IsCoveredAt ten 0 1 0
-    zeroth passed path = (constant 0 5, refl, inl (contains_head (constant 0 5) []))
+    zeroth passed path = (constant 0 5, refl, inl (Contains-first (constant 0 5) []))
 
 ten_is_valid : IsValidProcedure ten
 ten_is_valid = valid_where (constant 0 5) (sum 1 0 0) (return_of 2 1) ten_keeps ten_covers

@@ -6,19 +6,19 @@ use Rattle.std.proofs.lemmas.Bool.{cases_lt}
 use Rattle.std.proofs.lemmas.List.Elements.{All-contains, All-get_or, All-weaker}
 use Rattle.std.proofs.lemmas.Option.{slice_get-get_or, slice_get_within}
 use Rattle.std.proofs.lemmas.List.{get_or_past}
+use Rattle.b3_base.proofs.Lists.{Contains-none, Contains-middle}
 use Rattle.b3_ir.specs.Fits.{Fits}
-use Rattle.b3_ir.specs.Procedure.{AllFit, Block, Procedure, StandsAt, no_block, values_of}
+use Rattle.b3_ir.specs.Procedure.{Block, Procedure, StandsAt, no_block, values_of, AllFit}
 use Rattle.b3_ir.specs.Table.{is_terminal}
 use Rattle.b3_ir.specs.declared.value.Body.{Body}
 use Rattle.b3_ir.specs.declared.value.Body.TheVariants.{Slot}
 use Rattle.b3_ir.specs.declared.value.Value.{Value}
 use Rattle.b3_rules.specs.Paths.{IsCovered, successors_in}
 use Rattle.b3_rules.specs.Rules.{HasNewId, IsBlockNumber, KnowsSlot}
-use Rattle.b3_rules.specs.Valid.{Header, HeadingAt, IsValidProcedure, SlotAt, ValueAt}
+use Rattle.b3_rules.specs.Valid.{Header, HeadingAt, SlotAt, ValueAt, IsValidProcedure}
 use Rattle.b3_rules.specs.declared.rule.Rule.TheVariants as rule
 use Rattle.b3_sound.specs.Laws.{StandsAfter}
 use Rattle.b3_sound.proofs.Kept.{EndsBlock, HasDistinctIds, IsKept, KeepsRules, NamesSlot}
-use Rattle.b3_sound.proofs.Lists.{contains_middle, contains_none}
 
 -- ---- places
 
@@ -103,14 +103,14 @@ module _ (p : Procedure) (valid : IsValidProcedure p) (fit : AllFit p.blocks) wh
   fits_here b v has = ⊎_elim
       (λ (lt : b < length p.blocks).
       All-contains Fits (values_of p b) v (All-get_or (λ (block : Block). All Fits block.values) p.blocks b no_block lt fit) has)
-      (λ (ge : length p.blocks ≤ b). absurd (contains_none v (subst (λ (block : Block). Contains block.values v) (get_or_past p.blocks b no_block ge) has)))
+      (λ (ge : length p.blocks ≤ b). absurd (Contains-none v (subst (λ (block : Block). Contains block.values v) (get_or_past p.blocks b no_block ge) has)))
       (cases_lt b (length p.blocks))
 
   rules_at : (b : ℕ) (before : List Value) (v : Value) → StandsAfter p b before v → KeepsRules p b before v
   rules_at b before v at =
       let place : StandsAt p b (length before) v = at_place p b before v at in
       record {
-        fits = fits_here b v (subst (λ l. Contains l v) (sym at.1) (contains_middle before at.0 v));
+        fits = fits_here b v (subst (λ l. Contains l v) (sym at.1) (Contains-middle before at.0 v));
         typed = valid rule.Types (ValueAt b (length before) v) place;
         phi = valid rule.Phis (ValueAt b (length before) v) place;
         slot = slot_named v.body (valid rule.KnownSlots (ValueAt b (length before) v) place);

@@ -4,6 +4,7 @@ use Rattle.std.specs.Prelude.{Contains, IsSome}
 use Rattle.std.proofs.lemmas.Bool.{cases_eq, lt-ltb}
 use Rattle.std.proofs.lemmas.List.{append-nil, append_assoc}
 use Rattle.std.proofs.lemmas.List.Elements.{All-contains, Contains-push_cases, Contains-append_left}
+use Rattle.b3_base.proofs.Lists.{Contains-none, Contains-first, Contains-later, Contains-cases, Contains-middle}
 use Rattle.b3_base.specs.Observed.{Start}
 use Rattle.b3_base.specs.Ranged.{IsRangedStart}
 use Rattle.b3_base.specs.Word.{bits}
@@ -27,14 +28,14 @@ use Rattle.b3_sound.proofs.Arriving.{not_used_before}
 use Rattle.b3_sound.proofs.Distinct.{same_value, type_of_value}
 use Rattle.b3_sound.proofs.Effects.{Goes, IsEffectOf, by_role}
 use Rattle.b3_sound.proofs.Kept.{IsKept}
-use Rattle.b3_sound.proofs.Lists.{contains_none, contains_head, contains_tail, contains_cases, contains_middle, contains_split, not_longer}
+use Rattle.b3_sound.proofs.Lists.{contains_split, not_longer}
 use Rattle.b3_sound.proofs.Reached.{IsReached}
 use Rattle.b3_sound.proofs.Results.{IsIn, result_fits}
 use Rattle.b3_sound.proofs.Rows.{child_typed, ending_void, is_ending, row_by_role}
 
 -- ---- where values stand
 pub in_block : (p : Procedure) (b : ℕ) (before : List Value) (v : Value) → StandsAfter p b before v → Contains (values_of p b) v
-in_block p b before v at = subst (λ l. Contains l v) (sym at.1) (contains_middle before at.0 v)
+in_block p b before v at = subst (λ l. Contains l v) (sym at.1) (Contains-middle before at.0 v)
 
 -- what has run stands in a block
 pub ran_in_block : (p : Procedure) (b : ℕ) (passed : List ℕ) (before rest : List Value) → values_of p b ≡ before ++ rest → (v : Value)
@@ -52,15 +53,15 @@ ran_more p passed before v w (inr there) = inl (inr there)
 words_there : (types : ℕ → Ty) (f g : ℕ → Option ℕ) (ids : List ℕ) → ((i : ℕ) → Contains ids i → f i ≡ g i) → words_of types f ids ≡ words_of types g ids
 words_there types f g [] same = refl
 words_there types f g (i ∷ ids) same =
-    ap (λ o. and_word (word_in (width_of (types i)) o) (words_of types f ids)) (same i (contains_head i ids))
-    ∙ ap (and_word (word_in (width_of (types i)) (g i))) (words_there types f g ids (λ q has. same q (contains_tail i ids q has)))
+    ap (λ o. and_word (word_in (width_of (types i)) o) (words_of types f ids)) (same i (Contains-first i ids))
+    ∙ ap (and_word (word_in (width_of (types i)) (g i))) (words_there types f g ids (λ q has. same q (Contains-later i ids q has)))
 
 words_some : (types : ℕ → Ty) (words : ℕ → Option ℕ) (ids : List ℕ) → ((i : ℕ) → Contains ids i → (word : ℕ) × (words i ≡ Some word) × IsIn (types i) word)
     → (ws : List ℕ) × (words_of types words ids ≡ Some ws) × AreWordsOf (map types ids) ws
 words_some types words [] each = ([], refl, tt)
 words_some types words (i ∷ ids) each =
-    let rest = words_some types words ids (λ q has. each q (contains_tail i ids q has)) in
-    let here = each i (contains_head i ids) in
+    let rest = words_some types words ids (λ q has. each q (Contains-later i ids q has)) in
+    let here = each i (Contains-first i ids) in
     let fits : word_in (width_of (types i)) (Some here.0) ≡ Some here.0 = rw (lt-ltb here.0 (2 ^ bits (width_of (types i))) here.2) refl in (
       here.0 ∷ rest.0,
       ap (λ o. and_word (word_in (width_of (types i)) o) (words_of types words ids)) here.1
@@ -201,7 +202,7 @@ module _ (p : Procedure) (valid : IsKept p) (b : ℕ) (passed : List ℕ) (befor
             (λ (e : v ≡ w). absurd (typed (ap (λ (x : Value). x.ty) (sym e) ∙ void_at_end ends))) (back w ran);
         constants = λ w word ran is holds. ⊎_elim (λ old. reached.constants w word old is holds)
             (λ (e : v ≡ w). absurd (ends_no_constant (role_of v.kind.opcode) (ap (λ (x : Value). role_of x.kind.opcode) e ∙ is) ends)) (back w ran);
-        pure = λ w has is. absurd (contains_none w has);
+        pure = λ w has is. absurd (Contains-none w has);
         ranged = reached.ranged;
       }
     where
@@ -209,11 +210,11 @@ module _ (p : Procedure) (valid : IsKept p) (b : ℕ) (passed : List ℕ) (befor
       whole = at.1 ∙ ap (λ l. before ++ v ∷ l) last
 
       back : (w : Value) → HasRun p (b ∷ passed) [] w → HasRun p passed before w ⊎ (v ≡ w)
-      back w (inl none) = absurd (contains_none w none)
+      back w (inl none) = absurd (Contains-none w none)
       back w (inr there) =
           ⊎_elim
           (λ (e : b ≡ there.0).
           let here : Contains (values_of p b) w = subst (λ (c : ℕ). Contains (values_of p c) w) (sym e) there.2 in
           ran_more p passed before v w (inl (subst (λ l. Contains l w) whole here)))
           (λ more. inl (inr (there.0, more, there.2)))
-          (contains_cases b passed there.0 there.1)
+          (Contains-cases b passed there.0 there.1)

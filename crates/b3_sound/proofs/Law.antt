@@ -3,7 +3,7 @@ use Rattle.std.proofs.Common.{◌≡◌, ◌≢◌, ℕ, ◌<◌, inl, inr, List
 use Rattle.std.proofs.lemmas.List.{append_assoc}
 use Rattle.std.proofs.lemmas.List.Elements.{All-contains}
 use Rattle.b3_base.proofs.Run.{iterate-keeps}
-use Rattle.b3_base.specs.Observed.{Answer, Start}
+use Rattle.b3_base.proofs.Lists.{Contains-none}
 use Rattle.b3_ir.specs.Procedure.{Procedure, values_of}
 use Rattle.b3_ir.specs.Table.{is_terminal}
 use Rattle.b3_ir.specs.declared.value.Value.{Value}
@@ -11,14 +11,14 @@ use Rattle.b3_meaning.specs.Roles.{role_of}
 use Rattle.b3_ir.specs.Naming.{type_of}
 use Rattle.b3_meaning.specs.Run.{State, Config, At, Over, Lost, Undefined_, Malformed, Effect, Next, To, End, effect, after, run_values, block_step, first, run_of}
 use Rattle.b3_rules.specs.Paths.{HasRun, IsPath, successors_in}
-use Rattle.b3_sound.specs.Laws.{IsStarted, StandsAfter}
+use Rattle.b3_sound.specs.Laws.{StandsAfter, IsStarted}
 use Rattle.b3_sound.proofs.Distinct.{stands}
 use Rattle.b3_sound.proofs.Effects.{Goes, IsEffectOf}
 use Rattle.b3_sound.proofs.Keeping.{child_words, enters, goes_on, reached_effect}
 use Rattle.b3_sound.proofs.Kept.{EndsBlock, IsKept}
-use Rattle.b3_sound.proofs.Lists.{contains_none}
 use Rattle.b3_sound.proofs.Reached.{IsReached, IsSound}
 use Rattle.b3_sound.proofs.Rows.{is_ending, terminal_ends}
+use Rattle.b3_base.specs.Observed.{Answer, Start}
 
 -- a path leads to a block of the procedure
 pub path_in : (p : Procedure) → IsKept p → (passed : List ℕ) (b : ℕ) → IsPath p passed b → b < length p.blocks
@@ -92,7 +92,7 @@ module _ (p : Procedure) (valid : IsKept p) (start : Start) (answers : List Answ
       path = refl;
       words = λ v ran typed. absurd (none_ran v ran);
       constants = λ v k ran const holds. absurd (none_ran v ran);
-      pure = λ v has is. absurd (contains_none v has);
+      pure = λ v has is. absurd (Contains-none v has);
       ranged = record {
         words = λ id word e. absurd (cc);
         locations = λ id word e. absurd (cc);
@@ -103,8 +103,8 @@ module _ (p : Procedure) (valid : IsKept p) (start : Start) (answers : List Answ
   )
     where
       none_ran : (v : Value) → HasRun p [] [] v → ⊥
-      none_ran v (inl h) = contains_none v h
-      none_ran v (inr h) = contains_none h.0 h.1
+      none_ran v (inl h) = Contains-none v h
+      none_ran v (inr h) = Contains-none h.0 h.1
 
   -- along every run
   pub run_sound : (n : ℕ) → IsSound p (run_of p start answers n)

@@ -4,6 +4,7 @@ use Rattle.std.specs.Prelude.{IfSome, if◌then◌else◌}
 use Rattle.std.specs.Option.{option_or}
 use Rattle.std.proofs.Math.Pow.{pow_mono}
 use Rattle.std.proofs.lemmas.Bool.Decides.{eqb_tells}
+use Rattle.std.proofs.lemmas.Option.{same_Some}
 use Rattle.b3_base.specs.Memory.{AreBytes}
 use Rattle.b3_base.specs.Observed.{Memory}
 use Rattle.b3_base.specs.declared.word.Width.{Width}
@@ -16,16 +17,13 @@ use Rattle.b3_sound.proofs.Results.{IsBelow, IsIn, limit_of, low_in, narrow_in}
 
 -- ---- one word more
 
-same_some : (a b : ℕ) → Some a ≡ Some b → a ≡ b
-same_some a b e = cc
-
 pub put_ranged : (p : Procedure) (f : ℕ → Option ℕ) (id new : ℕ) → IsIn (type_of p id) new → ((q word : ℕ) → f q ≡ Some word → IsIn (type_of p q) word)
     → (q word : ℕ) → (if nat_eq q id then Some new else f q) ≡ Some word → IsIn (type_of p q) word
 put_ranged p f id new small old q word =
     ⊎_elim
     (λ (yes : (nat_eq q id ≡ true) × (q ≡ id)). subst (λ b. (if b then Some new else f q) ≡ Some word → IsIn (type_of p q) word) (sym yes.0)
     (λ (e : Some new ≡ Some word). subst (λ (i : ℕ). IsIn (type_of p i) word) (sym yes.1)
-    (subst (λ (w : ℕ). IsIn (type_of p id) w) (same_some new word e) small)))
+    (subst (λ (w : ℕ). IsIn (type_of p id) w) (same_Some new word e) small)))
     (λ (no : (nat_eq q id ≡ false) × (q ≢ id)). subst (λ b. (if b then Some new else f q) ≡ Some word → IsIn (type_of p q) word) (sym no.0)
     (λ (e : f q ≡ Some word). old q word e))
     (eqb_tells q id)

@@ -3,6 +3,7 @@ use Rattle.std.proofs.Common.{◌≡◌, ◌≢◌, ℕ, ◌*◌, ◌^◌, ◌�
 use Rattle.std.specs.Prelude.{All, Contains}
 use Rattle.std.proofs.lemmas.Bool.{and_parts}
 use Rattle.std.proofs.lemmas.List.Elements.{All-contains, All-cons, All-nil, All-same}
+use Rattle.b3_base.proofs.Lists.{Contains-none, Contains-first, Contains-later, Contains-cases}
 use Rattle.b3_base.specs.Word.{bits}
 use Rattle.b3_ir.specs.Fits.{HasCases, HasTargets, IsArgument, IsBody, IsConstantBelow, IsOffset, IsSlot, IsTarget}
 use Rattle.b3_ir.specs.Table.{is_terminal, row_of}
@@ -20,7 +21,6 @@ use Rattle.b3_meaning.specs.Roles.{extent_bytes, role_of}
 use Rattle.b3_meaning.specs.declared.role.Extent.TheVariants.{Whole}
 use Rattle.b3_meaning.specs.declared.role.Role.{Role}
 use Rattle.b3_meaning.specs.declared.role.Role.TheVariants.{Skip, Constant, Argument, Frame, SlotAddress, Pure, SetPhi, GetPhi, Load, Store, Call, Patch, Check, CheckedResult, Jump, Branch, Switch, Return, Fail}
-use Rattle.b3_sound.proofs.Lists.{contains_none, contains_cases, contains_head, contains_tail}
 
 -- ---- terminals
 
@@ -183,11 +183,11 @@ taken_typed alike typed (This wanted ∷ rest) more (t ∷ ts) e taken =
     All-cons IsTyped t ts (like_typed t wanted taken.0 (worded wanted parts.0)) (taken_typed alike typed rest more ts parts.1 taken.1)
 
 contains_map : (f : ℕ → Ty) (ids : List ℕ) (i : ℕ) → Contains ids i → Contains (map f ids) (f i)
-contains_map f [] i has = absurd (contains_none i has)
+contains_map f [] i has = absurd (Contains-none i has)
 contains_map f (q ∷ ids) i has =
-    elim (contains_cases q ids i has) [
-      | inl e ↦ subst (λ (x : ℕ). Contains (f q ∷ map f ids) (f x)) e (contains_head (f q) (map f ids))
-      | inr more ↦ contains_tail (f q) (map f ids) (f i) (contains_map f ids i more)
+    elim (Contains-cases q ids i has) [
+      | inl e ↦ subst (λ (x : ℕ). Contains (f q ∷ map f ids) (f x)) e (Contains-first (f q) (map f ids))
+      | inr more ↦ Contains-later (f q) (map f ids) (f i) (contains_map f ids i more)
     ]
 
 pub child_typed : (o : Opcode) (ty : Ty) (f : ℕ → Ty) (ids : List ℕ) (i : ℕ) → AllowsTypes o ty (map f ids) → Contains ids i → f i ≢ Void

@@ -34,9 +34,6 @@ pub record HasRead (text : List (List ℕ)) (s : SoFar) (line : ℕ) (rest : Lis
   pub count : line ≡ length front + 1
   pub leads : led (Some first) front ≡ Some s
 
-pub has_begun : (text : List (List ℕ)) (s : SoFar) → s ≡ first → HasRead text s 1 text
-has_begun text s e = record { front = []; parts = refl; count = omega arith; leads = ap Some (sym e) }
-
 -- what lines lead to, behind some that are read
 behind : (s : SoFar) (front rest : List (List ℕ)) → led (Some first) front ≡ Some s → led (Some first) (front ++ rest) ≡ led (Some s) rest
 behind s front rest leads = led_append (Some first) front rest ∙ ap (λ (t : Option SoFar). led t rest) leads
@@ -124,9 +121,6 @@ bad_end text s line h none =
       before = subst (λ (x : List (List ℕ)). BeginsTrial x) (sym (taken text h.front [] (line - 1) h.parts (omega arith))) (begins s h.front h.leads);
       here = inr (omega arith, λ t. let e = t.1 in absurd cc);
     }
-
-pub read_whole : (text : List (List ℕ)) (s : SoFar) (line : ℕ) (t : Trial) → HasRead text s line [] → ended (Some s) ≡ Some t → spelled text ≡ Some t
-read_whole text s line t h e = whole text s line h ∙ e
 
 -- ---- there are no more lines than bytes
 

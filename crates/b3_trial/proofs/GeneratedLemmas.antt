@@ -67,11 +67,6 @@ pub value_same : (ty : Ty) (id : ℕ) (opcode : Opcode) (kind : Kind) (children 
     → children ≡ ids → ValueRow (record { id = id; ty = ty; kind = kind; children = children; body = body; line = 0 }) ≡ value_row ty id opcode ids body
 value_same ty id opcode kind children ids body e f = rw (e, f) refl
 
--- lines behind others
-pub more_text : (out a b : List ℕ) (x y : List Row) → a ≡ out ++ text_of x → b ≡ a ++ text_of y → b ≡ out ++ text_of (x ++ y)
-more_text out a b x y e f =
-    f ∙ ap (λ (t : List ℕ). t ++ text_of y) e ∙ append_assoc out (text_of x) (text_of y) ∙ ap (λ (t : List ℕ). out ++ t) (sym (text_append x y))
-
 -- a line more, where the lines that are left go on
 text_goes : (old new first : List ℕ) (row all : List Row) (rest : List Row) → all ≡ row ++ rest → new ≡ old ++ text_of row
     → old ++ text_of all ≡ first → new ++ text_of rest ≡ first
@@ -148,19 +143,6 @@ procedure_more old new first last state after p low e f g =
     ∙ ap (λ s. procedure_rows state p ++ procedures_from (last - (p + 1)) s (p + 1)) (sym e)) f g
 
 -- ---- a body that carries nothing fits
-
-pub plain_fits : (c : Carries) → FitsWord c Plain
-plain_fits carries.Nothing = tt
-plain_fits (carries.Number width) = tt
-plain_fits carries.Register = tt
-plain_fits carries.SlotNumber = tt
-plain_fits carries.Offset = tt
-plain_fits carries.PhiId = tt
-plain_fits carries.Site = tt
-plain_fits carries.Exit = tt
-plain_fits carries.OneSuccessor = tt
-plain_fits carries.TwoSuccessors = tt
-plain_fits carries.CaseSuccessors = tt
 
 -- ---- in parts
 

@@ -1,42 +1,17 @@
 -- What is printed of a memory.
-use Rattle.std.proofs.Common.{◌≡◌, ℕ, zero, suc, ◌+◌, ◌-◌, ◌%◌, ◌^◌, ◌<◌, ◌≤◌, true, not, List, [], ◌++◌, Option, Some, None, is_some, IfSome, refl, sym, ap, subst, ◌∙◌, add-zero, append_assoc, arith}
+use Rattle.std.proofs.Common.{◌≡◌, ℕ, zero, suc, ◌+◌, ◌-◌, ◌^◌, ◌<◌, ◌≤◌, true, not, List, [], ◌++◌, Option, Some, None, is_some, IfSome, refl, sym, ap, subst, ◌∙◌, add-zero, append_assoc, arith}
 use Rattle.std.proofs.lemmas.List.{append-nil}
-use Rattle.std.proofs.Math.Nat.{mod-eq_of_lt}
-use Rattle.b3_base.specs.Memory.{AreBytes, byte_address, read_word, with_byte_above}
+use Rattle.b3_base.proofs.OneByte.{byte_alone}
+use Rattle.b3_base.specs.Memory.{AreBytes, byte_address, read_word}
 use Rattle.b3_base.specs.Observed.{Memory}
 use Rattle.b3_trial.specs.Shown.{byte_at, memory_below}
 
 -- ---- one byte
 
-lowest : (o : Option ℕ) → with_byte_above 0 (Some 0) o ≡ o
-lowest None = refl
-lowest (Some byte) = ap Some (omega arith)
-
-read_first : (m : Memory) (address : ℕ) → read_word m address 1 ≡ m (byte_address address 0)
-unfolding read_word
-read_first m address = lowest (m (byte_address address 0))
-
-pub read_one : (m : Memory) (address : ℕ) → address < 2 ^ 64 → read_word m address 1 ≡ m address
-read_one m address below =
-    let same : byte_address address 0 ≡ address = ap (λ n. n % 2 ^ 64) (add-zero address) ∙ mod-eq_of_lt below in
-    read_first m address ∙ ap m same
-
 pub is_byte : (m : Memory) (address : ℕ) (o : Option ℕ) → AreBytes m → o ≡ m address → IfSome o (λ byte. byte < 256)
 is_byte m address None are e = tt
 is_byte m address (Some byte) are e =
     let both = subst (λ (o : Option ℕ). IfSome o (λ b. (address < 2 ^ 64) × (b < 256))) (sym e) (are address) in both.1
-
--- an address past the last isn't mapped
-past_end : (m : Memory) (address : ℕ) (o : Option ℕ) → AreBytes m → 2 ^ 64 ≤ address → m address ≡ o → m address ≡ None
-past_end m address None are past e = e
-past_end m address (Some byte) are past e =
-    let both = subst (λ (o : Option ℕ). IfSome o (λ b. (address < 2 ^ 64) × (b < 256))) e (are address) in
-    absurd (omega (arith, both.0))
-
-pub none_behind : (m : Memory) (address : ℕ) → AreBytes m → address ≡ 2 ^ 64 - 1 → not (is_some (m (suc address))) ≡ true
-none_behind m address are last =
-    let e : m (suc address) ≡ None = past_end m (suc address) (m (suc address)) are (omega arith) refl in
-    ap (λ (o : Option ℕ). not (is_some o)) e
 
 -- ---- all bytes
 

@@ -3,6 +3,7 @@ use Rattle.std.proofs.Common.{◌≡◌, ℕ, ◌+◌, ◌<◌, ◌≤◌, List,
 use Rattle.std.specs.Prelude.{sum_by}
 use Rattle.std.specs.List.{flat_map}
 use Rattle.std.proofs.lemmas.List.Sums.{sum_by-append, sum_by-cons}
+use Rattle.b3_base.proofs.Lists.{All-from_places}
 use Rattle.b3_ir.specs.Procedure.{Block, Kept, Procedure, procedures, total}
 use Rattle.b3_ir.specs.declared.procedure.SlotLine.{SlotLine}
 use Rattle.b3_ir.specs.declared.value.Body.{Body}
@@ -15,7 +16,7 @@ use Rattle.b3_module.proofs.LimitSums.{count_of, ones, sums_flat, within}
 use Rattle.a64_run.specs.Agrees.{case_count, child_count}
 use Rattle.air_select.specs.Contract.{IsWithinLimits, procedure_at}
 use Rattle.a64_object.specs.Taken.{AreWithinLimits, HasFewSlots, bytes_in}
-use Rattle.a64_object.proofs.Lists.{all_of, one_in}
+use Rattle.a64_object.proofs.Lists.{one_in}
 use Rattle.a64_object.proofs.Making.{procedure_there}
 
 -- ---- the parts of a block, and of a procedure
@@ -108,7 +109,7 @@ module _ (ps : List Procedure) (keeps : KeepsLimits ps) where
         let few = in_text limits.Children (λ line past. keeps limits.Children line past) in
         let sums = sums_flat (count_of limits.Children) parts_of child_count (child_counted limits.Children (λ n. refl)) ps in
         omega arith;
-    each = all_of IsWithinLimits ps (λ k p there. record {
+    each = All-from_places IsWithinLimits ps (λ k p there. record {
       values =
           let few = in_each limits.ProcedureValues p (λ line past. keeps limits.ProcedureValues line (k, p, there, past)) in
           let sums = total_counted limits.ProcedureValues (λ n. refl) p in
@@ -122,7 +123,7 @@ module _ (ps : List Procedure) (keeps : KeepsLimits ps) where
           let sums = child_counted limits.ProcedureChildren (λ n. refl) p in
           omega arith;
     });
-    slots = all_of HasFewSlots ps (λ k p there. record {
+    slots = All-from_places HasFewSlots ps (λ k p there. record {
       slots =
           let few = in_each limits.Slots p (λ line past. keeps limits.Slots line (k, p, there, past)) in
           let count = slots_counted p.slots in

@@ -3,12 +3,12 @@ use Rattle.std.specs.Prelude.{Contains, slice_set}
 use Rattle.std.proofs.Math.Seq.{take-length}
 use Rattle.std.proofs.lemmas.Bool.{false≢true}
 use Rattle.std.proofs.lemmas.List.Elements.{Contains-append_left, Contains-get_or}
+use Rattle.b3_base.proofs.Booleans.{same_tests}
 use Rattle.air_graph.specs.Walk.{in_list}
 use Rattle.air_graph.proofs.Adding.{listed}
 use Rattle.air_colour.specs.Interference.{one}
 use Rattle.air_colour.specs.Kept.{has}
 use Rattle.air_colour.specs.Worklist.{degree_in}
-use Rattle.air_colour.proofs.Merging.{same_tests}
 use Rattle.air_colour.proofs.Working.{left_fresh, left_only, lower_step, now_same, pushed_fresh, pushed_only}
 use Rattle.air_colour.proofs.worklist.lower.Goals as goal
 use Rattle.air_colour.proofs.worklist.lower.Goals.{then-opens+in_ok-push, else-opens}

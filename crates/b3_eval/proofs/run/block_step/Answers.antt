@@ -1,9 +1,10 @@
 use Rattle.std.proofs.Common.{ℕ, List, ◌<◌, length, Option, sym, ap, subst, ◌∙◌}
+use Rattle.b3_base.proofs.Lists.{head_and_rest, shorter}
 use Rattle.b3_base.specs.Observed.{start_of}
 use Rattle.b3_ir.specs.Procedure.{values_from, values_of}
 use Rattle.b3_ir.specs.declared.value.Value.{Value}
 use Rattle.b3_meaning.specs.Run.{run_values}
-use Rattle.b3_eval.proofs.Walks.{head_and_rest, shorter, stepped_lost, stepped_next, stepped_over, stepped_to}
+use Rattle.b3_eval.proofs.Walks.{stepped_lost, stepped_next, stepped_over, stepped_to}
 use Rattle.b3_eval.specs.Lookup.{type_in}
 use Rattle.b3_eval.specs.Stands.{answers_from, state_of}
 use Rattle.b3_eval.proofs.run.block_step.Goals as goal

@@ -1,9 +1,9 @@
 use Rattle.std.proofs.Common.{◌≡◌, ◌-◌, ◌<◌, map, sym, refl, ap, ◌∙◌, arith}
 use Rattle.b3_base.specs.Observed.{answer_of, start_of}
 use Rattle.b3_base.specs.Run.{iterate}
-use Rattle.b3_base.proofs.Run.{iterate-fixed, iterate-zero}
+use Rattle.b3_base.proofs.Run.{iterate-fixed, iterate-zero, iterate-one_less}
 use Rattle.b3_meaning.specs.Run.{At, Lost, Over, block_step, observe, seen_as}
-use Rattle.b3_eval.proofs.Walks.{led_lost, led_over, led_to, one_less}
+use Rattle.b3_eval.proofs.Walks.{led_lost, led_over, led_to}
 use Rattle.b3_eval.specs.Lookup.{type_in}
 use Rattle.b3_eval.specs.Stands.{answers_from, state_of}
 use Rattle.b3_eval.proofs.run.eval.Goals as goal
@@ -20,7 +20,7 @@ loop-left-preserved c =
     let some : 0 < c.loop-left.left = omega arith in
     record {
       types = c.loop-left.invariant.types;
-      same = c.loop-left.invariant.same ∙ one_less f c.loop-left.left _ some
+      same = c.loop-left.invariant.same ∙ iterate-one_less f c.loop-left.left _ some
           ∙ ap (iterate f (c.loop-left.left - 1)) (led_to c.args.p.now.procedure (start_of c.args.start.now) (type_in c.in_ok-types.types)
           c.loop-left.block c.in-To.next _ _ _ c.loop-left.invariant.types c.in-To.is c.in_ok-next.ensures);
     }
@@ -31,7 +31,7 @@ returns-in-Over c =
     let some : 0 < c.loop-left.left = omega arith in
     let seen = seen_as (state_of (answers_from c.args.answers.now c.block_step.new.taken) c.block_step.new.st) c.in-Over.status in
     c.seen_as.ensures (answers_from c.args.answers.now c.block_step.new.taken)
-    ∙ sym (ap observe (c.loop-left.invariant.same ∙ one_less f c.loop-left.left _ some
+    ∙ sym (ap observe (c.loop-left.invariant.same ∙ iterate-one_less f c.loop-left.left _ some
     ∙ ap (iterate f (c.loop-left.left - 1)) (led_over c.args.p.now.procedure (start_of c.args.start.now) (type_in c.in_ok-types.types) c.loop-left.block _
     _ _ c.in-Over.status c.loop-left.invariant.types c.in-Over.is c.in_ok-next.ensures)
     ∙ iterate-fixed f (c.loop-left.left - 1) (Over seen) refl))
@@ -43,7 +43,7 @@ returns-in-Lost c =
     let lost = led_lost c.args.p.now.procedure (start_of c.args.start.now) (type_in c.in_ok-types.types) c.loop-left.block _ _ _
     c.loop-left.invariant.types c.in-Lost.is c.in_ok-next.ensures in
     c.undefined.ensures
-    ∙ sym (ap observe (c.loop-left.invariant.same ∙ one_less f c.loop-left.left _ some
+    ∙ sym (ap observe (c.loop-left.invariant.same ∙ iterate-one_less f c.loop-left.left _ some
     ∙ ap (iterate f (c.loop-left.left - 1)) lost.1
     ∙ iterate-fixed f (c.loop-left.left - 1) (Lost lost.0) refl))
 

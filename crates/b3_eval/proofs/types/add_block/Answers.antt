@@ -1,9 +1,9 @@
 use Rattle.std.proofs.Common.{ℕ, ◌<◌, length, Option, sym, ap, subst, ◌∙◌}
 use Rattle.std.specs.BTreeMap as tree
 use Rattle.std.specs.Ordering.{nat_cmp}
+use Rattle.b3_base.proofs.Lists.{head_and_rest, shorter}
 use Rattle.b3_ir.specs.Procedure.{values_from}
 use Rattle.b3_eval.proofs.Typed.{one_more_type}
-use Rattle.b3_eval.proofs.Walks.{head_and_rest, shorter}
 use Rattle.b3_eval.specs.Lookup.{with_types}
 use Rattle.b3_eval.proofs.types.add_block.Goals as goal
 

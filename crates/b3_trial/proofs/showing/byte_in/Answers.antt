@@ -1,6 +1,7 @@
 use Rattle.std.proofs.Common.{◌∙◌}
 use Rattle.std.specs.FinMap as map
-use Rattle.b3_trial.proofs.ShownLemmas.{is_byte, read_one}
+use Rattle.b3_base.proofs.OneByte.{read_one}
+use Rattle.b3_trial.proofs.ShownLemmas.{is_byte}
 use Rattle.b3_trial.proofs.showing.byte_in.Goals as goal
 
 pub returns-clause-is : goal.returns-clause-is
